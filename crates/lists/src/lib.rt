@@ -57,6 +57,13 @@ impl<T> Items<T> {
         }
     }
 
+    /// The list of a vector's items.
+    pub fn from_vec(items: Vec<T>) -> Items<T>
+        ensures { result ≡ items.items }
+    {
+        Items { kept: items }
+    }
+
     /// The items, from place 0 on.
     pub fn as_slice(&self) -> &[T]
         ensures { result.now ≡ self.now }
@@ -97,6 +104,8 @@ mod tests {
         word.push('a')?;
         word.push('\u{2019}')?;
         let made = word.copy(rt.alloc())?;
+        let same = Items::from_vec(['a', '\u{2019}'].to_vec(rt.alloc())?);
+        assert_eq!(rt; same.as_slice(), made.as_slice());
         assert_eq!(rt; made.as_slice(), ['a', '\u{2019}'].as_slice());
         Ok(())
     }
