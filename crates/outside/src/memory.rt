@@ -1,0 +1,171 @@
+//! Objects in memory of which chosen calls fail. They tell their bytes.
+ghost use Rattle.std.specs.Prelude.{◌≡◌, [], take, Some, IfSome};
+ghost use Rattle.outside.specs.Memory.{file_of};
+
+use crate::faults::{Failed, FileFault};
+use crate::folders::Files;
+use crate::kept::Kept;
+use crate::lookup::load_first;
+use crate::plans::Plan;
+use crate::sinks::Sink;
+use std::alloc::Global;
+
+/// A sink in memory. A put that finds no memory for what it is to take takes nothing and answers
+/// Ok, one that was to fail too; from then on the sink tells nothing.
+#[derive(Drop)]
+pub struct MemSink {
+    kept: Kept,
+    plan: Plan,
+    taken: usize,
+}
+
+impl MemSink {
+    /// An empty sink. `failing` lists the numbers of the puts that are to fail, counted from 1; such
+    /// a put takes the first `taken` bytes of its piece, or the whole piece where it is shorter.
+    pub fn new(alloc: Global, failing: Vec<u64>, taken: usize) -> MemSink
+        ensures empty { ⟦<MemSink as Sink>⟧.written result ≡ Some [] }
+        ensures faultless { ⟦<MemSink as Sink>⟧.faults result ≡ 0 }
+    {
+        MemSink {
+            kept: Kept::new(alloc),
+            plan: Plan::new(failing),
+            taken,
+        }
+    }
+
+    /// What was written, as far as there was memory for it.
+    pub fn written(&self) -> &[u8]
+        ensures { IfSome (⟦<MemSink as Sink>⟧.written self.now) (λ bytes. result.now ≡ bytes) }
+    {
+        self.kept.as_slice()
+    }
+}
+
+impl Sink for MemSink {
+    ghost written = { λ sink. sink.kept };
+
+    ghost faults = { λ sink. sink.plan.faults };
+
+    fn put(&mut self, bytes: &[u8]) -> Result<(), Failed> {
+        if self.plan.fails_next() {
+            let front = front_of(bytes, self.taken);
+            return if self.kept.append(front) {
+                Err(Failed)
+            } else {
+                Ok(())
+            };
+        }
+        self.kept.append(bytes);
+        Ok(())
+    }
+}
+
+fn front_of(bytes: &[u8], count: usize) -> &[u8]
+    ensures { result.now ≡ take count bytes.now }
+{
+    if count < bytes.len() {
+        &bytes[..count]
+    } else {
+        bytes
+    }
+}
+
+/// Files in memory. Of two with one name the first counts.
+#[derive(Drop)]
+pub struct MemFiles {
+    files: Vec<(String, Vec<u8>)>,
+    plan: Plan,
+}
+
+impl MemFiles {
+    /// `failing` lists the numbers of the loads that are to fail, counted from 1.
+    pub fn new(files: Vec<(String, Vec<u8>)>, failing: Vec<u64>) -> MemFiles
+        ensures told { ⟦<MemFiles as Files>⟧.told result ≡ Some (file_of files.items) }
+        ensures faultless { ⟦<MemFiles as Files>⟧.faults result ≡ 0 }
+    {
+        MemFiles {
+            files,
+            plan: Plan::new(failing),
+        }
+    }
+}
+
+impl Files for MemFiles {
+    ghost told = { λ memory. Some (file_of memory.files.items) };
+
+    ghost faults = { λ memory. memory.plan.faults };
+
+    fn load(
+        &mut self,
+        alloc: Global,
+        name: &str,
+        limit: u64,
+        into: &mut Vec<u8>,
+    ) -> Result<(), FileFault> {
+        if self.plan.fails_next() {
+            return Err(FileFault::Failed);
+        }
+        load_first(alloc, self.files.as_slice(), name, limit, into)
+    }
+}
+
+#[cfg(test)]
+mod tests {
+    use super::*;
+    use std::alloc::AllocError;
+    use std::test::Fail;
+
+    fn file(alloc: Global, name: &str, bytes: &[u8]) -> Result<(String, Vec<u8>), AllocError> {
+        Ok((
+            String::from_str(alloc, name)?,
+            Vec::from_slice(alloc, bytes)?,
+        ))
+    }
+
+    fn movable<T: Send>(value: T) -> T {
+        value
+    }
+
+    #[test]
+    fn a_failing_put_takes_the_front(rt: HostRuntime) -> Result<(), Fail> {
+        for (taken, want) in [(0, "abfg"), (2, "abcdfg"), (9, "abcdefg")] {
+            let failing = vec![in rt.alloc(); 2u64]?;
+            let mut sink = movable(MemSink::new(rt.alloc(), failing, taken));
+            assert_eq!(rt; sink.put(b"ab"), Ok(()));
+            assert_eq!(rt; sink.put(b"cde"), Err(Failed));
+            assert_eq!(rt; sink.put(b"fg"), Ok(()));
+            assert_eq!(rt; sink.written(), want.as_bytes(), "taken {taken}");
+        }
+        Ok(())
+    }
+
+    // The second and the sixth load fail, whatever they are asked for.
+    #[test]
+    fn loads_the_first_of_a_name(rt: HostRuntime) -> Result<(), Fail> {
+        let alloc = rt.alloc();
+        let files = vec![in alloc;
+            file(alloc, "a", b"one")?,
+            file(alloc, "b", b"")?,
+            file(alloc, "a", b"three")?,
+        ]?;
+        let mut folder = movable(MemFiles::new(files, vec![in alloc; 6u64, 2]?));
+        let mut into = Vec::from_slice(alloc, b"old")?;
+        for (name, limit, want, holds) in [
+            ("a", 2, Err(FileFault::TooLong), "old"),
+            ("a", 3, Err(FileFault::Failed), "old"),
+            ("a", 3, Ok(()), "one"),
+            ("b", 0, Ok(()), ""),
+            ("c", 9, Err(FileFault::Missing), ""),
+            ("c", 9, Err(FileFault::Failed), ""),
+            ("a", 9, Ok(()), "one"),
+        ] {
+            assert_eq!(rt;
+                folder.load(alloc, name, limit, &mut into),
+                want,
+                "{name} at {limit}"
+            );
+            assert_eq!(rt; into.as_slice(), holds.as_bytes(), "{name} at {limit}");
+        }
+        Ok(())
+    }
+}

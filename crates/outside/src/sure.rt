@@ -1,0 +1,151 @@
+//! Objects in memory that never fail. They tell their bytes.
+ghost use Rattle.std.specs.Prelude.{◌≡◌, ◌≤◌, [], drop, length, vec_len, Some, IfSome};
+ghost use Rattle.outside.specs.Memory.{file_of};
+
+use crate::faults::{Failed, FileFault};
+use crate::folders::Files;
+use crate::kept::Kept;
+use crate::lookup::load_first;
+use crate::sinks::Sink;
+use crate::sources::Source;
+use std::alloc::Global;
+
+/// A source in memory.
+#[derive(Drop)]
+pub struct SureSource {
+    bytes: Vec<u8>,
+    place: usize,
+    ghost inside: { place ≤ vec_len bytes },
+}
+
+impl SureSource {
+    /// A source of these bytes.
+    pub fn new(bytes: Vec<u8>) -> SureSource
+        ensures { ⟦<SureSource as Source>⟧.left result ≡ Some bytes.items }
+    {
+        SureSource { bytes, place: 0 }
+    }
+}
+
+impl Source for SureSource {
+    ghost left = { λ source. Some (drop source.place source.bytes.items) };
+
+    ghost faults = { λ _. 0 };
+
+    fn read(&mut self, into: &mut [u8]) -> Result<usize, Failed> {
+        let rest = &self.bytes[self.place..];
+        let count = into.len().min(rest.len());
+        into[..count].copy_from_slice(&rest[..count]);
+        self.place += count;
+        Ok(count)
+    }
+}
+
+/// A sink in memory. A put that finds no memory for its piece takes nothing and answers Ok; from
+/// then on the sink tells nothing.
+#[derive(Drop)]
+pub struct SureSink {
+    kept: Kept,
+}
+
+impl SureSink {
+    /// An empty sink.
+    pub fn new(alloc: Global) -> SureSink
+        ensures { ⟦<SureSink as Sink>⟧.written result ≡ Some [] }
+    {
+        SureSink {
+            kept: Kept::new(alloc),
+        }
+    }
+
+    /// What was written, as far as there was memory for it.
+    pub fn written(&self) -> &[u8]
+        ensures { IfSome (⟦<SureSink as Sink>⟧.written self.now) (λ bytes. result.now ≡ bytes) }
+    {
+        self.kept.as_slice()
+    }
+}
+
+impl Sink for SureSink {
+    ghost written = { λ sink. sink.kept };
+
+    ghost faults = { λ _. 0 };
+
+    fn put(&mut self, bytes: &[u8]) -> Result<(), Failed> {
+        self.kept.append(bytes);
+        Ok(())
+    }
+}
+
+/// Files in memory. Of two with one name the first counts.
+#[derive(Drop)]
+pub struct SureFiles {
+    files: Vec<(String, Vec<u8>)>,
+}
+
+impl SureFiles {
+    /// A folder of these files.
+    pub fn new(files: Vec<(String, Vec<u8>)>) -> SureFiles
+        ensures { ⟦<SureFiles as Files>⟧.told result ≡ Some (file_of files.items) }
+    {
+        SureFiles { files }
+    }
+}
+
+impl Files for SureFiles {
+    ghost told = { λ memory. Some (file_of memory.files.items) };
+
+    ghost faults = { λ _. 0 };
+
+    fn load(
+        &mut self,
+        alloc: Global,
+        name: &str,
+        limit: u64,
+        into: &mut Vec<u8>,
+    ) -> Result<(), FileFault> {
+        load_first(alloc, self.files.as_slice(), name, limit, into)
+    }
+}
+
+#[cfg(test)]
+mod tests {
+    use super::*;
+    use std::test::Fail;
+
+    #[test]
+    fn reads_in_pieces(rt: HostRuntime) -> Result<(), Fail> {
+        let mut source = SureSource::new(Vec::from_slice(rt.alloc(), b"abcde")?);
+        let mut into = [0u8; 2];
+        for (count, want) in [(2, "ab"), (2, "cd"), (1, "ed"), (0, "ed")] {
+            assert_eq!(rt; source.read(&mut into), Ok(count), "{want}");
+            assert_eq!(rt; into.as_slice(), want.as_bytes());
+        }
+        Ok(())
+    }
+
+    #[test]
+    fn keeps_what_is_put(rt: HostRuntime) {
+        let mut sink = SureSink::new(rt.alloc());
+        for piece in ["ab", "", "c"] {
+            assert_eq!(rt; sink.put(piece.as_bytes()), Ok(()));
+        }
+        assert_eq!(rt; sink.written(), b"abc".as_slice());
+    }
+
+    #[test]
+    fn loads_by_name(rt: HostRuntime) -> Result<(), Fail> {
+        let alloc = rt.alloc();
+        let name = String::from_str(alloc, "a")?;
+        let files = vec![in alloc; (name, Vec::from_slice(alloc, b"one")?)]?;
+        let mut folder = SureFiles::new(files);
+        let mut into = Vec::new(alloc);
+        assert_eq!(rt;
+            folder.load(alloc, "b", 9, &mut into),
+            Err(FileFault::Missing)
+        );
+        assert_eq!(rt; folder.load(alloc, "a", 3, &mut into), Ok(()));
+        assert_eq!(rt; into.as_slice(), b"one".as_slice());
+        Ok(())
+    }
+}
