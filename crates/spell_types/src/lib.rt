@@ -1,0 +1,40 @@
+//! The types of a dictionary. Their meaning stands in `specs/`, one module for each idea.
+#![tactic(auto)]
+
+use lists::{Copied, Items, NoMemory};
+use std::alloc::Global;
+
+/// A text by its characters.
+pub type Chars = Items<char>;
+
+/// The entries of a dictionary in the order of its file. Several may have one word.
+pub type Entries = Items<Entry>;
+
+/// One word of the .dic file.
+#[derive(Debug, Drop)]
+pub struct Entry {
+    pub word: Chars,
+}
+
+/// What the .aff file says.
+#[derive(Debug, Drop)]
+pub struct Affixes {
+    /// The characters that are word characters beside letters and marks: the option WORDCHARS of
+    /// hunspell(5).
+    pub wordchars: Chars,
+}
+
+/// A dictionary: what its two files say.
+#[derive(Debug, Drop)]
+pub struct Lexicon {
+    pub affixes: Affixes,
+    pub entries: Entries,
+}
+
+impl Copied for Entry {
+    fn copy(&self, alloc: Global) -> Result<Entry, NoMemory> {
+        Ok(Entry {
+            word: self.word.copy(alloc)?,
+        })
+    }
+}
