@@ -4,6 +4,10 @@
 use lists::{Copied, Items, NoMemory};
 use std::alloc::Global;
 
+mod flags;
+
+pub use flags::{Flag, FlagKind, FlagSet, has, sets_have_their_flags};
+
 /// A text by its characters.
 pub type Chars = Items<char>;
 
