@@ -1,0 +1,2 @@
+pub mod FlagTexts
+pub use Rattle.spell_types.specs.Flags
