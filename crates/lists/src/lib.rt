@@ -4,6 +4,7 @@
 ghost use Rattle.std.specs.Prelude.{◌≡◌, [], ◌∷◌, ◌++◌, List, IfOk, OnOk, OnErr};
 
 use std::alloc::{AllocError, AllocFailed, Global};
+use std::default::MadeWith;
 use std::marker::Model;
 
 /// Memory for the answer could not be had. No other cause is ever merged with this one.
@@ -69,6 +70,15 @@ impl<T> Items<T> {
         ensures { result.now ≡ self.now }
     {
         self.kept.as_slice()
+    }
+}
+
+/// The empty list, for a collection that fills its unused places.
+impl<T> MadeWith<Global> for Items<T> {
+    ghost is_made_with = { λ made. made ≡ [] };
+
+    fn made_with(alloc: Global) -> Items<T> {
+        Items::new(alloc)
     }
 }
 

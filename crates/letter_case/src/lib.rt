@@ -1,0 +1,240 @@
+//! Upper and lower case, and the spellings that a written word stands for.
+#![tactic(auto)]
+
+ghost use Rattle.std.specs.Prelude.{◌≡◌, ℕ, ◌↔◌, List, IsTrue, slice_get, Some, AllPairs, ◌≢◌, fold, IfOk, OnOk};
+ghost use Rattle.spell_types.specs.Cases.{is_upper, is_lower, low, begins_upper, has_lower, first_lowered, all_lowered, rest_lowered, is_among, spellings_of_capital, spellings_of_capitals, covered_by, Covers};
+ghost use Rattle.letter_case.specs.Found.{with_word};
+
+use lists::{Items, NoMemory};
+use smallvec::SmallVec;
+use spell_types::Chars;
+use std::alloc::Global;
+use unicode::{case, properties};
+
+/// Whether a character is upper case.
+#[tactic(auto, unfolding(spell_types::specs::Cases::is_upper))]
+pub fn is_upper(c: char) -> bool
+    ensures { result ≡ is_upper c }
+{
+    properties::is_uppercase(c)
+}
+
+/// Whether a character is lower case.
+#[tactic(auto, unfolding(spell_types::specs::Cases::is_lower))]
+pub fn is_lower(c: char) -> bool
+    ensures { result ≡ is_lower c }
+{
+    properties::is_lowercase(c)
+}
+
+/// An upper-case character lowered; any other character as it is.
+#[tactic(auto, unfolding(spell_types::specs::Cases::low))]
+pub fn low(c: char) -> char
+    ensures { result ≡ low c }
+{
+    if is_upper(c) { case::simple_fold(c) } else { c }
+}
+
+/// The words that a written word covers: the written one first, and none twice.
+pub fn covered(alloc: Global, word: &[char]) -> Result<SmallVec<Chars, 4>, NoMemory>
+    ensures { IfOk result (λ found. found.items ≡ covered_by word.now) }
+{
+    let mut found = SmallVec::new(alloc);
+    add(&mut found, copy_of(alloc, word)?)?;
+    add_of_capital(alloc, word, &mut found)?;
+    add_of_capitals(alloc, word, &mut found)?;
+    Ok(found)
+}
+
+/// The words that a written word covers are those that the rule names, the written one first, and no two of
+/// them are the same.
+pub fn covered_words_are()
+    ensures members { (written word : List ℕ) →
+        IsTrue (is_among (covered_by written) word) ↔ Covers written word }
+    ensures first { (written : List ℕ) → slice_get (covered_by written) 0 ≡ Some written }
+    ensures once { (written : List ℕ) → AllPairs (λ one other. one ≢ other) (covered_by written) }
+{}
+
+/// Adds what a word that begins in upper case stands for.
+fn add_of_capital(
+    alloc: Global,
+    word: &[char],
+    found: &mut SmallVec<Chars, 4>,
+) -> Result<(), NoMemory>
+    ensures { OnOk result (found.new.items
+        ≡ fold with_word found.old.items (spellings_of_capital word.now)) }
+{
+    if begins_upper(word) {
+        add(found, first_lowered(alloc, word)?)?;
+    }
+    Ok(())
+}
+
+/// Adds what a word without lower-case characters stands for.
+fn add_of_capitals(
+    alloc: Global,
+    word: &[char],
+    found: &mut SmallVec<Chars, 4>,
+) -> Result<(), NoMemory>
+    ensures { OnOk result (found.new.items
+        ≡ fold with_word found.old.items (spellings_of_capitals word.now)) }
+{
+    if !has_lower(word) {
+        add(found, all_lowered(alloc, word)?)?;
+        add(found, rest_lowered(alloc, word)?)?;
+    }
+    Ok(())
+}
+
+/// Adds a word at the end, unless it is there already.
+fn add(found: &mut SmallVec<Chars, 4>, word: Chars) -> Result<(), NoMemory>
+    ensures { OnOk result (found.new.items ≡ with_word found.old.items word) }
+{
+    if !is_among(found.as_slice(), word.as_slice()) {
+        found.push(word)?;
+    }
+    Ok(())
+}
+
+/// Whether one of the words is this word.
+fn is_among(words: &[Chars], word: &[char]) -> bool
+    ensures { result ≡ is_among words.now word.now }
+{
+    words.iter().any(|other| other.as_slice() == word)
+}
+
+fn begins_upper(word: &[char]) -> bool
+    ensures { result ≡ begins_upper word.now }
+{
+    match word {
+        [first, ..] => is_upper(*first),
+        [] => false,
+    }
+}
+
+fn has_lower(word: &[char]) -> bool
+    ensures { result ≡ has_lower word.now }
+{
+    word.iter().any(|c| is_lower(*c))
+}
+
+fn copy_of(alloc: Global, word: &[char]) -> Result<Chars, NoMemory>
+    ensures { IfOk result (λ made. made ≡ word.now) }
+{
+    Ok(Items::from_vec(word.to_vec(alloc)?))
+}
+
+fn first_lowered(alloc: Global, word: &[char]) -> Result<Chars, NoMemory>
+    ensures { IfOk result (λ made. made ≡ first_lowered word.now) }
+{
+    let mut made = Items::new(alloc);
+    if let [first, rest @ ..] = word {
+        made.push(low(*first))?;
+        for c in rest {
+            made.push(*c)?;
+        }
+    }
+    Ok(made)
+}
+
+fn all_lowered(alloc: Global, word: &[char]) -> Result<Chars, NoMemory>
+    ensures { IfOk result (λ made. made ≡ all_lowered word.now) }
+{
+    let made = word.iter().map(|c| low(*c)).collect(alloc)?;
+    Ok(Items::from_vec(made))
+}
+
+fn rest_lowered(alloc: Global, word: &[char]) -> Result<Chars, NoMemory>
+    ensures { IfOk result (λ made. made ≡ rest_lowered word.now) }
+{
+    let mut made = Items::new(alloc);
+    if let [first, rest @ ..] = word {
+        made.push(*first)?;
+        for c in rest {
+            made.push(low(*c))?;
+        }
+    }
+    Ok(made)
+}
+
+#[cfg(test)]
+mod tests {
+    use super::*;
+    use std::test::Fail;
+
+    /// The words, with a slash behind each.
+    fn shown(alloc: Global, words: &[Chars]) -> Result<String, Fail> {
+        let mut text = String::new(alloc);
+        for word in words {
+            for c in word.as_slice() {
+                text.push(*c)?;
+            }
+            text.push('/')?;
+        }
+        Ok(text)
+    }
+
+    #[test]
+    fn lowers_upper_case_alone(rt: HostRuntime) {
+        let rows = [
+            ('A', 'a', true, false),
+            ('a', 'a', false, true),
+            ('1', '1', false, false),
+            // a title case letter, although it has a folding
+            ('\u{1C5}', '\u{1C5}', false, false),
+            // its folding is two characters, so it has no simple one
+            ('\u{130}', '\u{130}', true, false),
+            ('\u{1E9E}', '\u{DF}', true, false),
+            // the sign of the kelvin
+            ('\u{212A}', 'k', true, false),
+            // Cherokee folds upwards
+            ('\u{13A0}', '\u{13A0}', true, false),
+            ('\u{AB70}', '\u{AB70}', false, true),
+            ('\u{10400}', '\u{10428}', true, false),
+        ];
+        for (c, want, upper, lower) in rows {
+            assert_eq!(rt; low(c), want, "{c}");
+            assert_eq!(rt; is_upper(c), upper, "{c}");
+            assert_eq!(rt; is_lower(c), lower, "{c}");
+        }
+    }
+
+    #[test]
+    fn covers_by_the_rule(rt: HostRuntime) -> Result<(), Fail> {
+        let rows = [
+            ("", "/"),
+            ("tea", "tea/"),
+            ("Tea", "Tea/tea/"),
+            ("TEA", "TEA/tEA/tea/Tea/"),
+            ("tEA", "tEA/"),
+            ("McCoy", "McCoy/mcCoy/"),
+            ("I", "I/i/"),
+            ("A-1", "A-1/a-1/"),
+            ("42", "42/"),
+            ("4X", "4X/4x/"),
+            ("\u{1C5}", "\u{1C5}/"),
+            ("\u{1C5}A", "\u{1C5}A/\u{1C5}a/"),
+            ("\u{1C5}a", "\u{1C5}a/"),
+            ("\u{130}", "\u{130}/"),
+            ("\u{130}A", "\u{130}A/\u{130}a/"),
+            (
+                "GRO\u{1E9E}",
+                "GRO\u{1E9E}/gRO\u{1E9E}/gro\u{DF}/Gro\u{DF}/",
+            ),
+            ("\u{212A}", "\u{212A}/k/"),
+            ("\u{13A0}\u{13A0}", "\u{13A0}\u{13A0}/"),
+            ("\u{13A0}\u{AB70}", "\u{13A0}\u{AB70}/"),
+            ("\u{AB70}", "\u{AB70}/"),
+            (
+                "\u{10400}\u{10400}",
+                "\u{10400}\u{10400}/\u{10428}\u{10400}/\u{10428}\u{10428}/\u{10400}\u{10428}/",
+            ),
+        ];
+        for (word, want) in rows {
+            let characters: Vec<char> = word.chars().collect(rt.alloc())?;
+            let found = covered(rt.alloc(), &characters)?;
+            assert_eq!(rt; shown(rt.alloc(), found.as_slice())?.as_str(), want);
+        }
+        Ok(())
+    }
+}

@@ -1,0 +1,75 @@
+-- Upper and lower case, and the spellings of a dictionary that a written word stands for.
+use Rattle.std.specs.Prelude.{◌≡◌, ℕ, Bool, false, not, List, [], ◌∷◌, ◌++◌, map, filter, nat_eq, IsTrue, ◌⊎◌, if◌then◌else◌}
+use Rattle.std.specs.List.{list_any}
+use Rattle.std.specs.Cmp.Lexicographic.{pointwise}
+use Rattle.unicode.specs.Binary.{is_uppercase, is_lowercase}
+use Rattle.unicode.specs.CaseFolding.{simple_fold}
+
+-- an upper-case character: one with Unicode's property Uppercase
+unfoldable pub is_upper : ℕ → Bool
+is_upper c = is_uppercase c
+
+-- a lower-case character: one with Unicode's property Lowercase
+unfoldable pub is_lower : ℕ → Bool
+is_lower c = is_lowercase c
+
+-- an upper-case character lowered is its simple case folding; any other character stays
+unfoldable pub low : ℕ → ℕ
+low c = if is_upper c then simple_fold c else c
+
+-- whether the word's first character is upper case
+abbrev pub begins_upper : List ℕ → Bool
+begins_upper [] = false
+begins_upper (c ∷ rest) = is_upper c
+
+-- whether the word holds a lower-case character
+abbrev pub has_lower : List ℕ → Bool
+has_lower word = list_any is_lower word
+
+-- the word with its first character lowered
+abbrev pub first_lowered : List ℕ → List ℕ
+first_lowered [] = []
+first_lowered (c ∷ rest) = low c ∷ rest
+
+-- the word with all its characters lowered
+abbrev pub all_lowered : List ℕ → List ℕ
+all_lowered word = map low word
+
+-- the word with its first character kept and the rest lowered
+abbrev pub rest_lowered : List ℕ → List ℕ
+rest_lowered [] = []
+rest_lowered (c ∷ rest) = c ∷ map low rest
+
+-- what a word that begins in upper case stands for, as at the start of a sentence
+abbrev pub spellings_of_capital : List ℕ → List (List ℕ)
+spellings_of_capital word = if begins_upper word then first_lowered word ∷ [] else []
+
+-- what a word without lower-case characters stands for, as in a heading
+abbrev pub spellings_of_capitals : List ℕ → List (List ℕ)
+spellings_of_capitals word = if has_lower word then [] else all_lowered word ∷ rest_lowered word ∷ []
+
+-- whether two words are the same, character by character
+abbrev pub is_same_word : List ℕ → List ℕ → Bool
+is_same_word word other = pointwise nat_eq word other
+
+-- whether one of the words is this word
+abbrev pub is_among : List (List ℕ) → List ℕ → Bool
+is_among words word = list_any (λ other. is_same_word other word) words
+
+-- each word of the list where it first comes, and not again
+abbrev pub without_repeats : List (List ℕ) → List (List ℕ)
+without_repeats [] = []
+without_repeats (word ∷ more) = word ∷ filter (λ other. not (is_same_word word other)) (without_repeats more)
+
+-- The words that a written word covers, in order and without repeats: itself; where its first character is
+-- upper case, the word with that character lowered; where it holds no lower-case character, the word with
+-- all lowered, and the word with its first kept and the rest lowered.
+unfoldable pub covered_by : List ℕ → List (List ℕ)
+covered_by written = without_repeats (written ∷ (spellings_of_capital written ++ spellings_of_capitals written))
+
+-- the written word covers the word
+abbrev pub Covers : List ℕ → List ℕ → Type 0
+Covers written word =
+    (word ≡ written)
+    ⊎ ((IsTrue (begins_upper written) × (word ≡ first_lowered written))
+    ⊎ (IsTrue (not (has_lower written)) × ((word ≡ all_lowered written) ⊎ (word ≡ rest_lowered written))))
