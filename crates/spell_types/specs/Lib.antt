@@ -1,3 +1,4 @@
 pub mod Cases
+pub mod Conversions
 pub mod Flags
 pub mod Yields

@@ -1,6 +1,9 @@
 //! The types of a dictionary. Their meaning stands in `specs/`, one module for each idea.
 #![tactic(auto)]
 
+mod conversions;
+
+pub use conversions::Conversion;
 use lists::{Copied, Items, NoMemory};
 use std::alloc::Global;
 

@@ -1,0 +1,21 @@
+//! What a dictionary converts in its input.
+use crate::Chars;
+use lists::{Copied, NoMemory};
+use std::alloc::Global;
+
+/// A row of the table that converts input: each `from` is written `to`, as the option ICONV of hunspell(5)
+/// has it.
+#[derive(Debug, Drop)]
+pub struct Conversion {
+    pub from: Chars,
+    pub to: Chars,
+}
+
+impl Copied for Conversion {
+    fn copy(&self, alloc: Global) -> Result<Conversion, NoMemory> {
+        Ok(Conversion {
+            from: self.from.copy(alloc)?,
+            to: self.to.copy(alloc)?,
+        })
+    }
+}
