@@ -1,0 +1,14 @@
+-- Nothing but spaces was left out.
+use Rattle.std.proofs.Common.{◌≡◌, ◌+◌, ◌≤◌, length, take}
+use Rattle.std.specs.List.{suffix_len}
+use Rattle.affedit.specs.DicForm.{is_space}
+use Rattle.affedit.proofs.dic_form.without_trailing.Given as goal
+
+abbrev pub invariant-loop-end : goal.invariant-loop-end
+invariant-loop-end l = record {
+  within : l.end ≤ length l.text;
+  spaces : l.end + suffix_len is_space l.text ≡ length l.text + suffix_len is_space (take l.end l.text);
+}
+
+abbrev pub decreases-loop-end : goal.decreases-loop-end
+decreases-loop-end l = l.end

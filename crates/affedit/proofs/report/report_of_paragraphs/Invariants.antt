@@ -1,0 +1,12 @@
+-- What is reported already and what is left to report of the rest are all that is reported.
+use Rattle.std.proofs.Common.{◌≡◌, ◌+◌, ◌++◌, drop}
+use Rattle.std.specs.String.{string_bytes}
+use Rattle.affedit.proofs.ReportLemmas.{lines_from, marks_from, words_from}
+use Rattle.affedit.proofs.report.report_of_paragraphs.Given as goal
+
+abbrev pub invariant-loop-place : goal.invariant-loop-place
+invariant-loop-place l = record {
+  text : string_bytes l.report.text ++ lines_from l.lexicon l.document (l.place + 1) (drop l.place l.lines) ≡ lines_from l.lexicon l.document 1 l.lines;
+  marks : l.report.marks + marks_from l.lexicon l.document (drop l.place l.lines) ≡ marks_from l.lexicon l.document l.lines;
+  words : l.report.words + words_from l.lexicon l.document (drop l.place l.lines) ≡ words_from l.lexicon l.document l.lines;
+}

@@ -1,0 +1,78 @@
+-- What is due: what the program is to print where the folder tells its files.
+use Rattle.std.specs.Prelude.{ℕ, List, [], ◌∷◌, length, nat_le, codes, Option, Some, None, Result, Ok, Err, if◌then◌else◌}
+use Rattle.std.specs.Str.{bytes_eq}
+use Rattle.outside.specs.Files.{Folder}
+use Rattle.spell_types.specs.declared.Affixes.{Affixes}
+use Rattle.spell_types.specs.declared.Entry.{Entry}
+use Rattle.spell_types.specs.declared.Lexicon.{Lexicon}
+use Rattle.text_lines.specs.Lines.{good_lines, bad_line}
+use Rattle.affedit.specs.declared.stop.Stop.{Stop}
+use Rattle.affedit.specs.declared.stop.Stop.TheVariants.{Words, Aff, Dic, Document, Missing, Limit}
+use Rattle.affedit.specs.AffForm.{affixes_due}
+use Rattle.affedit.specs.DicForm.{entries_due}
+use Rattle.affedit.specs.Reports.{Printed, report_of, paragraphs_of}
+use Rattle.affedit.specs.Stops.{◌>>=◌}
+
+-- the greatest size of an .aff or a .dic file, and of a document, in bytes
+abbrev pub dictionary_limit : ℕ
+dictionary_limit = 16777216
+
+abbrev pub document_limit : ℕ
+document_limit = 67108864
+
+-- what is due of a file: nothing but its bytes
+abbrev pub bytes_due : ℕ → Option (List ℕ) → Result (List ℕ) Stop
+bytes_due limit None = Err Missing
+bytes_due limit (Some bytes) = if nat_le (length bytes) limit then Ok bytes else Err (Limit limit)
+
+unfoldable pub file_due : Folder → List ℕ → ℕ → Result (List ℕ) Stop
+file_due folder name limit = bytes_due limit (folder name)
+
+-- a line that breaks the form of a plain file stops the call
+abbrev pub stopping : {A : Type 0} → (ℕ → Stop) → Result A ℕ → Result A Stop
+stopping stop (Ok read) = Ok read
+stopping stop (Err line) = Err (stop line)
+
+abbrev pub unless_bad : {A : Type 0} → Option ℕ → A → Result A Stop
+unless_bad None read = Ok read
+unless_bad (Some line) read = Err (Document line)
+
+-- what is due of a document: its paragraphs, if each of its lines is UTF-8
+unfoldable pub document_due : Lexicon → List ℕ → Result Printed Stop
+document_due lexicon document = unless_bad (bad_line document) (report_of lexicon (paragraphs_of document (good_lines document)))
+
+unfoldable pub affixes_step : List ℕ → Result Affixes Stop
+affixes_step bytes = stopping Aff (affixes_due bytes)
+
+unfoldable pub entries_step : List ℕ → Result (List Entry) Stop
+entries_step bytes = stopping Dic (entries_due bytes)
+
+-- the files that the words of `check` name
+pub record FileNames : Type 0 where
+  pub aff : List ℕ
+  pub dic : List ℕ
+  pub document : List ℕ
+
+-- `check AFF DIC FILE`: the first thing that stops it, or the report on the document
+unfoldable pub check_due : Folder → FileNames → Result Printed Stop
+check_due folder names = do
+  aff ← file_due folder names.aff dictionary_limit
+  affixes ← affixes_step aff
+  dic ← file_due folder names.dic dictionary_limit
+  entries ← entries_step dic
+  document ← file_due folder names.document document_limit
+  document_due (record { affixes = affixes; entries = entries }) document
+
+-- the files that these words name, if they are of the form `check AFF DIC FILE`
+abbrev pub names_in : List (List ℕ) → Option FileNames
+names_in (command ∷ aff ∷ dic ∷ document ∷ []) =
+    if bytes_eq command (codes "check") then Some (record { aff = aff; dic = dic; document = document }) else None
+names_in _ = None
+
+abbrev pub named_due : Folder → Option FileNames → Result Printed Stop
+named_due folder None = Err Words
+named_due folder (Some names) = check_due folder names
+
+-- what the words ask for
+abbrev pub due : Folder → List (List ℕ) → Result Printed Stop
+due folder words = named_due folder (names_in words)

@@ -1,0 +1,11 @@
+pub mod Names
+pub mod Runs
+pub mod Paragraphs
+pub mod Reports
+pub mod Refusals
+pub mod AffForm
+pub mod DicForm
+pub mod Stops
+pub mod Due
+pub mod Endings
+pub mod Given

@@ -1,0 +1,124 @@
+//! What `check` is to print, as far as the files let it.
+
+ghost use Rattle.std.specs.Prelude.{◌≡◌, ◌<◌, ◌≤◌, ◌^◌, length, map, IfSome, OnOk, IsErrOf, IfOk};
+ghost use Rattle.std.specs.Option.{option_map};
+ghost use Rattle.std.specs.String.{string_bytes};
+ghost use Rattle.affedit.specs.Due.{file_due, affixes_step, entries_step, document_due, check_due, names_in};
+ghost use Rattle.affedit.specs.Given.{printed_by, names_by};
+ghost use Rattle.affedit.specs.Stops.{Gives};
+
+use crate::aff_form::read_aff;
+use crate::dic_form::read_dic;
+use crate::refusals::FormFault;
+use crate::report::{Report, make_report};
+use crate::stop::Stop;
+use outside::{FileFault, Files};
+use spell_types::{Affixes, Entries, Lexicon};
+use std::alloc::Global;
+use text_lines::lines;
+
+/// How large an .aff or a .dic file may be, in bytes.
+const DICTIONARY_LIMIT: u64 = 16_777_216;
+
+/// How large a document may be, in bytes.
+const DOCUMENT_LIMIT: u64 = 67_108_864;
+
+/// The files that the words `check AFF DIC FILE` name.
+#[derive(Clone, Copy)]
+pub struct Names<'a> {
+    pub aff: &'a str,
+    pub dic: &'a str,
+    pub document: &'a str,
+}
+
+/// The names, if the words are of the form.
+pub fn names_of(words: &[String]) -> Option<Names<'_>>
+    ensures { option_map names_by result ≡ names_in (map string_bytes words.now) }
+{
+    match words {
+        [command, aff, dic, document] if command.as_str() == "check" => Some(Names {
+            aff: aff.as_str(),
+            dic: dic.as_str(),
+            document: document.as_str(),
+        }),
+        _ => None,
+    }
+}
+
+/// The report on the document, or what stops it first: the files come in the order of the words, and of each
+/// file its bytes come before its lines.
+#[tactic(auto, unfolding(crate::specs::Due::check_due))]
+pub fn check<F: Files>(alloc: Global, names: Names<'_>, files: &mut F) -> Result<Report, Stop>
+    ensures due { IfSome (F.told files.old) (λ folder. Gives printed_by (check_due folder (names_by names.entry)) result) }
+    ensures files { IsErrOf result Stop.Files → F.faults files.old < F.faults files.new }
+    ensures count { F.faults files.old ≤ F.faults files.new }
+    ensures words { ¬ (IsErrOf result Stop.Words) }
+{
+    let aff = load(alloc, files, names.aff, DICTIONARY_LIMIT)?;
+    let affixes = read_affixes(alloc, aff.as_slice())?;
+    let dic = load(alloc, files, names.dic, DICTIONARY_LIMIT)?;
+    let entries = read_entries(alloc, dic.as_slice())?;
+    let document = load(alloc, files, names.document, DOCUMENT_LIMIT)?;
+    check_document(alloc, &Lexicon { affixes, entries }, document.as_slice())
+}
+
+/// The bytes of the file.
+#[tactic(auto, unfolding(crate::specs::Due::file_due))]
+fn load<F: Files>(alloc: Global, files: &mut F, name: &str, limit: u64) -> Result<Vec<u8>, Stop>
+    ensures due { IfSome (F.told files.old) (λ folder. Gives (λ bytes. bytes.items) (file_due folder name.now limit) result) }
+    ensures bounded { IfOk result (λ bytes. length bytes.items ≤ limit) }
+    ensures same { F.told files.new ≡ F.told files.old }
+    ensures files { IsErrOf result Stop.Files → F.faults files.old < F.faults files.new }
+    ensures count { F.faults files.old ≤ F.faults files.new }
+    ensures words { ¬ (IsErrOf result Stop.Words) }
+{
+    let mut bytes = Vec::new(alloc);
+    match files.load(alloc, name, limit, &mut bytes) {
+        Ok(()) => Ok(bytes),
+        Err(FileFault::Failed) => Err(Stop::Files),
+        Err(FileFault::Missing) => Err(Stop::Missing),
+        Err(FileFault::TooLong) => Err(Stop::Limit { limit }),
+        Err(FileFault::NoMemory) => Err(Stop::NoMemory),
+    }
+}
+
+#[tactic(auto, unfolding(crate::specs::Due::affixes_step))]
+fn read_affixes(alloc: Global, bytes: &[u8]) -> Result<Affixes, Stop>
+    ensures due { Gives (λ affixes. affixes) (affixes_step bytes.now) result }
+    ensures files { ¬ (IsErrOf result Stop.Files) }
+    ensures words { ¬ (IsErrOf result Stop.Words) }
+{
+    match read_aff(alloc, bytes) {
+        Ok(affixes) => Ok(affixes),
+        Err(FormFault::At { line }) => Err(Stop::Aff { line }),
+        Err(FormFault::NoMemory) => Err(Stop::NoMemory),
+    }
+}
+
+#[tactic(auto, unfolding(crate::specs::Due::entries_step))]
+fn read_entries(alloc: Global, bytes: &[u8]) -> Result<Entries, Stop>
+    ensures due { Gives (λ entries. entries) (entries_step bytes.now) result }
+    ensures files { ¬ (IsErrOf result Stop.Files) }
+    ensures words { ¬ (IsErrOf result Stop.Words) }
+{
+    match read_dic(alloc, bytes) {
+        Ok(entries) => Ok(entries),
+        Err(FormFault::At { line }) => Err(Stop::Dic { line }),
+        Err(FormFault::NoMemory) => Err(Stop::NoMemory),
+    }
+}
+
+/// The report on a document.
+#[tactic(auto, unfolding(crate::specs::Due::document_due))]
+fn check_document(alloc: Global, lexicon: &Lexicon, document: &[u8]) -> Result<Report, Stop>
+    requires { length document.now < 2 ^ 32 }
+    ensures due { Gives printed_by (document_due lexicon.now document.now) result }
+    ensures files { ¬ (IsErrOf result Stop.Files) }
+    ensures words { ¬ (IsErrOf result Stop.Words) }
+{
+    let found = lines(alloc, document)?;
+    if let Some(line) = found.bad {
+        return Err(Stop::Document { line });
+    }
+    Ok(make_report(alloc, lexicon, document, found.good.as_slice())?)
+}

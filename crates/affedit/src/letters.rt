@@ -1,0 +1,16 @@
+//! A text by its characters.
+
+ghost use Rattle.std.specs.Prelude.{◌≡◌, IfOk};
+ghost use Rattle.std.specs.Str.{chars};
+
+use lists::{Items, NoMemory};
+use spell_types::Chars;
+use std::alloc::Global;
+
+/// The characters of the text.
+pub fn chars_of(alloc: Global, text: &str) -> Result<Chars, NoMemory>
+    ensures { IfOk result (λ made. made ≡ chars text.now) }
+{
+    let characters: Vec<char> = text.chars().collect(alloc)?;
+    Ok(Items::from_vec(characters))
+}

@@ -1,0 +1,124 @@
+//! Prints the marks of a document.
+
+ghost use Rattle.std.specs.Prelude.{◌≡◌, ◌+◌, ◌<◌, ◌^◌, [], ◌∷◌, ◌++◌, All, IfOk, OnOk, length};
+ghost use Rattle.std.specs.List.{flat_map};
+ghost use Rattle.std.specs.Str.{chars};
+ghost use Rattle.std.specs.String.{string_bytes};
+ghost use Rattle.mark_types.specs.Marks.{located_words, marks_of};
+ghost use Rattle.mark_types.specs.Words.{words_of};
+ghost use Rattle.text_lines.specs.Lines.{IsInside};
+ghost use Rattle.affedit.specs.Reports.{line_of, found_line, count_line, report_of, paragraph_lines, paragraphs_of};
+
+use crate::checker::check_paragraph;
+use lists::NoMemory;
+use mark_types::{Mark, marks_are_local};
+use spell_types::Lexicon;
+use std::alloc::{AllocError, Global};
+use text_lines::found::Line;
+use text_lines::line_text;
+
+/// The lines that are to be printed, and how many marks and words they tell of.
+#[derive(Drop)]
+pub struct Report {
+    pub text: String,
+    pub marks: u64,
+    pub words: u64,
+}
+
+/// The report on a document of these lines: a line `P S E WORD` for each mark, with its paragraph from 1
+/// and its bytes in the paragraph from 0, and a last line `M of W`.
+pub fn make_report(
+    alloc: Global,
+    lexicon: &Lexicon,
+    document: &[u8],
+    lines: &[Line],
+) -> Result<Report, NoMemory>
+    requires small { length document.now < 2 ^ 32 }
+    requires lines { All (IsInside document.now) lines.now }
+    ensures text { IfOk result (λ report. string_bytes report.text ≡ (report_of lexicon.now (paragraphs_of document.now lines.now)).text) }
+    ensures marks { IfOk result (λ report. report.marks ≡ (report_of lexicon.now (paragraphs_of document.now lines.now)).marks) }
+{
+    let mut report = report_of_paragraphs(alloc, lexicon, document, lines)?;
+    push_count_line(&mut report.text, report.marks, report.words)?;
+    Ok(report)
+}
+
+fn report_of_paragraphs(
+    alloc: Global,
+    lexicon: &Lexicon,
+    document: &[u8],
+    lines: &[Line],
+) -> Result<Report, NoMemory>
+    requires small { length document.now < 2 ^ 32 }
+    requires lines { All (IsInside document.now) lines.now }
+    ensures text { IfOk result (λ report. string_bytes report.text
+        ≡ flat_map line_of (marks_of lexicon.now (paragraphs_of document.now lines.now))) }
+    ensures marks { IfOk result (λ report. report.marks ≡ length (marks_of lexicon.now (paragraphs_of document.now lines.now))) }
+    ensures words { IfOk result (λ report. report.words
+        ≡ length (located_words lexicon.now.affixes.wordchars (paragraphs_of document.now lines.now))) }
+{
+    marks_are_local();
+    let mut report = Report {
+        text: String::new(alloc),
+        marks: 0,
+        words: 0,
+    };
+    for (place, line) in lines.iter().enumerate() {
+        report.add_paragraph(alloc, lexicon, place as u64 + 1, line_text(document, line))?;
+    }
+    Ok(report)
+}
+
+impl Report {
+    /// Adds the lines of one paragraph's marks.
+    fn add_paragraph(
+        &mut self,
+        alloc: Global,
+        lexicon: &Lexicon,
+        number: u64,
+        text: &str,
+    ) -> Result<(), NoMemory>
+        requires { length text.now < 2 ^ 32 }
+        ensures text { OnOk result (string_bytes self.new.text ≡ string_bytes self.old.text ++ paragraph_lines lexicon.now number (chars text.now)) }
+        ensures marks { OnOk result (self.new.marks ≡ self.old.marks + length (marks_of lexicon.now (chars text.now ∷ []))) }
+        ensures words { OnOk result (self.new.words ≡ self.old.words + length (words_of lexicon.now.affixes.wordchars (chars text.now))) }
+    {
+        let checked = check_paragraph(alloc, lexicon, text)?;
+        let marks = checked.marks.as_slice();
+        push_mark_lines(&mut self.text, number, marks)?;
+        self.marks = sum(self.marks, marks.len())?;
+        self.words = sum(self.words, checked.words)?;
+        Ok(())
+    }
+}
+
+/// The sum, where it is a number of 64 bits; one that is not could not be counted up in memory.
+fn sum(so_far: u64, more: usize) -> Result<u64, NoMemory>
+    ensures { IfOk result (λ sum. sum ≡ so_far + more) }
+{
+    so_far.checked_add(more as u64).ok_or(NoMemory)
+}
+
+fn push_mark_lines(text: &mut String, number: u64, marks: &[Mark]) -> Result<(), AllocError>
+    ensures { OnOk result (string_bytes text.new ≡ string_bytes text.old ++ flat_map (found_line number) marks.now) }
+{
+    for mark in marks {
+        push_mark_line(text, number, mark)?;
+    }
+    Ok(())
+}
+
+fn push_mark_line(text: &mut String, number: u64, mark: &Mark) -> Result<(), AllocError>
+    ensures { OnOk result (string_bytes text.new ≡ string_bytes text.old ++ found_line number mark.now) }
+{
+    let from = mark.from;
+    let to = mark.to;
+    let word = mark.word.as_str();
+    write!(text, "{number} {from} {to} {word}\n")
+}
+
+fn push_count_line(text: &mut String, marks: u64, words: u64) -> Result<(), AllocError>
+    ensures { OnOk result (string_bytes text.new ≡ string_bytes text.old ++ count_line marks words) }
+{
+    write!(text, "{marks} of {words}\n")
+}

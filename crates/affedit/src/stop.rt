@@ -1,0 +1,70 @@
+//! Why a call of the program stops without an answer.
+
+ghost use Rattle.std.specs.Prelude.{◌≡◌, ◌++◌, OnOk};
+ghost use Rattle.std.specs.String.{string_bytes};
+ghost use Rattle.affedit.specs.declared.stop.Stop.TheVariants.{NoMemory as OutOfMemory};
+ghost use Rattle.affedit.specs.Stops.{status_of, last_line};
+
+use lists::NoMemory;
+use std::alloc::AllocError;
+
+/// Why a call stopped. Lines count from 1.
+#[derive(Clone, Copy, Debug, PartialEq, Eq)]
+pub enum Stop {
+    /// The words are in none of the program's forms.
+    Words,
+    /// The first line of the .aff file that breaks its form.
+    Aff { line: u64 },
+    /// The first line of the .dic file that breaks its form.
+    Dic { line: u64 },
+    /// The first line of the document that is not UTF-8.
+    Document { line: u64 },
+    /// The next file is not there.
+    Missing,
+    /// The files failed.
+    Files,
+    NoMemory,
+    /// Something is larger than this.
+    Limit { limit: u64 },
+}
+
+impl Stop {
+    /// The exit status.
+    pub fn status(self) -> u8
+        ensures { result ≡ status_of self }
+    {
+        match self {
+            Stop::Words => 2,
+            Stop::Aff { .. } | Stop::Dic { .. } => 3,
+            Stop::Document { .. } => 4,
+            Stop::Missing | Stop::Files => 5,
+            Stop::NoMemory => 7,
+            Stop::Limit { .. } => 8,
+        }
+    }
+
+    /// Adds the last line that is to be written.
+    #[tactic(auto, unfolding(crate::specs::Stops::last_line))]
+    pub fn push_line(self, text: &mut String) -> Result<(), AllocError>
+        ensures { OnOk result (string_bytes text.new ≡ string_bytes text.old ++ last_line self) }
+    {
+        match self {
+            Stop::Words => text.push_str("affedit: words\n"),
+            Stop::Aff { line } => write!(text, "aff {line} LeftOut\n"),
+            Stop::Dic { line } => write!(text, "dic {line} BadFlag\n"),
+            Stop::Document { line } => write!(text, "doc {line}\n"),
+            Stop::Missing => text.push_str("missing\n"),
+            Stop::Files => text.push_str("files\n"),
+            Stop::NoMemory => text.push_str("memory\n"),
+            Stop::Limit { limit } => write!(text, "limit {limit}\n"),
+        }
+    }
+}
+
+impl From<NoMemory> for Stop {
+    ghost from_gives = { λ _ stop. stop ≡ OutOfMemory };
+
+    fn from(_wanting: NoMemory) -> Stop {
+        Stop::NoMemory
+    }
+}
