@@ -1,4 +1,6 @@
+pub mod Attaching
 pub mod Cases
+pub mod Conditions
 pub mod Conversions
 pub mod Flags
 pub mod Yields

@@ -11,6 +11,12 @@ mod flags;
 
 pub use flags::{Flag, FlagKind, FlagSet, has, sets_have_their_flags};
 
+mod attaching;
+mod rules;
+
+pub use attaching::{attach, joined, matches_back, matches_front};
+pub use rules::{Condition, Piece, Rule, Side};
+
 /// A text by its characters.
 pub type Chars = Items<char>;
 
