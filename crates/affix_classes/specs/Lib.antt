@@ -1,0 +1,2 @@
+pub mod ConditionTexts
+pub mod Undoing
