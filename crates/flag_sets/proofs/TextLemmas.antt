@@ -1,5 +1,5 @@
 -- How the flags of a text go on after the first.
-use Rattle.std.proofs.Common.{◌≡◌, ◌≢◌, ◌∙◌, refl, sym, ap, subst, ℕ, ◌+◌, ◌*◌, ◌^◌, ◌<◌, Ok, List, [], ◌∷◌, length, map, Option, Some, None, Bool, true, false, option_and_then, Bor, ◌==◌, IsTrue, true≢false, Contains, IsSomeAnd, ◌↔◌, arith, lit<}
+use Rattle.std.proofs.Common.{is_some, ◌≡◌, ◌≢◌, ◌∙◌, refl, sym, ap, subst, ℕ, ◌+◌, ◌*◌, ◌^◌, ◌<◌, Ok, List, [], ◌∷◌, length, map, Option, Some, None, Bool, true, false, option_and_then, Bor, ◌==◌, IsTrue, true≢false, Contains, IsSomeAnd, ◌↔◌, arith, lit<}
 use Rattle.std.specs.List.{slice_split, position_or_len, before_first, after_first}
 use Rattle.std.specs.Option.{option_map, ok_or}
 use Rattle.std.specs.Bool.{then_some}
@@ -122,6 +122,11 @@ pub at_end : (kind : FlagKind) (set : List Flag) (text rest : List ℕ) → leng
     → option_map (put_all set) (listed_flags kind rest) ≡ option_map (put_all []) (listed_flags kind text) → flag_field kind None text ≡ Ok set
 at_end kind set text [] none kept = ap (λ o. ok_or o BadFlag) (sym kept ∙ ap (option_map (put_all set)) (nothing_listed kind))
 at_end kind set text (b ∷ bs) none kept = absurd (omega arith)
+
+pub lists_at_end : (kind : FlagKind) (text rest : List ℕ) → length rest ≡ 0
+    → is_some (listed_flags kind rest) ≡ is_some (listed_flags kind text) → true ≡ is_some (listed_flags kind text)
+lists_at_end kind text [] none kept = sym (ap is_some (nothing_listed kind)) ∙ kept
+lists_at_end kind text (b ∷ bs) none kept = absurd (omega arith)
 
 -- ---- one flag
 first_listed : (flag : Flag) (o : Option (List Flag)) → with_first flag o ≢ Some []

@@ -1,7 +1,7 @@
 //! The texts of flags: fields of flags, also through aliases, and single flags.
 #![tactic(auto)]
 
-ghost use Rattle.std.specs.Prelude.{◌≡◌, ◌≢◌, ◌↔◌, ℕ, List, [], Ok, Err, None, Some, IsTrue, IfOk, IfErr, IsSomeAnd, Contains};
+ghost use Rattle.std.specs.Prelude.{◌≡◌, ◌≢◌, ◌↔◌, ℕ, List, [], Ok, Err, None, Some, IsTrue, IfOk, IfErr, IsSomeAnd, Contains, is_some};
 ghost use Rattle.std.specs.Option.{option_copied};
 ghost use Rattle.spell_types.specs.declared.flags.Flag.{Flag};
 ghost use Rattle.spell_types.specs.declared.flags.FlagKind.{FlagKind};
@@ -70,6 +70,20 @@ pub fn read_one_flag(kind: FlagKind, text: &str) -> Option<Flag>
     }
     let (flag, rest) = first_flag(kind, text)?;
     lists_nothing(kind, rest).then_some(flag)
+}
+
+/// Whether a text lists flags of the type and nothing else. This takes no memory.
+pub fn lists_flags(kind: FlagKind, text: &str) -> bool
+    ensures { result ≡ is_some (listed_flags kind text.now) }
+{
+    let mut rest = text;
+    while !rest.is_empty() {
+        let Some((_, more)) = first_flag(kind, rest) else {
+            return false;
+        };
+        rest = more;
+    }
+    true
 }
 
 /// Where a file has no aliases, the set of a field rises and has exactly the flags that the field lists.
