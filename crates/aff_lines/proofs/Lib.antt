@@ -1,0 +1,4 @@
+mod FaultLemmas
+mod RowLemmas
+mod ReadLemmas
+mod PassLemmas

@@ -1,0 +1,100 @@
+-- The loops over the rows of a table, over directives, and over aliases.
+use Rattle.std.proofs.Common.{◌≡◌, ℕ, zero, suc, ◌+◌, ◌-◌, ◌<◌, ◌==◌, false, cond, List, [], ◌∷◌, ◌++◌, length, map, take, drop, Option, Some, None, refl, sym, ap, ◌∙◌, get_or, append_assoc, arith}
+use Rattle.std.specs.List.{flat_map}
+use Rattle.std.specs.Option.{option_or}
+use Rattle.std.proofs.lemmas.List.{take_more, append-nil}
+use Rattle.std.proofs.lemmas.Bool.Decides.{nat_tests}
+use Rattle.std.proofs.lemmas.Grind.{flat_map-append}
+use Rattle.spell_types.specs.declared.flags.Flag.{Flag}
+use Rattle.spell_types.specs.declared.flags.FlagKind.{FlagKind}
+use Rattle.aff_lines.specs.declared.faults.AffWhy.TheVariants.{Twice}
+use Rattle.aff_lines.specs.declared.faults.Fault.{Fault}
+use Rattle.aff_lines.specs.declared.names.Directive.{Directive}
+use Rattle.aff_lines.specs.declared.names.Directive.TheVariants.{FlagType}
+use Rattle.aff_lines.specs.declared.names.TheConstants.{FIRST, SECOND, THIRD}
+use Rattle.aff_lines.specs.declared.names.Row.{Row}
+use Rattle.aff_lines.specs.declared.rows.Kept.{Kept}
+use Rattle.aff_lines.specs.Faults.{sooner, least_of, first_fault}
+use Rattle.aff_lines.specs.Grammar.{at, row_faults, past_faults, rows_faults, place_faults}
+use Rattle.aff_lines.specs.Passes.{directive_faults, pass_faults, set_in, kind_said, bad_faults, passes_of}
+use Rattle.aff_lines.specs.Rows.{lines_of}
+use Rattle.aff_lines.proofs.FaultLemmas.{found_more, least_append}
+
+some-left : (left : ℕ) → (suc left == 0) ≡ false
+some-left left = grind (arith, nat_tests)
+
+rows-step : (kind : FlagKind) (row : Row) (left next : ℕ) (line : Kept) (more : List Kept) → next ≡ left - 1
+    → rows_faults kind row left (line ∷ more) ≡ place_faults kind row left line ++ rows_faults kind row next more
+rows-step kind row zero next line more is =
+    let none : next ≡ 0 = omega (arith, is) in
+    ap (λ n. at Twice line ∷ rows_faults kind row n more) (sym none)
+rows-step kind row (suc left) next line more is =
+    let same : next ≡ left = omega (arith, is) in
+    let own : place_faults kind row (suc left) line ≡ row_faults kind row line = ap (λ b. cond b (past_faults line) (row_faults kind row line)) (some-left left) in
+    append_assoc (row_faults kind row line) (flat_map (row_faults kind row) (take left more)) (flat_map past_faults (drop left more))
+    ∙ ap (λ n. row_faults kind row line ++ rows_faults kind row n more) (sym same)
+    ∙ ap (λ here. here ++ rows_faults kind row next more) (sym own)
+
+-- a turn of the loop over the rows of a table
+pub rows_turn : (kind : FlagKind) (row : Row) (found here now total : Option Fault) (left next : ℕ) (own more : List Kept) (line : Kept)
+    → now ≡ sooner found here → here ≡ least_of (place_faults kind row left line) → next ≡ left - 1 → own ≡ line ∷ more
+    → sooner found (least_of (rows_faults kind row left own)) ≡ total
+    → sooner now (least_of (rows_faults kind row next more)) ≡ total
+rows_turn kind row found here now total left next own more line merged told less is so_far =
+    ap (λ f. sooner f (least_of (rows_faults kind row next more))) (merged ∙ ap (sooner found) told)
+    ∙ found_more found total (place_faults kind row left line) (rows_faults kind row next more) (rows_faults kind row left own)
+    (ap (rows_faults kind row left) is ∙ rows-step kind row left next line more less) so_far
+
+-- a turn of the loop over the directives of a pass
+pub pass_turn : (kind : FlagKind) (rows : List Kept) (directives : List Directive) (place : ℕ) (d : Directive) (found here now : Option Fault)
+    → place < length directives → now ≡ sooner found here
+    → here ≡ least_of (directive_faults kind rows (get_or directives place d))
+    → found ≡ least_of (pass_faults kind rows (take place directives))
+    → now ≡ least_of (pass_faults kind rows (take (place + 1) directives))
+pass_turn kind rows directives place d found here now within merged told so_far =
+    let directive = get_or directives place d in
+    let own = directive_faults kind rows directive in
+    let earlier = pass_faults kind rows (take place directives) in
+    let whole : pass_faults kind rows (take (place + 1) directives) ≡ earlier ++ own =
+    ap (pass_faults kind rows) (take_more directives place d within)
+    ∙ flat_map-append (directive_faults kind rows) (take place directives) (directive ∷ [])
+    ∙ ap (λ faults. earlier ++ faults) (append-nil own) in
+    merged
+    ∙ ap (λ f. sooner f here) so_far
+    ∙ ap (sooner (least_of earlier)) told
+    ∙ sym (ap least_of whole ∙ least_append earlier own)
+
+-- a turn of the loop over the rows of AF
+pub sets_turn : (kind : FlagKind) (sets pushed total : List (List Flag)) (set : List Flag) (left : ℕ) (own more : List Kept) (line : Kept)
+    → 0 < left → pushed ≡ sets ++ set ∷ [] → set ≡ set_in kind line → own ≡ line ∷ more
+    → sets ++ map (set_in kind) (take left own) ≡ total
+    → pushed ++ map (set_in kind) (take (left - 1) more) ≡ total
+sets_turn kind sets pushed total set zero own more line some grown same is so_far = absurd (omega (arith, some))
+sets_turn kind sets pushed total set (suc left) own more line some grown same is so_far =
+    let less : suc left - 1 ≡ left = omega arith in
+    ap (λ n. pushed ++ map (set_in kind) (take n more)) less
+    ∙ ap (λ now. now ++ map (set_in kind) (take left more)) (grown ∙ ap (λ s. sets ++ s ∷ []) same)
+    ∙ append_assoc sets (set_in kind line ∷ []) (map (set_in kind) (take left more))
+    ∙ sym (ap (λ lines. sets ++ map (set_in kind) (take (suc left) lines)) is)
+    ∙ so_far
+
+or-none : (found : Option Fault) → option_or found None ≡ found
+or-none None = refl
+or-none (Some found) = refl
+
+-- the first fault of three passes
+first_of_three : (first second third : List Fault) (a b c : Option Fault) → a ≡ least_of first → b ≡ least_of second → c ≡ least_of third
+    → option_or a (option_or b c) ≡ first_fault (first ∷ second ∷ third ∷ [])
+first_of_three first second third a b c is_a is_b is_c =
+    ap (λ o. option_or o (option_or b c)) is_a
+    ∙ ap (λ o. option_or (least_of first) (option_or o c)) is_b
+    ∙ ap (λ o. option_or (least_of first) (option_or (least_of second) o)) (is_c ∙ sym (or-none (least_of third)))
+
+pub first_of_early : (bad : Option ℕ) (rows : List Kept) (kind : FlagKind) (a b c : Option Fault)
+    → kind ≡ kind_said (lines_of FlagType rows)
+    → a ≡ least_of (pass_faults kind rows FIRST ++ bad_faults bad)
+    → b ≡ least_of (pass_faults kind rows SECOND) → c ≡ least_of (pass_faults kind rows THIRD)
+    → option_or a (option_or b c) ≡ first_fault (passes_of bad rows)
+first_of_early bad rows kind a b c same is_a is_b is_c =
+    first_of_three (pass_faults kind rows FIRST ++ bad_faults bad) (pass_faults kind rows SECOND) (pass_faults kind rows THIRD) a b c is_a is_b is_c
+    ∙ ap (λ k. first_fault ((pass_faults k rows FIRST ++ bad_faults bad) ∷ pass_faults k rows SECOND ∷ pass_faults k rows THIRD ∷ [])) same

@@ -1,0 +1,6 @@
+pub mod Faults
+pub mod Names
+pub mod Rows
+pub mod Causes
+pub mod Grammar
+pub mod Passes

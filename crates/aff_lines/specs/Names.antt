@@ -1,0 +1,82 @@
+-- The options of .aff files: their names and their forms.
+use Rattle.std.specs.Prelude.{Bool, false, ◌||◌, List, ℕ, codes, Option, None, Some}
+use Rattle.std.specs.List.{list_any}
+use Rattle.std.specs.Str.{bytes_eq}
+use Rattle.aff_lines.specs.declared.names.Directive.{Directive}
+use Rattle.aff_lines.specs.declared.names.Directive.TheVariants.{Set, FlagType, FlagAliases, WordCharacters, Ignore, NeedAffix, Circumfix, ForbiddenWord, KeepCase, Warn, CompoundFlag, CompoundBegin, CompoundMiddle, CompoundLast, CompoundPermitFlag, CompoundForbidFlag, OnlyInCompound, ForceUpperCase, CompoundMinimum, CompoundWordMaximum, FullStrip, ForbidWarn, CompoundMoreSuffixes, CheckCompoundDuplicates, CheckCompoundCase, CheckCompoundTriple, CheckCompoundReplacements, InputConversion, Replacement, Break, CompoundRule, CheckCompoundPattern, Prefix, Suffix, ComplexPrefixes, CompoundSyllable, SyllableNumber, CheckSharps, SimplifiedTriple}
+use Rattle.aff_lines.specs.declared.names.Form.{Form}
+use Rattle.aff_lines.specs.declared.names.Form.TheVariants.{Encoding, Kind, Text, Flag, Switch, Table, LeftOut}
+use Rattle.aff_lines.specs.declared.names.Row.TheVariants.{FlagField}
+
+-- the first name of a directive
+unfoldable pub first_name : Directive → List ℕ
+first_name Set = codes "SET"
+first_name FlagType = codes "FLAG"
+first_name FlagAliases = codes "AF"
+first_name WordCharacters = codes "WORDCHARS"
+first_name Ignore = codes "IGNORE"
+first_name NeedAffix = codes "NEEDAFFIX"
+first_name Circumfix = codes "CIRCUMFIX"
+first_name ForbiddenWord = codes "FORBIDDENWORD"
+first_name KeepCase = codes "KEEPCASE"
+first_name Warn = codes "WARN"
+first_name CompoundFlag = codes "COMPOUNDFLAG"
+first_name CompoundBegin = codes "COMPOUNDBEGIN"
+first_name CompoundMiddle = codes "COMPOUNDMIDDLE"
+first_name CompoundLast = codes "COMPOUNDLAST"
+first_name CompoundPermitFlag = codes "COMPOUNDPERMITFLAG"
+first_name CompoundForbidFlag = codes "COMPOUNDFORBIDFLAG"
+first_name OnlyInCompound = codes "ONLYINCOMPOUND"
+first_name ForceUpperCase = codes "FORCEUCASE"
+first_name CompoundMinimum = codes "COMPOUNDMIN"
+first_name CompoundWordMaximum = codes "COMPOUNDWORDMAX"
+first_name FullStrip = codes "FULLSTRIP"
+first_name ForbidWarn = codes "FORBIDWARN"
+first_name CompoundMoreSuffixes = codes "COMPOUNDMORESUFFIXES"
+first_name CheckCompoundDuplicates = codes "CHECKCOMPOUNDDUP"
+first_name CheckCompoundCase = codes "CHECKCOMPOUNDCASE"
+first_name CheckCompoundTriple = codes "CHECKCOMPOUNDTRIPLE"
+first_name CheckCompoundReplacements = codes "CHECKCOMPOUNDREP"
+first_name InputConversion = codes "ICONV"
+first_name Replacement = codes "REP"
+first_name Break = codes "BREAK"
+first_name CompoundRule = codes "COMPOUNDRULE"
+first_name CheckCompoundPattern = codes "CHECKCOMPOUNDPATTERN"
+first_name Prefix = codes "PFX"
+first_name Suffix = codes "SFX"
+first_name ComplexPrefixes = codes "COMPLEXPREFIXES"
+first_name CompoundSyllable = codes "COMPOUNDSYLLABLE"
+first_name SyllableNumber = codes "SYLLABLENUM"
+first_name CheckSharps = codes "CHECKSHARPS"
+first_name SimplifiedTriple = codes "SIMPLIFIEDTRIPLE"
+
+-- the second name of a directive, if it has two
+unfoldable pub second_name : Directive → Option (List ℕ)
+second_name NeedAffix = Some (codes "PSEUDOROOT")
+second_name CompoundLast = Some (codes "COMPOUNDEND")
+second_name _ = None
+
+abbrev pub has_second : Option (List ℕ) → List ℕ → Bool
+has_second None name = false
+has_second (Some second) name = bytes_eq second name
+
+-- whether a name is one of the directive's
+abbrev pub is_named : Directive → List ℕ → Bool
+is_named directive name = bytes_eq (first_name directive) name || has_second (second_name directive) name
+
+-- whether a name is one of these directives'
+abbrev pub is_among : List Directive → List ℕ → Bool
+is_among directives name = list_any (λ directive. is_named directive name) directives
+
+-- the form of a directive's lines; a directive that is not built is left out
+unfoldable pub form_of : Directive → Form
+form_of Set = Encoding
+form_of FlagType = Kind
+form_of FlagAliases = Table FlagField
+form_of WordCharacters = Text
+form_of NeedAffix = Flag
+form_of ForbiddenWord = Flag
+form_of Warn = Flag
+form_of OnlyInCompound = Flag
+form_of ForbidWarn = Switch
+form_of _ = LeftOut

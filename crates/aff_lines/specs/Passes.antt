@@ -1,0 +1,128 @@
+-- The faults of the passes, and what the first three of them say.
+use Rattle.std.specs.Prelude.{◌≡◌, ℕ, ◌==◌, Bool, not, length, List, [], ◌∷◌, ◌++◌, map, take, unwrap_or, Option, None, Some, option_and_then, Result, Ok, Err}
+use Rattle.std.specs.Borrow.{Bor}
+use Rattle.std.specs.List.{flat_map}
+use Rattle.text_lines.specs.Lines.{bad_line}
+use Rattle.spell_types.specs.declared.flags.FlagKind.{FlagKind}
+use Rattle.spell_types.specs.declared.flags.FlagKind.TheVariants.{Single}
+use Rattle.spell_types.specs.declared.flags.Flag.{Flag}
+use Rattle.flag_sets.specs.declared.FlagFault.{FlagFault}
+use Rattle.flag_sets.specs.FlagTexts.{flag_field, one_flag}
+use Rattle.aff_lines.specs.declared.Directives.{Directives}
+use Rattle.aff_lines.specs.declared.faults.AffFault.{AffFault}
+use Rattle.aff_lines.specs.declared.faults.AffFault.TheVariants.{At, NoMemory}
+use Rattle.aff_lines.specs.declared.faults.AffWhy.TheVariants.{NotUtf8}
+use Rattle.aff_lines.specs.declared.faults.Fault.{Fault}
+use Rattle.aff_lines.specs.declared.names.Directive.{Directive}
+use Rattle.aff_lines.specs.declared.names.Directive.TheVariants.{Set, FlagType, FlagAliases}
+use Rattle.aff_lines.specs.declared.names.Form.{Form}
+use Rattle.aff_lines.specs.declared.names.Form.TheVariants.{Encoding, Kind, Text, Flag as FlagForm, Number, Switch, Table, LeftOut}
+use Rattle.aff_lines.specs.declared.names.TheConstants.{FIRST, SECOND, THIRD, FOURTH}
+use Rattle.aff_lines.specs.declared.rows.Kept.{Kept}
+use Rattle.aff_lines.specs.Causes.{number_at, number_in, kind_named}
+use Rattle.aff_lines.specs.Faults.{first_fault, IsFault}
+use Rattle.aff_lines.specs.Grammar.{once_faults, table_faults, all_left_out}
+use Rattle.aff_lines.specs.Rows.{rows_of, rows_with, lines_of, value_of}
+use Rattle.aff_lines.specs.Names.{form_of}
+
+-- the faults of a directive of this form that has these lines
+abbrev pub form_faults : FlagKind → Form → List Kept → List Fault
+form_faults kind Encoding own = once_faults kind Encoding own
+form_faults kind Kind own = once_faults kind Kind own
+form_faults kind Text own = once_faults kind Text own
+form_faults kind FlagForm own = once_faults kind FlagForm own
+form_faults kind Number own = once_faults kind Number own
+form_faults kind Switch own = []
+form_faults kind (Table row) own = table_faults kind row own
+form_faults kind LeftOut own = all_left_out own
+
+abbrev pub directive_faults : FlagKind → List Kept → Directive → List Fault
+directive_faults kind rows directive = form_faults kind (form_of directive) (lines_of directive rows)
+
+-- the faults of a pass over these directives
+abbrev pub pass_faults : FlagKind → List Kept → List Directive → List Fault
+pass_faults kind rows directives = flat_map (directive_faults kind rows) directives
+
+-- the value of the first line, if it is there
+abbrev pub value_said : List Kept → Option (List ℕ)
+value_said [] = None
+value_said (line ∷ later) = value_of line
+
+-- the type of flags that the lines of FLAG say
+abbrev pub kind_said : List Kept → FlagKind
+kind_said own = unwrap_or (option_and_then kind_named (value_said own)) Single
+
+-- the flag of a directive
+abbrev pub flag_said : FlagKind → List Kept → Option Flag
+flag_said kind own = option_and_then (one_flag kind) (value_said own)
+
+-- the number of a directive
+abbrev pub number_said : List Kept → Option ℕ
+number_said own = option_and_then number_in (value_said own)
+
+-- whether a switch is there
+abbrev pub is_said : List Kept → Bool
+is_said own = not (length own == 0)
+
+-- the rows of a table, if it is there
+abbrev pub table_rows : List Kept → Option (List Kept)
+table_rows [] = None
+table_rows (header ∷ later) = Some (take (unwrap_or (number_at header) 0) later)
+
+-- a table is there, with so many rows at most, which are the first of its other lines among these rows; or it is not there
+abbrev pub IsTable : Directive → List Kept → Option (ℕ × Bor (List Kept)) → Type 0
+IsTable directive rows None = table_rows (lines_of directive rows) ≡ None
+IsTable directive rows (Some (count, later)) = table_rows (lines_of directive rows) ≡ Some (take count (lines_of directive later.now))
+
+abbrev pub or_empty : Result (List Flag) FlagFault → List Flag
+or_empty (Ok set) = set
+or_empty (Err fault) = []
+
+-- the set in the field behind a line's name
+abbrev pub set_in : FlagKind → Kept → List Flag
+set_in kind line = or_empty (flag_field kind None (unwrap_or (value_of line) []))
+
+abbrev pub sets_in : FlagKind → Option (List Kept) → Option (List (List Flag))
+sets_in kind None = None
+sets_in kind (Some rows) = Some (map (set_in kind) rows)
+
+-- the sets that the lines of AF list
+abbrev pub aliases_said : FlagKind → List Kept → Option (List (List Flag))
+aliases_said kind own = sets_in kind (table_rows own)
+
+-- the fault of the first line that is not UTF-8
+abbrev pub bad_faults : Option ℕ → List Fault
+bad_faults None = []
+bad_faults (Some line) = record { line = line; why = NotUtf8 } ∷ []
+
+-- the faults of the first three passes over these rows, where this is the first line that is not UTF-8
+abbrev pub passes_of : Option ℕ → List Kept → List (List Fault)
+passes_of bad rows =
+    let kind = kind_said (lines_of FlagType rows) in
+    (pass_faults kind rows FIRST ++ bad_faults bad) ∷ pass_faults kind rows SECOND ∷ pass_faults kind rows THIRD ∷ []
+
+-- some rows have the same lines of the first three passes as others
+pub record SameEarly (rows others : List Kept) : Type 0 where
+  pub encoding : lines_of Set rows ≡ lines_of Set others
+  pub kind : lines_of FlagType rows ≡ lines_of FlagType others
+  pub aliases : lines_of FlagAliases rows ≡ lines_of FlagAliases others
+
+-- the faults of the first three passes over a file
+abbrev pub early_passes : List ℕ → List (List Fault)
+early_passes bytes = passes_of (bad_line bytes) (rows_of bytes)
+
+-- what the first three passes over a file without faults say
+pub record Says (bytes : List ℕ) (found : Directives) : Type 0 where
+  pub kind : found.kind ≡ kind_said (lines_of FlagType (rows_of bytes))
+  pub aliases : found.aliases ≡ aliases_said found.kind (lines_of FlagAliases (rows_of bytes))
+  pub kept : found.kept ≡ rows_with FOURTH (rows_of bytes)
+
+-- the file has no fault in the first three passes, and this is what they say
+pub record Reads (bytes : List ℕ) (found : Directives) : Type 0 where
+  pub no_fault : (pass : ℕ) (fault : Fault) → ¬ IsFault (early_passes bytes) pass fault
+  pub says : Says bytes found
+
+-- the fault is the first of the passes
+abbrev pub IsFirst : List (List Fault) → AffFault → Type 0
+IsFirst passes (At line why) = first_fault passes ≡ Some (record { line = line; why = why })
+IsFirst passes NoMemory = Unit {0}

@@ -1,0 +1,104 @@
+//! The causes of faults, and which of two faults is told.
+
+ghost use Rattle.std.specs.Prelude.{◌≡◌};
+ghost use Rattle.aff_lines.specs.Faults.{cause_number, is_before, sooner};
+
+/// What is wrong with a line. Of two causes at one line the one that stands first here is told.
+#[derive(Clone, Copy, Debug, PartialEq, Eq)]
+pub enum AffWhy {
+    /// The line is not UTF-8.
+    NotUtf8,
+    /// The file names another encoding than UTF-8.
+    OtherEncoding,
+    /// The option is not built.
+    LeftOut,
+    /// A field that the option needs is not there.
+    MissingField,
+    /// The option may not be given again.
+    Twice,
+    /// A field is no number, or one that is too high.
+    BadNumber,
+    /// More lines are announced than are allowed.
+    TooMany,
+    /// Fewer lines follow than are announced.
+    TableShort,
+    /// There is no such type of flags.
+    OtherFlag,
+    /// Whether a class may be crossed is neither `Y` nor `N`.
+    BadCross,
+    /// A field lists no flags of the type, or not one.
+    BadFlag,
+    /// A field is not the ordinal of an alias.
+    BadAlias,
+    /// A bracket of a condition is not closed.
+    BadCondition,
+    /// A compound rule is no list of flags.
+    BadPattern,
+}
+
+/// A fault of an .aff file.
+#[derive(Clone, Copy, Debug, PartialEq, Eq)]
+pub struct Fault {
+    pub line: u64,
+    pub why: AffWhy,
+}
+
+/// Why an .aff file is not read.
+#[derive(Clone, Copy, Debug, PartialEq, Eq)]
+pub enum AffFault {
+    /// The file has a fault.
+    At { line: u64, why: AffWhy },
+    /// Memory for the answer could not be had.
+    NoMemory,
+}
+
+/// The earlier of two faults: the one at the lower line, and at one line the one whose cause stands first.
+pub fn sooner(first: Option<Fault>, other: Option<Fault>) -> Option<Fault>
+    ensures { result ≡ sooner first other }
+{
+    match (first, other) {
+        (None, other) => other,
+        (first, None) => first,
+        (Some(first), Some(other)) => Some(earlier(first, other)),
+    }
+}
+
+fn earlier(first: Fault, other: Fault) -> Fault
+    ensures { Some result ≡ sooner (Some first) (Some other) }
+{
+    if is_before(other, first) {
+        other
+    } else {
+        first
+    }
+}
+
+fn is_before(fault: Fault, other: Fault) -> bool
+    ensures { result ≡ is_before fault other }
+{
+    fault.line < other.line
+        || (fault.line == other.line && cause_number(fault.why) < cause_number(other.why))
+}
+
+/// The place of a cause among all causes, from 1.
+#[tactic(auto, unfolding(crate::specs::Faults::cause_number))]
+fn cause_number(why: AffWhy) -> u8
+    ensures { result ≡ cause_number why }
+{
+    match why {
+        AffWhy::NotUtf8 => 1,
+        AffWhy::OtherEncoding => 2,
+        AffWhy::LeftOut => 3,
+        AffWhy::MissingField => 4,
+        AffWhy::Twice => 5,
+        AffWhy::BadNumber => 6,
+        AffWhy::TooMany => 7,
+        AffWhy::TableShort => 8,
+        AffWhy::OtherFlag => 9,
+        AffWhy::BadCross => 10,
+        AffWhy::BadFlag => 11,
+        AffWhy::BadAlias => 12,
+        AffWhy::BadCondition => 13,
+        AffWhy::BadPattern => 14,
+    }
+}

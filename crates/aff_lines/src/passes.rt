@@ -1,0 +1,152 @@
+//! The earliest fault of a directive, and of a pass. Finding one takes no memory.
+
+ghost use Rattle.std.specs.Prelude.{◌≡◌, Some};
+ghost use Rattle.std.specs.Option.{option_copied};
+ghost use Rattle.aff_lines.specs.Faults.{least_of};
+ghost use Rattle.aff_lines.specs.Causes.{number_at};
+ghost use Rattle.aff_lines.specs.Grammar.{faults_at, once_faults, later_faults, rows_faults, place_faults, counted_faults, table_faults, all_left_out};
+ghost use Rattle.aff_lines.specs.Passes.{form_faults, directive_faults, pass_faults};
+ghost use Rattle.aff_lines.specs.Rows.{lines_of};
+
+use crate::causes::{line_why, number_at, row_why, unless};
+use crate::faults::{AffWhy, Fault, sooner};
+use crate::names::{Directive, Form, Row, form_of};
+use crate::rows::{Kept, count_of, next_of};
+use spell_types::FlagKind;
+
+/// How many rows a table may have.
+const MOST_ROWS: u64 = 65000;
+
+/// The earliest fault of these directives among the rows.
+pub fn find_fault(kind: FlagKind, rows: &[Kept], directives: &[Directive]) -> Option<Fault>
+    ensures { result ≡ least_of (pass_faults kind rows.now directives.now) }
+{
+    let mut found = None;
+    for directive in directives {
+        found = sooner(found, directive_fault(kind, rows, *directive));
+    }
+    found
+}
+
+/// The earliest fault of a directive among the rows.
+pub fn directive_fault(kind: FlagKind, rows: &[Kept], directive: Directive) -> Option<Fault>
+    ensures { result ≡ least_of (directive_faults kind rows.now directive) }
+{
+    form_fault(kind, form_of(directive), directive, rows)
+}
+
+/// The earliest fault of a directive, if it had this form.
+fn form_fault(kind: FlagKind, form: Form, directive: Directive, rows: &[Kept]) -> Option<Fault>
+    ensures { result ≡ least_of (form_faults kind form (lines_of directive rows.now)) }
+{
+    match form {
+        Form::Encoding => once_fault(kind, Form::Encoding, directive, rows),
+        Form::Kind => once_fault(kind, Form::Kind, directive, rows),
+        Form::Text => once_fault(kind, Form::Text, directive, rows),
+        Form::Flag => once_fault(kind, Form::Flag, directive, rows),
+        Form::Number => once_fault(kind, Form::Number, directive, rows),
+        Form::Switch => None,
+        Form::Table(row) => table_fault(kind, row, directive, rows),
+        Form::LeftOut => left_out_fault(directive, rows),
+    }
+}
+
+fn fault_at(why: Option<AffWhy>, line: &Kept) -> Option<Fault>
+    ensures { result ≡ least_of (faults_at why line.now) }
+{
+    let why = why?;
+    Some(Fault {
+        line: line.number,
+        why,
+    })
+}
+
+fn once_fault(kind: FlagKind, form: Form, directive: Directive, rows: &[Kept]) -> Option<Fault>
+    ensures { result ≡ least_of (once_faults kind form (lines_of directive rows.now)) }
+{
+    let (first, later) = next_of(directive, rows)?;
+    let mut found = fault_at(line_why(kind, form, first), first);
+    let mut rest = later;
+    while let Some((line, more)) = next_of(directive, rest) {
+        found = sooner(found, later_fault(kind, form, line));
+        rest = more;
+    }
+    found
+}
+
+fn later_fault(kind: FlagKind, form: Form, line: &Kept) -> Option<Fault>
+    ensures { result ≡ least_of (later_faults kind form line.now) }
+{
+    let twice = fault_at(Some(AffWhy::Twice), line);
+    sooner(twice, fault_at(line_why(kind, form, line), line))
+}
+
+fn left_out_fault(directive: Directive, rows: &[Kept]) -> Option<Fault>
+    ensures { result ≡ least_of (all_left_out (lines_of directive rows.now)) }
+{
+    let mut found = None;
+    let mut rest = rows;
+    while let Some((line, more)) = next_of(directive, rest) {
+        found = sooner(found, fault_at(Some(AffWhy::LeftOut), line));
+        rest = more;
+    }
+    found
+}
+
+fn table_fault(kind: FlagKind, row: Row, directive: Directive, rows: &[Kept]) -> Option<Fault>
+    ensures { result ≡ least_of (table_faults kind row (lines_of directive rows.now)) }
+{
+    let (header, later) = next_of(directive, rows)?;
+    let found = fault_at(line_why(kind, Form::Number, header), header);
+    sooner(found, counted_fault(kind, row, directive, header, later))
+}
+
+/// The earliest fault of a table, but for those of the header's number itself.
+fn counted_fault(
+    kind: FlagKind,
+    row: Row,
+    directive: Directive,
+    header: &Kept,
+    later: &[Kept],
+) -> Option<Fault>
+    ensures { result ≡ least_of (counted_faults kind row header.now (lines_of directive later.now) (number_at header.now)) }
+{
+    let count = number_at(header)?;
+    let has_all = count <= count_of(directive, later) as u64;
+    let many = fault_at(unless(count <= MOST_ROWS, AffWhy::TooMany), header);
+    let short = fault_at(unless(has_all, AffWhy::TableShort), header);
+    sooner(
+        many,
+        sooner(short, rows_fault(kind, row, directive, count, later)),
+    )
+}
+
+fn rows_fault(
+    kind: FlagKind,
+    row: Row,
+    directive: Directive,
+    count: u64,
+    rows: &[Kept],
+) -> Option<Fault>
+    ensures { result ≡ least_of (rows_faults kind row count (lines_of directive rows.now)) }
+{
+    let mut found = None;
+    let mut left = count;
+    let mut rest = rows;
+    while let Some((line, more)) = next_of(directive, rest) {
+        found = sooner(found, place_fault(kind, row, left, line));
+        left = left.saturating_sub(1);
+        rest = more;
+    }
+    found
+}
+
+fn place_fault(kind: FlagKind, row: Row, left: u64, line: &Kept) -> Option<Fault>
+    ensures { result ≡ least_of (place_faults kind row left line.now) }
+{
+    if left == 0 {
+        fault_at(Some(AffWhy::Twice), line)
+    } else {
+        fault_at(row_why(kind, row, line), line)
+    }
+}

@@ -1,0 +1,112 @@
+//! What the lines of a directive say.
+
+ghost use Rattle.std.specs.Prelude.{◌≡◌, IfOk, map, take, unwrap_or};
+ghost use Rattle.std.specs.Option.{option_copied};
+ghost use Rattle.aff_lines.specs.declared.names.Directive.{Directive};
+ghost use Rattle.aff_lines.specs.Causes.{number_at};
+ghost use Rattle.aff_lines.specs.Passes.{value_said, flag_said, number_said, is_said, IsTable, kind_said, set_in, aliases_said};
+ghost use Rattle.aff_lines.specs.Rows.{lines_of};
+
+use crate::causes::{kind_named, number_at, number_in};
+use crate::names::Directive;
+use crate::rows::{Kept, next_of, value_of};
+use flag_sets::{FlagFault, read_flags, read_one_flag};
+use lists::{Items, NoMemory};
+use spell_types::{Flag, FlagKind, FlagSet};
+use std::alloc::Global;
+
+/// The value of a directive: that of its first line.
+pub fn value_said(directive: Directive, rows: &[Kept]) -> Option<&str>
+    ensures { option_copied result ≡ value_said (lines_of directive rows.now) }
+{
+    let (line, _) = next_of(directive, rows)?;
+    value_of(line)
+}
+
+/// The flag of a directive.
+pub fn flag_said(kind: FlagKind, directive: Directive, rows: &[Kept]) -> Option<Flag>
+    ensures { result ≡ flag_said kind (lines_of directive rows.now) }
+{
+    read_one_flag(kind, value_said(directive, rows)?)
+}
+
+/// The number of a directive.
+pub fn number_said(directive: Directive, rows: &[Kept]) -> Option<u64>
+    ensures { result ≡ number_said (lines_of directive rows.now) }
+{
+    number_in(value_said(directive, rows)?)
+}
+
+/// Whether a switch is there.
+pub fn is_said(directive: Directive, rows: &[Kept]) -> bool
+    ensures { result ≡ is_said (lines_of directive rows.now) }
+{
+    next_of(directive, rows).is_some()
+}
+
+/// How many rows a table has, and the lines behind its header, of which they are the first.
+pub fn table_of(directive: Directive, rows: &[Kept]) -> Option<(u64, &[Kept])>
+    ensures { IsTable directive rows.now result }
+{
+    let (header, later) = next_of(directive, rows)?;
+    Some((number_at(header).unwrap_or(0), later))
+}
+
+/// The type of flags that the rows say.
+pub(crate) fn kind_said(rows: &[Kept]) -> FlagKind
+    ensures { result ≡ kind_said (lines_of Directive.FlagType rows.now) }
+{
+    match value_said(Directive::FlagType, rows) {
+        Some(value) => kind_named(value).unwrap_or(FlagKind::Single),
+        None => FlagKind::Single,
+    }
+}
+
+/// The flag aliases that the rows list.
+pub(crate) fn read_aliases(
+    alloc: Global,
+    kind: FlagKind,
+    rows: &[Kept],
+) -> Result<Option<Items<FlagSet>>, NoMemory>
+    ensures { IfOk result (λ aliases. aliases ≡ aliases_said kind (lines_of Directive.FlagAliases rows.now)) }
+{
+    let Some((count, later)) = table_of(Directive::FlagAliases, rows) else {
+        return Ok(None);
+    };
+    Ok(Some(read_sets(alloc, kind, count, later)?))
+}
+
+/// The sets of the first lines of AF, of so many.
+fn read_sets(
+    alloc: Global,
+    kind: FlagKind,
+    count: u64,
+    rows: &[Kept],
+) -> Result<Items<FlagSet>, NoMemory>
+    ensures { IfOk result (λ sets. sets ≡ map (set_in kind) (take count (lines_of Directive.FlagAliases rows.now))) }
+{
+    let mut sets = Items::new(alloc);
+    let mut left = count;
+    let mut rest = rows;
+    while left > 0 {
+        let Some((line, more)) = next_of(Directive::FlagAliases, rest) else {
+            return Ok(sets);
+        };
+        sets.push(read_set(alloc, kind, line)?)?;
+        left -= 1;
+        rest = more;
+    }
+    Ok(sets)
+}
+
+/// The set in the field behind a line's name.
+fn read_set(alloc: Global, kind: FlagKind, line: &Kept) -> Result<FlagSet, NoMemory>
+    ensures { IfOk result (λ set. set ≡ set_in kind line.now) }
+{
+    let text = value_of(line).unwrap_or("");
+    match read_flags(alloc, kind, None, text) {
+        Ok(set) => Ok(set),
+        Err(FlagFault::NoMemory) => Err(NoMemory),
+        Err(_) => Ok(FlagSet::new(alloc)),
+    }
+}
