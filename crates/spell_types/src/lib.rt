@@ -1,21 +1,17 @@
 //! The types of a dictionary. Their meaning stands in `specs/`, one module for each idea.
 #![tactic(auto)]
 
-mod conversions;
-
-pub use conversions::Conversion;
-use lists::{Copied, Items, NoMemory};
-use std::alloc::Global;
-
-mod flags;
-
-pub use flags::{Flag, FlagKind, FlagSet, has, sets_have_their_flags};
-
 mod attaching;
+mod conversions;
+mod flags;
 mod rules;
 
 pub use attaching::{attach, joined, matches_back, matches_front};
+pub use conversions::Conversion;
+pub use flags::{Flag, FlagKind, FlagSet, has, sets_have_their_flags};
+use lists::{Copied, Items, NoMemory};
 pub use rules::{Condition, Piece, Rule, Side};
+use std::alloc::Global;
 
 /// A text by its characters.
 pub type Chars = Items<char>;
