@@ -8,7 +8,8 @@ use Rattle.std.proofs.lemmas.List.Elements.{All-from_recursion}
 use Rattle.std.proofs.lemmas.Str.{encodes-append, length-encode}
 use lib.Utf8.{encode}
 use Rattle.std.proofs.Math.ListN.{drop_of_length-le}
-use Rattle.mark_types.specs.Words.{Word, Placed, placed, belongs, first_of, line_feed, characters_of, byte_count, is_letter_or_digit, word_of, is_outside, words_of}
+use Rattle.mark_types.specs.Characters.{line_feed, is_letter_or_digit}
+use Rattle.mark_types.specs.Words.{Word, Placed, placed, belongs, first_of, characters_of, byte_count, word_of, is_outside, words_of}
 use Rattle.mark_types.specs.declared.Span.{Span}
 use Rattle.mark_types.specs.Handed.{span_of}
 use Rattle.affedit.specs.Runs.{extended, closed}

@@ -1,6 +1,6 @@
 -- A run of characters that belong to a word, as it grows.
 use Rattle.std.specs.Prelude.{ℕ, ◌||◌, List, [], ◌∷◌, Option, Some, None, if◌then◌else◌}
-use Rattle.mark_types.specs.Words.{is_letter_or_digit}
+use Rattle.mark_types.specs.Characters.{is_letter_or_digit}
 use Rattle.mark_types.specs.declared.Span.{Span}
 use Rattle.affedit.specs.declared.cutter.Run.{Run}
 

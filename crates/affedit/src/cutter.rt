@@ -3,7 +3,8 @@
 ghost use Rattle.std.specs.Prelude.{◌≡◌, ◌+◌, ◌<◌, ◌≤◌, ◌^◌, ◌++◌, IfOk, OnOk, map, length, encode_utf8_all, Some};
 ghost use Rattle.std.specs.Char.{len_utf8};
 ghost use Rattle.std.specs.Str.{chars};
-ghost use Rattle.mark_types.specs.Words.{is_word_character, belongs, is_apostrophe, is_combining_mark, byte_count, words_of};
+ghost use Rattle.mark_types.specs.Characters.{is_word_character, is_apostrophe, is_combining_mark};
+ghost use Rattle.mark_types.specs.Words.{belongs, byte_count, words_of};
 ghost use Rattle.mark_types.specs.Handed.{span_of};
 ghost use Rattle.affedit.specs.Runs.{extended, closed};
 
@@ -102,14 +103,14 @@ fn is_apostrophe(c: char) -> bool
     c == '\'' || c == '\u{2019}'
 }
 
-#[tactic(auto, unfolding(mark_types::specs::Words::is_combining_mark))]
+#[tactic(auto, unfolding(mark_types::specs::Characters::is_combining_mark))]
 fn is_combining_mark(c: char) -> bool
     ensures { result ≡ is_combining_mark c }
 {
     GeneralCategoryGroup::Mark.contains(GeneralCategory::for_char(c))
 }
 
-#[tactic(auto, unfolding(mark_types::specs::Words::is_word_character))]
+#[tactic(auto, unfolding(mark_types::specs::Characters::is_word_character))]
 fn is_word_character(wordchars: &[char], c: char) -> bool
     ensures { result ≡ is_word_character wordchars.now c }
 {

@@ -7,7 +7,8 @@ use Rattle.std.proofs.lemmas.Bool.{le-leb, lt-leb}
 use Rattle.std.proofs.lemmas.List.{map-append, append-nil}
 use Rattle.std.proofs.lemmas.List.Elements.{filter_map-append, filter-append}
 use Rattle.spell_types.specs.declared.Lexicon.{Lexicon}
-use Rattle.mark_types.specs.Words.{Word, Placed, placed, belongs, is_word_character, first_of, line_feed, characters_of, byte_count, is_letter_or_digit, word_of, is_outside, words_of, StandsIn}
+use Rattle.mark_types.specs.Characters.{is_word_character, line_feed, is_letter_or_digit}
+use Rattle.mark_types.specs.Words.{Word, Placed, placed, belongs, first_of, characters_of, byte_count, word_of, is_outside, words_of, StandsIn}
 use Rattle.mark_types.specs.Marks.{LocatedWord, located_at, located_in, located_words, in_paragraph, one_by_one, joined, marks_of, is_unknown}
 use Rattle.mark_types.proofs.Cutting.{slice_split-append, slice_split-map}
 use Rattle.mark_types.proofs.Standing.{byte_count-cons, byte_count-append, words_of-stand}

@@ -4,7 +4,8 @@ use Rattle.std.specs.List.{list_any, filter_map, cons_option, slice_split, AllBy
 use Rattle.std.specs.Char.{len_utf8}
 use Rattle.std.proofs.lemmas.List.{map-append}
 use Rattle.std.proofs.lemmas.Str.{encodes-append, length-encode}
-use Rattle.mark_types.specs.Words.{Placed, placed, line_feed, characters_of, byte_count, is_letter_or_digit, word_of, is_outside, words_of, StandsIn}
+use Rattle.mark_types.specs.Characters.{line_feed, is_letter_or_digit}
+use Rattle.mark_types.specs.Words.{Placed, placed, characters_of, byte_count, word_of, is_outside, words_of, StandsIn}
 use lib.Utf8.{encode}
 use Rattle.mark_types.proofs.Cutting.{IsPart, slice_split-parts}
 

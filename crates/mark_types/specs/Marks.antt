@@ -3,7 +3,8 @@ use Rattle.std.specs.Prelude.{ℕ, ◌+◌, ◌-◌, Bool, not, nat_le, List, []
 use Rattle.std.specs.List.{join_with_byte, flat_map, enumerate_from}
 use Rattle.spell_types.specs.declared.Lexicon.{Lexicon}
 use Rattle.spell_types.specs.Yields.{yields}
-use Rattle.mark_types.specs.Words.{Word, line_feed, byte_count, words_of}
+use Rattle.mark_types.specs.Characters.{line_feed}
+use Rattle.mark_types.specs.Words.{Word, byte_count, words_of}
 
 -- the whole text: its paragraphs, with a line feed between each two
 abbrev pub joined : List (List ℕ) → List ℕ

@@ -1,28 +1,8 @@
 -- The words of a text, which is the list of its characters.
-use Rattle.std.specs.Prelude.{◌≡◌, ℕ, ◌+◌, Bool, not, ◌&&◌, ◌||◌, ◌==◌, List, [], ◌∷◌, ◌++◌, length, map, Option, Some, None, if◌then◌else◌, encode_utf8_all}
+use Rattle.std.specs.Prelude.{◌≡◌, ℕ, ◌+◌, Bool, not, ◌&&◌, ◌||◌, List, [], ◌∷◌, ◌++◌, length, map, Option, Some, None, if◌then◌else◌, encode_utf8_all}
 use Rattle.std.specs.List.{list_any, filter_map, slice_split}
-use Rattle.std.specs.Char.{len_utf8, is_ascii_digit}
-use Rattle.unicode.specs.Binary.{is_alphabetic}
-use Rattle.unicode.specs.GeneralCategory.{general_category}
-use Rattle.unicode.specs.GeneralCategoryGroup.{in_group}
-use Rattle.ucd_category.specs.declared.GeneralCategoryGroup.TheVariants.{Mark}
-
-abbrev pub line_feed : ℕ
-line_feed = 10
-
--- the typewriter's apostrophe and the typographer's
-abbrev pub is_apostrophe : ℕ → Bool
-is_apostrophe c = c == 0x27 || c == 0x2019
-
--- a combining mark: one of the general categories Mn, Mc and Me
-unfoldable pub is_combining_mark : ℕ → Bool
-is_combining_mark c = in_group Mark (general_category c)
-
--- a letter, a combining mark or a character of WORDCHARS; but never an apostrophe or a line feed
-unfoldable pub is_word_character : List ℕ → ℕ → Bool
-is_word_character wordchars c =
-    not (is_apostrophe c || c == line_feed)
-    && (is_alphabetic c || is_combining_mark c || list_any (λ w. w == c) wordchars)
+use Rattle.std.specs.Char.{len_utf8}
+use Rattle.mark_types.specs.Characters.{line_feed, is_apostrophe, is_word_character, is_letter_or_digit}
 
 -- whether a character that stands between these two belongs to a word: a word character does, and so
 -- does an apostrophe between two word characters
@@ -61,9 +41,6 @@ characters_of run = map (λ p. p.character) run
 -- how many bytes a text takes
 abbrev pub byte_count : List ℕ → ℕ
 byte_count text = length (encode_utf8_all text)
-
-abbrev pub is_letter_or_digit : ℕ → Bool
-is_letter_or_digit c = is_alphabetic c || is_ascii_digit c
 
 -- the word that a run of characters is, if one of them is a letter or a digit
 abbrev pub word_of : List Placed → Option Word

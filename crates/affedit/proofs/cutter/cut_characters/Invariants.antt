@@ -1,6 +1,7 @@
 -- What is cut already and what is cut of the rest are all that is cut.
 use Rattle.std.proofs.Common.{◌≡◌, ◌+◌, ◌++◌, None, drop}
-use Rattle.mark_types.specs.Words.{byte_count, line_feed}
+use Rattle.mark_types.specs.Characters.{line_feed}
+use Rattle.mark_types.specs.Words.{byte_count}
 use Rattle.affedit.proofs.CutLemmas.{spans_from}
 use Rattle.affedit.proofs.cutter.cut_characters.Given as goal
 
