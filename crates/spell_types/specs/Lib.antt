@@ -2,5 +2,8 @@ pub mod Attaching
 pub mod Cases
 pub mod Conditions
 pub mod Conversions
+pub mod Derivations
 pub mod Flags
+pub mod Licences
+pub mod Sanity
 pub mod Yields

@@ -3,14 +3,20 @@
 
 mod attaching;
 mod conversions;
+mod derivations;
 mod flags;
 mod rules;
+mod signs;
+mod texts;
 
 pub use attaching::{attach, joined, matches_back, matches_front};
 pub use conversions::Conversion;
+pub use derivations::Derivation;
 pub use flags::{Flag, FlagKind, FlagSet, has, sets_have_their_flags};
 use lists::{Copied, Items, NoMemory};
 pub use rules::{Condition, Piece, Rule, Side};
+pub use signs::{Options, Signs};
+pub use texts::chars_of;
 use std::alloc::Global;
 
 /// A text by its characters.
@@ -23,11 +29,20 @@ pub type Entries = Items<Entry>;
 #[derive(Debug, Drop)]
 pub struct Entry {
     pub word: Chars,
+    pub flags: FlagSet,
 }
 
 /// What the .aff file says.
 #[derive(Debug, Drop)]
 pub struct Affixes {
+    /// How both files write flags.
+    pub kind: FlagKind,
+    /// The sets that ordinals stand for, where flag fields are ordinals: the option AF of hunspell(5).
+    pub aliases: Option<Items<FlagSet>>,
+    /// The rules of all affix classes, in the order of the file.
+    pub rules: Items<Rule>,
+    pub signs: Signs,
+    pub options: Options,
     /// The characters that are word characters beside letters and marks: the option WORDCHARS of
     /// hunspell(5).
     pub wordchars: Chars,
@@ -44,6 +59,7 @@ impl Copied for Entry {
     fn copy(&self, alloc: Global) -> Result<Entry, NoMemory> {
         Ok(Entry {
             word: self.word.copy(alloc)?,
+            flags: self.flags.copy(alloc)?,
         })
     }
 }
