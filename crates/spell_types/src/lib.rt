@@ -5,19 +5,23 @@ mod attaching;
 mod conversions;
 mod derivations;
 mod flags;
+mod licences;
 mod rules;
 mod signs;
+#[cfg(test)]
+mod tests;
 mod texts;
 
 pub use attaching::{attach, joined, matches_back, matches_front};
 pub use conversions::Conversion;
-pub use derivations::Derivation;
+pub use derivations::{Derivation, form};
 pub use flags::{Flag, FlagKind, FlagSet, has, sets_have_their_flags};
+pub use licences::{alone, forbidden, licensed, sound};
 use lists::{Copied, Items, NoMemory};
 pub use rules::{Condition, Piece, Rule, Side};
 pub use signs::{Options, Signs};
-pub use texts::chars_of;
 use std::alloc::Global;
+pub use texts::chars_of;
 
 /// A text by its characters.
 pub type Chars = Items<char>;
