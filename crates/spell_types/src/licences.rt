@@ -1,6 +1,6 @@
 //! Which derivations are licensed, sound, words that stand alone, and forbidden.
 
-ghost use Rattle.std.specs.Prelude.{◌≡◌, ◌&&◌};
+ghost use Rattle.std.specs.Prelude.{◌≡◌};
 ghost use Rattle.std.specs.Option.{option_map};
 ghost use Rattle.spell_types.specs.Flags.{has};
 ghost use Rattle.spell_types.specs.Licences.{carried_by, allows, crosses, is_affix_without, has_affix, meets_need, meets_circumfix, some_carry, is_first_allowed, is_second_allowed, is_prefix_allowed, is_crossing_right, is_allowed, meets_signs, may_stand_alone, is_licensed, is_sound, is_alone, is_forbidden};
