@@ -1,0 +1,5 @@
+pub mod InverseLemmas
+pub mod ListLemmas
+pub mod MemberLemmas
+pub mod OrderLemmas
+pub mod StripLemmas
