@@ -1,5 +1,5 @@
 -- Which faults a file has, and which of them is told.
-use Rattle.std.specs.Prelude.{◌≡◌, ℕ, zero, suc, ◌==◌, ◌||◌, ◌&&◌, ◌⊎◌, nat_lt, Bool, false, List, [], ◌∷◌, Option, None, Some, if◌then◌else◌}
+use Rattle.std.specs.Prelude.{◌≡◌, ℕ, zero, suc, ◌==◌, ◌||◌, ◌&&◌, ◌⊎◌, nat_lt, Bool, false, List, [], ◌∷◌, Option, None, Some, if◌then◌else◌, codes}
 use Rattle.std.specs.Option.{option_or}
 use Rattle.aff_lines.specs.declared.faults.AffWhy.{AffWhy}
 use Rattle.aff_lines.specs.declared.faults.AffWhy.TheVariants.{NotUtf8, OtherEncoding, LeftOut, MissingField, Twice, BadNumber, TooMany, TableShort, OtherFlag, BadCross, BadFlag, BadAlias, BadCondition, BadPattern}
@@ -23,6 +23,23 @@ cause_number BadFlag = 11
 cause_number BadAlias = 12
 cause_number BadCondition = 13
 cause_number BadPattern = 14
+
+-- the cause as it is printed
+unfoldable pub why_name : AffWhy → List ℕ
+why_name NotUtf8 = codes "NotUtf8"
+why_name OtherEncoding = codes "OtherEncoding"
+why_name LeftOut = codes "LeftOut"
+why_name MissingField = codes "MissingField"
+why_name Twice = codes "Twice"
+why_name BadNumber = codes "BadNumber"
+why_name TooMany = codes "TooMany"
+why_name TableShort = codes "TableShort"
+why_name OtherFlag = codes "OtherFlag"
+why_name BadCross = codes "BadCross"
+why_name BadFlag = codes "BadFlag"
+why_name BadAlias = codes "BadAlias"
+why_name BadCondition = codes "BadCondition"
+why_name BadPattern = codes "BadPattern"
 
 -- whether a fault goes before another: it is at a lower line, or at the same line with a lower cause
 abbrev pub is_before : Fault → Fault → Bool

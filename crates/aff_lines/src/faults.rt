@@ -1,7 +1,7 @@
 //! The causes of faults, and which of two faults is told.
 
 ghost use Rattle.std.specs.Prelude.{◌≡◌};
-ghost use Rattle.aff_lines.specs.Faults.{cause_number, is_before, sooner};
+ghost use Rattle.aff_lines.specs.Faults.{cause_number, why_name, is_before, sooner};
 
 /// What is wrong with a line. Of two causes at one line the one that stands first here is told.
 #[derive(Clone, Copy, Debug, PartialEq, Eq)]
@@ -34,6 +34,31 @@ pub enum AffWhy {
     BadCondition,
     /// A compound rule is no list of flags.
     BadPattern,
+}
+
+impl AffWhy {
+    /// The name of the cause, as the program prints it.
+    #[tactic(auto, unfolding(crate::specs::Faults::why_name))]
+    pub fn name(self) -> &'static str
+        ensures { result.now ≡ why_name self }
+    {
+        match self {
+            AffWhy::NotUtf8 => "NotUtf8",
+            AffWhy::OtherEncoding => "OtherEncoding",
+            AffWhy::LeftOut => "LeftOut",
+            AffWhy::MissingField => "MissingField",
+            AffWhy::Twice => "Twice",
+            AffWhy::BadNumber => "BadNumber",
+            AffWhy::TooMany => "TooMany",
+            AffWhy::TableShort => "TableShort",
+            AffWhy::OtherFlag => "OtherFlag",
+            AffWhy::BadCross => "BadCross",
+            AffWhy::BadFlag => "BadFlag",
+            AffWhy::BadAlias => "BadAlias",
+            AffWhy::BadCondition => "BadCondition",
+            AffWhy::BadPattern => "BadPattern",
+        }
+    }
 }
 
 /// A fault of an .aff file.

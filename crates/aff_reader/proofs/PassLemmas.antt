@@ -1,0 +1,75 @@
+-- The first fault of the early passes and one more, and what is read of a file.
+use Rattle.std.proofs.Common.{◌≡◌, ℕ, List, [], ◌∷◌, ◌++◌, Option, Some, None, Result, Ok, Err, IfOk, IfErr, refl, sym, ap, ◌∙◌, subst, arith}
+use Rattle.std.specs.Option.{option_or}
+use Rattle.spell_types.specs.declared.Affixes.{Affixes}
+use Rattle.spell_types.specs.declared.flags.FlagKind.{FlagKind}
+use Rattle.spell_types.specs.Sanity.{AreSaneAffixes}
+use Rattle.aff_lines.specs.declared.faults.AffFault.{AffFault}
+use Rattle.aff_lines.specs.declared.faults.AffFault.TheVariants.{At, NoMemory}
+use Rattle.aff_lines.specs.declared.faults.Fault.{Fault}
+use Rattle.aff_lines.specs.declared.rows.Kept.{Kept}
+use Rattle.aff_lines.specs.Faults.{least_of, first_fault, IsFault, IsLeast}
+use Rattle.aff_lines.specs.Passes.{early_passes}
+use Rattle.aff_reader.specs.Grammar.{kind_of, kept_of, late_faults, aff_passes, aff_said, unless_fault, aff_read, AffReads, AffRefuses, IsRead}
+
+or-none : (found : Option Fault) → option_or found None ≡ found
+or-none None = refl
+or-none (Some fault) = refl
+
+or-assoc : (a b c : Option Fault) → option_or a (option_or b c) ≡ option_or (option_or a b) c
+or-assoc None b c = refl
+or-assoc (Some a) b c = refl
+
+-- a pass behind others decides where they have no fault
+pub first_behind : (passes : List (List Fault)) (late : List Fault) → first_fault (passes ++ late ∷ []) ≡ option_or (first_fault passes) (least_of late)
+first_behind [] late = or-none (least_of late)
+first_behind (faults ∷ passes) late =
+    ap (option_or (least_of faults)) (first_behind passes late) ∙ or-assoc (least_of faults) (first_fault passes) (least_of late)
+
+-- a file whose first fault is one of the fourth pass
+pub read_late : (bytes : List ℕ) (kind : FlagKind) (rows : List Kept) (fault : Fault) → kind ≡ kind_of bytes → rows ≡ kept_of bytes
+    → first_fault (early_passes bytes) ≡ None → least_of (late_faults kind rows) ≡ Some fault → aff_read bytes ≡ Err fault
+unfolding aff_read
+read_late bytes kind rows fault same_kind same_rows fine late =
+    let own : late_faults (kind_of bytes) (kept_of bytes) ≡ late_faults kind rows =
+    ap (λ k. late_faults k (kept_of bytes)) (sym same_kind) ∙ ap (late_faults kind) (sym same_rows) in
+    ap (λ found. unless_fault found (aff_said bytes))
+    (first_behind (early_passes bytes) (late_faults (kind_of bytes) (kept_of bytes))
+    ∙ ap (λ found. option_or found (least_of (late_faults (kind_of bytes) (kept_of bytes)))) fine
+    ∙ ap least_of own ∙ late)
+
+-- what is read, taken apart
+
+read-ok : (found : Option Fault) (said affixes : Affixes) → unless_fault found said ≡ Ok affixes → (found ≡ None) × (affixes ≡ said)
+read-ok None said affixes is = (refl, cc is)
+read-ok (Some fault) said affixes is = absurd (cc is)
+
+read-err : (found : Option Fault) (said : Affixes) (fault : Fault) → unless_fault found said ≡ Err fault → found ≡ Some fault
+read-err None said fault is = absurd (cc is)
+read-err (Some first) said fault is = cc is
+
+pub reads_as_said : (bytes : List ℕ) (result : Result Affixes AffFault) → IsRead (aff_read bytes) result
+    → ((passes : List (List Fault)) → first_fault passes ≡ None → (pass : ℕ) (fault : Fault) → ¬ IsFault passes pass fault)
+    → IfOk result (AffReads bytes)
+unfolding aff_read
+reads_as_said bytes (Ok affixes) is law =
+    let apart = read-ok (first_fault (aff_passes bytes)) (aff_said bytes) affixes is in
+    record { no_fault = law (aff_passes bytes) apart.0; says = apart.1 }
+reads_as_said bytes (Err fault) is law = tt
+
+pub refuses_at_first : (bytes : List ℕ) (result : Result Affixes AffFault) → IsRead (aff_read bytes) result
+    → ((passes : List (List Fault)) (fault : Fault) → first_fault passes ≡ Some fault → (pass : ℕ) × IsLeast (IsFault passes pass) fault)
+    → IfErr result (AffRefuses bytes)
+unfolding aff_read
+refuses_at_first bytes (Ok affixes) is law = tt
+refuses_at_first bytes (Err NoMemory) is law = tt
+refuses_at_first bytes (Err (At line why)) is law =
+    let fault : Fault = record { line = line; why = why } in
+    law (aff_passes bytes) fault (read-err (first_fault (aff_passes bytes)) (aff_said bytes) fault is)
+
+pub reads_sane : (bytes : List ℕ) (result : Result Affixes AffFault) → IsRead (aff_read bytes) result → IfOk result AreSaneAffixes
+unfolding aff_read
+reads_sane bytes (Ok affixes) is =
+    let apart = read-ok (first_fault (aff_passes bytes)) (aff_said bytes) affixes is in
+    subst AreSaneAffixes (sym apart.1) (omega arith)
+reads_sane bytes (Err fault) is = tt

@@ -1,0 +1,89 @@
+-- The grammar of the .aff file: the faults of its four passes, and what it says.
+use Rattle.std.specs.Prelude.{◌≡◌, ℕ, false, List, [], ◌∷◌, ◌++◌, Option, None, Some, Result, Ok, Err, unwrap_or}
+use Rattle.std.specs.Str.{chars}
+use Rattle.spell_types.specs.declared.Affixes.{Affixes}
+use Rattle.spell_types.specs.declared.flags.Flag.{Flag}
+use Rattle.spell_types.specs.declared.flags.FlagKind.{FlagKind}
+use Rattle.spell_types.specs.declared.signs.Options.{Options}
+use Rattle.spell_types.specs.declared.signs.Signs.{Signs}
+use Rattle.aff_lines.specs.declared.faults.AffFault.{AffFault}
+use Rattle.aff_lines.specs.declared.faults.AffFault.TheVariants.{At, NoMemory}
+use Rattle.aff_lines.specs.declared.faults.Fault.{Fault}
+use Rattle.aff_lines.specs.declared.names.Directive.TheVariants.{FlagType, FlagAliases, WordCharacters, NeedAffix, ForbiddenWord, Warn, OnlyInCompound, ForbidWarn}
+use Rattle.aff_lines.specs.declared.names.TheConstants.{FOURTH}
+use Rattle.aff_lines.specs.declared.rows.Kept.{Kept}
+use Rattle.aff_lines.specs.Faults.{first_fault, IsFault, Refuses}
+use Rattle.aff_lines.specs.Passes.{early_passes, pass_faults, kind_said, aliases_said, flag_said, is_said, value_said}
+use Rattle.aff_lines.specs.Rows.{rows_of, rows_with, lines_of}
+
+-- the type of flags of a file
+abbrev pub kind_of : List ℕ → FlagKind
+kind_of bytes = kind_said (lines_of FlagType (rows_of bytes))
+
+-- the rows of the fourth pass
+abbrev pub kept_of : List ℕ → List Kept
+kept_of bytes = rows_with FOURTH (rows_of bytes)
+
+-- the faults of the fourth pass
+abbrev pub late_faults : FlagKind → List Kept → List Fault
+late_faults kind rows = pass_faults kind rows FOURTH
+
+-- the faults of a file, pass by pass
+abbrev pub aff_passes : List ℕ → List (List Fault)
+aff_passes bytes = early_passes bytes ++ late_faults (kind_of bytes) (kept_of bytes) ∷ []
+
+-- The flags with a meaning; those whose options are not built have none.
+abbrev pub signs_said : FlagKind → List Kept → Signs
+signs_said kind rows = record {
+  need_affix = flag_said kind (lines_of NeedAffix rows);
+  circumfix = None;
+  forbidden = flag_said kind (lines_of ForbiddenWord rows);
+  warn = flag_said kind (lines_of Warn rows);
+  only_inside = flag_said kind (lines_of OnlyInCompound rows);
+}
+
+-- the switches
+abbrev pub options_said : List Kept → Options
+options_said rows = record { full_strip = false; forbid_warn = is_said (lines_of ForbidWarn rows) }
+
+-- the characters of a text that may be there
+abbrev pub characters_said : Option (List ℕ) → List ℕ
+characters_said value = chars (unwrap_or value [])
+
+-- what the rows of the fourth pass say, beside the type of flags and the aliases
+abbrev pub affixes_said : FlagKind → Option (List (List Flag)) → List Kept → Affixes
+affixes_said kind aliases rows = record {
+  kind = kind;
+  aliases = aliases;
+  rules = [];
+  signs = signs_said kind rows;
+  options = options_said rows;
+  wordchars = characters_said (value_said (lines_of WordCharacters rows));
+}
+
+-- what a file without faults says
+abbrev pub aff_said : List ℕ → Affixes
+aff_said bytes = affixes_said (kind_of bytes) (aliases_said (kind_of bytes) (lines_of FlagAliases (rows_of bytes))) (kept_of bytes)
+
+abbrev pub unless_fault : Option Fault → Affixes → Result Affixes Fault
+unless_fault None affixes = Ok affixes
+unless_fault (Some fault) affixes = Err fault
+
+-- what is read of a file, or its first fault
+unfoldable pub aff_read : List ℕ → Result Affixes Fault
+aff_read bytes = unless_fault (first_fault (aff_passes bytes)) (aff_said bytes)
+
+-- the file has no fault, and this is what it says
+pub record AffReads (bytes : List ℕ) (affixes : Affixes) : Type 0 where
+  pub no_fault : (pass : ℕ) (fault : Fault) → ¬ IsFault (aff_passes bytes) pass fault
+  pub says : affixes ≡ aff_said bytes
+
+-- the fault is the first of the file: of the first pass that has one, at the lowest line, and there of the lowest cause
+abbrev pub AffRefuses : List ℕ → AffFault → Type 0
+AffRefuses bytes fault = Refuses (aff_passes bytes) fault
+
+-- the reader gives this, or has no memory
+abbrev pub IsRead : Result Affixes Fault → Result Affixes AffFault → Type 0
+IsRead read (Ok affixes) = read ≡ Ok affixes
+IsRead read (Err (At line why)) = read ≡ Err (record { line = line; why = why })
+IsRead read (Err NoMemory) = Unit {0}
