@@ -1,1 +1,2 @@
+pub mod SlashLemmas
 pub mod TextLemmas

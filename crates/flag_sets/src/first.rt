@@ -1,6 +1,7 @@
 //! The first flag of a text, and the text after it.
 
-ghost use Rattle.std.specs.Prelude.{◌≡◌, ◌<◌, [], ◌∷◌, length, IfNone, IfSome};
+ghost use Rattle.std.specs.Prelude.{◌≡◌, ◌<◌, [], ◌∷◌, ◌++◌, length, IfNone, IfSome};
+ghost use Rattle.std.specs.Char.{encode_utf8};
 ghost use Rattle.std.specs.Str.{chars};
 ghost use Rattle.flag_sets.specs.FlagTexts.{listed_flags, character_flags, long_flags, number_flags, flag_of_item, GoesOn};
 
@@ -64,10 +65,11 @@ fn flag_of_number(item: &str) -> Option<Flag>
 }
 
 /// The first character of a text, and the rest of it.
-fn next_character(text: &str) -> Option<(char, &str)>
+pub(crate) fn next_character(text: &str) -> Option<(char, &str)>
     ensures ends { IfNone result (length text.now ≡ 0) }
     ensures none { IfNone result (chars text.now ≡ []) }
     ensures first { IfSome result (λ found. chars text.now ≡ found.0 ∷ chars found.1.now) }
+    ensures encoded { IfSome result (λ found. text.now ≡ encode_utf8 found.0 ++ found.1.now) }
     ensures shorter { IfSome result (λ found. length found.1.now < length text.now) }
 {
     let mut characters = text.chars();

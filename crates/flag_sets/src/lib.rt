@@ -15,9 +15,11 @@ use std::alloc::Global;
 use text_lines::decimal;
 
 mod first;
+mod slashes;
 #[cfg(test)]
 mod tests;
 
+pub use slashes::push_before_slash;
 pub use spell_types::has;
 
 /// Why a text is no flag field.

@@ -1,5 +1,6 @@
 //! What no clause says: that the rules are those of the definitions, and that calls succeed.
 use super::*;
+use spell_types::chars_of;
 use std::process::Abort;
 use std::test::Fail;
 
@@ -183,5 +184,51 @@ fn tells_flags(rt: HostRuntime) -> Result<(), Fail> {
     assert!(rt; !has(&set, None));
     assert!(rt; !has(&FlagSet::new(rt.alloc()), None));
     fields_have_their_flags();
+    Ok(())
+}
+
+/// The characters that a text has before its slash, and the text behind it.
+fn assert_parted(
+    rt: &impl Abort,
+    alloc: Global,
+    text: &str,
+    want: &str,
+    behind: Option<&str>,
+) -> Result<(), NoMemory> {
+    let mut word = chars_of(alloc, "+")?;
+    let found = push_before_slash(&mut word, text)?;
+    let mut own = String::new(alloc);
+    for c in word.as_slice() {
+        own.push(*c)?;
+    }
+    assert_eq!(rt; own.as_str().strip_prefix('+'), Some(want), "of {text:?}");
+    assert_eq!(rt; found, behind, "of {text:?}");
+    Ok(())
+}
+
+#[test]
+fn parts_at_the_slash(rt: HostRuntime) -> Result<(), Fail> {
+    let table = [
+        ("", "", None),
+        ("/", "", Some("")),
+        ("/A", "", Some("A")),
+        ("ab", "ab", None),
+        ("ab/", "ab", Some("")),
+        ("ab/A/B", "ab", Some("A/B")),
+        ("ab//A", "ab", Some("/A")),
+        ("a\\/b/A\\/", "a/b", Some("A\\/")),
+        ("\\//A", "/", Some("A")),
+        // A backslash stands for itself elsewhere, also before the one that escapes the slash.
+        ("\\\\/A", "\\/A", None),
+        ("a\\b\\", "a\\b\\", None),
+        (
+            "\u{e4}\\\u{2019}/\u{1f600}",
+            "\u{e4}\\\u{2019}",
+            Some("\u{1f600}"),
+        ),
+    ];
+    for (text, want, behind) in table {
+        assert_parted(&rt, rt.alloc(), text, want, behind)?;
+    }
     Ok(())
 }
