@@ -1,0 +1,106 @@
+//! Reads .dic files: the words of a dictionary with their flags.
+//!
+//! The first line holds a count, of which only its first digit is looked at. Behind it each line has one
+//! entry, except lines that are blank or begin with a tab. An entry goes to the first tab, or to a space
+//! before a field of morphology as `po:noun`; spaces at its ends are dropped. Its flags stand behind its first
+//! slash that is not its first character and that no backslash precedes. `\/` is a slash of the word.
+#![tactic(auto)]
+
+ghost use Rattle.std.specs.Prelude.{◌≡◌, ◌<◌, ◌^◌, All, Ok, IfOk, IfErr};
+ghost use Rattle.text_lines.specs.Lines.{IsInside};
+ghost use Rattle.spell_types.specs.Sanity.{AreSaneEntries};
+ghost use Rattle.dic_reader.specs.Entries.{listed};
+ghost use Rattle.dic_reader.specs.Faults.{entries_read, lines_read, IsTold, DicReads, DicRefuses};
+
+use crate::cutting::{entry_of, is_count, is_passed_over};
+use crate::faults::{DicFault, DicWhy};
+use crate::words::read_entry;
+use lists::Items;
+use spell_types::{Affixes, Entries};
+use std::alloc::Global;
+use text_lines::found::Line;
+use text_lines::{line_text, lines};
+
+mod cutting;
+pub mod faults;
+#[cfg(test)]
+mod tests;
+mod words;
+
+/// How many entries a file may have.
+const ENTRY_LIMIT: usize = 1_000_000;
+
+/// The entries of a .dic file in their order, or its first fault. `affixes` says how its flags are written. A
+/// line that is not UTF-8 is told before all other faults. A file without lines lacks its count at line 1.
+#[tactic(auto, unfolding(crate::specs::Faults::dic_read, crate::specs::Faults::dic_fault))]
+pub fn read_dic(alloc: Global, affixes: &Affixes, bytes: &[u8]) -> Result<Entries, DicFault>
+    ensures read { IfOk result (DicReads affixes.now bytes.now) }
+    ensures refused { IfErr result (DicRefuses affixes.now bytes.now) }
+    ensures sane { IfOk result AreSaneEntries }
+{
+    let found = lines(alloc, bytes)?;
+    if let Some(line) = found.bad {
+        return Err(DicFault::At {
+            line,
+            why: DicWhy::NotUtf8,
+        });
+    }
+    read_lines(alloc, affixes, bytes, found.good.as_slice())
+}
+
+/// The entries of lines of which the first has to count.
+#[tactic(auto, unfolding(crate::specs::Faults::entries_read))]
+fn read_lines(
+    alloc: Global,
+    affixes: &Affixes,
+    bytes: &[u8],
+    lines: &[Line],
+) -> Result<Entries, DicFault>
+    requires { All (IsInside bytes.now) lines.now }
+    ensures read { IfOk result (λ entries. lines_read affixes.now bytes.now lines.now ≡ Ok entries) }
+    ensures refused { IfErr result (IsTold (lines_read affixes.now bytes.now lines.now)) }
+    ensures sane { IfOk result AreSaneEntries }
+{
+    match lines.split_first() {
+        Some((count, later)) if is_count(line_text(bytes, count)) => {
+            read_entries(alloc, affixes, bytes, later, ENTRY_LIMIT)
+        }
+        _ => Err(DicFault::At {
+            line: 1,
+            why: DicWhy::BadCount,
+        }),
+    }
+}
+
+/// The entries of these lines, of which there may be so many.
+fn read_entries(
+    alloc: Global,
+    affixes: &Affixes,
+    bytes: &[u8],
+    lines: &[Line],
+    limit: usize,
+) -> Result<Entries, DicFault>
+    requires inside { All (IsInside bytes.now) lines.now }
+    requires few { limit < 2 ^ 32 }
+    ensures read { IfOk result
+        (λ entries. entries_read affixes.now limit (listed bytes.now lines.now) ≡ Ok entries) }
+    ensures refused { IfErr result (IsTold (entries_read affixes.now limit (listed bytes.now lines.now))) }
+    ensures sane { IfOk result AreSaneEntries }
+{
+    let mut entries = Items::new(alloc);
+    for line in lines {
+        let text = line_text(bytes, line);
+        if is_passed_over(text) {
+            continue;
+        }
+        let entry = read_entry(alloc, affixes, line.number, entry_of(text))?;
+        if entries.as_slice().len() == limit {
+            return Err(DicFault::At {
+                line: line.number,
+                why: DicWhy::TooMany,
+            });
+        }
+        entries.push(entry)?;
+    }
+    Ok(entries)
+}

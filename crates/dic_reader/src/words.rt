@@ -1,0 +1,61 @@
+//! The word and the flags of an entry.
+
+ghost use Rattle.std.specs.Prelude.{◌≡◌, ◌++◌, ◌<◌, length, Ok, OnOk, IfOk, IfErr};
+ghost use Rattle.std.specs.Option.{option_copied};
+ghost use Rattle.dic_reader.specs.Entries.{entry_at, flag_text, word_of};
+ghost use Rattle.dic_reader.specs.Faults.{entry_read, IsTold};
+
+use crate::faults::{DicFault, DicWhy};
+use flag_sets::{FlagFault, push_before_slash, read_flags};
+use lists::{Items, NoMemory};
+use spell_types::{Affixes, Chars, Entry, FlagSet};
+use std::alloc::Global;
+
+/// The entry with this text, of the line with this number.
+pub(crate) fn read_entry(
+    alloc: Global,
+    affixes: &Affixes,
+    number: u64,
+    text: &str,
+) -> Result<Entry, DicFault>
+    ensures read { IfOk result (λ made. entry_read affixes.now (entry_at number text.now) ≡ Ok made) }
+    ensures refused { IfErr result (IsTold (entry_read affixes.now (entry_at number text.now))) }
+    ensures word { IfOk result (λ made. 0 < length made.word) }
+{
+    let mut word = Items::new(alloc);
+    let flags = push_word(&mut word, text)?;
+    if word.as_slice().is_empty() {
+        return Err(DicFault::At {
+            line: number,
+            why: DicWhy::EmptyWord,
+        });
+    }
+    let why = match read_flags(alloc, affixes.kind, aliases_of(affixes), flags) {
+        Ok(flags) => return Ok(Entry { word, flags }),
+        Err(FlagFault::BadFlag) => DicWhy::BadFlag,
+        Err(FlagFault::BadAlias) => DicWhy::BadAlias,
+        Err(FlagFault::NoMemory) => return Err(DicFault::NoMemory),
+    };
+    Err(DicFault::At { line: number, why })
+}
+
+/// Adds the characters of an entry's word, and gives the text of its flags. A slash at the front of the entry
+/// is one of its word.
+fn push_word<'a>(word: &mut Chars, entry: &'a str) -> Result<&'a str, NoMemory>
+    ensures word { OnOk result (word.new ≡ word.old ++ word_of entry.now) }
+    ensures flags { IfOk result (λ flags. flags.now ≡ flag_text entry.now) }
+{
+    let mut rest = entry;
+    if let Some(more) = entry.strip_prefix('/') {
+        word.push('/')?;
+        rest = more;
+    }
+    Ok(push_before_slash(word, rest)?.unwrap_or(""))
+}
+
+/// The sets that ordinals stand for, if the file has aliases.
+fn aliases_of(affixes: &Affixes) -> Option<&[FlagSet]>
+    ensures { option_copied result ≡ affixes.now.aliases }
+{
+    affixes.aliases.as_ref().map(|sets| sets.as_slice())
+}
