@@ -27,8 +27,8 @@ stop-answer : (due : Result Printed Stop) (files_failed : Type 0) (stop : Stop) 
 stop-answer due files_failed Files is failed = inr (inl (failed refl, refl, refl))
 stop-answer due files_failed NoMemory is failed = memory-answer due files_failed
 stop-answer due files_failed Words is failed = due-answer due files_failed (Err Words) is
-stop-answer due files_failed (Aff line) is failed = due-answer due files_failed (Err (Aff line)) is
-stop-answer due files_failed (Dic line) is failed = due-answer due files_failed (Err (Dic line)) is
+stop-answer due files_failed (Aff line why) is failed = due-answer due files_failed (Err (Aff line why)) is
+stop-answer due files_failed (Dic line why) is failed = due-answer due files_failed (Err (Dic line why)) is
 stop-answer due files_failed (Document line) is failed = due-answer due files_failed (Err (Document line)) is
 stop-answer due files_failed Missing is failed = due-answer due files_failed (Err Missing) is
 stop-answer due files_failed (Limit limit) is failed = due-answer due files_failed (Err (Limit limit)) is

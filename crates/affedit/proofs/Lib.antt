@@ -1,6 +1,5 @@
 pub mod CutLemmas
 pub mod CheckLemmas
 pub mod ReportLemmas
-pub mod AffLemmas
-pub mod DicLemmas
+pub mod VerdictLemmas
 pub mod EndingLemmas

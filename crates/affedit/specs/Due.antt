@@ -6,10 +6,11 @@ use Rattle.spell_types.specs.declared.Affixes.{Affixes}
 use Rattle.spell_types.specs.declared.Entry.{Entry}
 use Rattle.spell_types.specs.declared.Lexicon.{Lexicon}
 use Rattle.text_lines.specs.Lines.{good_lines, bad_line}
+use Rattle.aff_lines.specs.declared.faults.Fault.{Fault as AffLineFault}
+use Rattle.aff_reader.specs.Grammar.{aff_read}
+use Rattle.dic_reader.specs.Faults.{Fault as DicLineFault, dic_read}
 use Rattle.affedit.specs.declared.stop.Stop.{Stop}
 use Rattle.affedit.specs.declared.stop.Stop.TheVariants.{Words, Aff, Dic, Document, Missing, Limit}
-use Rattle.affedit.specs.AffForm.{affixes_due}
-use Rattle.affedit.specs.DicForm.{entries_due}
 use Rattle.affedit.specs.Reports.{Printed, report_of, paragraphs_of}
 use Rattle.affedit.specs.Stops.{◌>>=◌}
 
@@ -28,10 +29,16 @@ bytes_due limit (Some bytes) = if nat_le (length bytes) limit then Ok bytes else
 unfoldable pub file_due : Folder → List ℕ → ℕ → Result (List ℕ) Stop
 file_due folder name limit = bytes_due limit (folder name)
 
--- a line that breaks the form of a plain file stops the call
-abbrev pub stopping : {A : Type 0} → (ℕ → Stop) → Result A ℕ → Result A Stop
+-- a fault of a file stops the call
+abbrev pub stopping : {A F : Type 0} → (F → Stop) → Result A F → Result A Stop
 stopping stop (Ok read) = Ok read
-stopping stop (Err line) = Err (stop line)
+stopping stop (Err fault) = Err (stop fault)
+
+abbrev pub at_aff : AffLineFault → Stop
+at_aff fault = Aff fault.line fault.why
+
+abbrev pub at_dic : DicLineFault → Stop
+at_dic fault = Dic fault.line fault.why
 
 abbrev pub unless_bad : {A : Type 0} → Option ℕ → A → Result A Stop
 unless_bad None read = Ok read
@@ -42,10 +49,10 @@ unfoldable pub document_due : Lexicon → List ℕ → Result Printed Stop
 document_due lexicon document = unless_bad (bad_line document) (report_of lexicon (paragraphs_of document (good_lines document)))
 
 unfoldable pub affixes_step : List ℕ → Result Affixes Stop
-affixes_step bytes = stopping Aff (affixes_due bytes)
+affixes_step bytes = stopping at_aff (aff_read bytes)
 
-unfoldable pub entries_step : List ℕ → Result (List Entry) Stop
-entries_step bytes = stopping Dic (entries_due bytes)
+unfoldable pub entries_step : Affixes → List ℕ → Result (List Entry) Stop
+entries_step affixes bytes = stopping at_dic (dic_read affixes bytes)
 
 -- the files that the words of `check` name
 pub record FileNames : Type 0 where
@@ -59,7 +66,7 @@ check_due folder names = do
   aff ← file_due folder names.aff dictionary_limit
   affixes ← affixes_step aff
   dic ← file_due folder names.dic dictionary_limit
-  entries ← entries_step dic
+  entries ← entries_step affixes dic
   document ← file_due folder names.document document_limit
   document_due (record { affixes = affixes; entries = entries }) document
 

@@ -1,10 +1,7 @@
-pub mod Names
 pub mod Runs
 pub mod Paragraphs
 pub mod Reports
-pub mod Refusals
-pub mod AffForm
-pub mod DicForm
+pub mod Verdicts
 pub mod Stops
 pub mod Due
 pub mod Endings

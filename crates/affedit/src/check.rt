@@ -3,15 +3,18 @@
 ghost use Rattle.std.specs.Prelude.{◌≡◌, ◌<◌, ◌≤◌, ◌^◌, length, map, IfSome, OnOk, IsErrOf, IfOk};
 ghost use Rattle.std.specs.Option.{option_map};
 ghost use Rattle.std.specs.String.{string_bytes};
+ghost use Rattle.spell_types.specs.Sanity.{AreSaneAffixes, AreSaneEntries};
 ghost use Rattle.affedit.specs.Due.{file_due, affixes_step, entries_step, document_due, check_due, names_in};
 ghost use Rattle.affedit.specs.Given.{printed_by, names_by};
 ghost use Rattle.affedit.specs.Stops.{Gives};
 
-use crate::aff_form::read_aff;
-use crate::dic_form::read_dic;
-use crate::refusals::FormFault;
 use crate::report::{Report, make_report};
 use crate::stop::Stop;
+use aff_lines::AffFault;
+use aff_reader::read_aff;
+use affix_strip::Stems;
+use dic_reader::faults::DicFault;
+use dic_reader::read_dic;
 use outside::{FileFault, Files};
 use spell_types::{Affixes, Entries, Lexicon};
 use std::alloc::Global;
@@ -57,9 +60,10 @@ pub fn check<F: Files>(alloc: Global, names: Names<'_>, files: &mut F) -> Result
     let aff = load(alloc, files, names.aff, DICTIONARY_LIMIT)?;
     let affixes = read_affixes(alloc, aff.as_slice())?;
     let dic = load(alloc, files, names.dic, DICTIONARY_LIMIT)?;
-    let entries = read_entries(alloc, dic.as_slice())?;
+    let entries = read_entries(alloc, &affixes, dic.as_slice())?;
     let document = load(alloc, files, names.document, DOCUMENT_LIMIT)?;
-    check_document(alloc, &Lexicon { affixes, entries }, document.as_slice())
+    let stems = Stems::new(alloc, Lexicon { affixes, entries })?;
+    check_document(alloc, &stems, document.as_slice())
 }
 
 /// The bytes of the file.
@@ -85,34 +89,36 @@ fn load<F: Files>(alloc: Global, files: &mut F, name: &str, limit: u64) -> Resul
 #[tactic(auto, unfolding(crate::specs::Due::affixes_step))]
 fn read_affixes(alloc: Global, bytes: &[u8]) -> Result<Affixes, Stop>
     ensures due { Gives (λ affixes. affixes) (affixes_step bytes.now) result }
+    ensures sane { IfOk result AreSaneAffixes }
     ensures files { ¬ (IsErrOf result Stop.Files) }
     ensures words { ¬ (IsErrOf result Stop.Words) }
 {
     match read_aff(alloc, bytes) {
         Ok(affixes) => Ok(affixes),
-        Err(FormFault::At { line }) => Err(Stop::Aff { line }),
-        Err(FormFault::NoMemory) => Err(Stop::NoMemory),
+        Err(AffFault::At { line, why }) => Err(Stop::Aff { line, why }),
+        Err(AffFault::NoMemory) => Err(Stop::NoMemory),
     }
 }
 
 #[tactic(auto, unfolding(crate::specs::Due::entries_step))]
-fn read_entries(alloc: Global, bytes: &[u8]) -> Result<Entries, Stop>
-    ensures due { Gives (λ entries. entries) (entries_step bytes.now) result }
+fn read_entries(alloc: Global, affixes: &Affixes, bytes: &[u8]) -> Result<Entries, Stop>
+    ensures due { Gives (λ entries. entries) (entries_step affixes.now bytes.now) result }
+    ensures sane { IfOk result AreSaneEntries }
     ensures files { ¬ (IsErrOf result Stop.Files) }
     ensures words { ¬ (IsErrOf result Stop.Words) }
 {
-    match read_dic(alloc, bytes) {
+    match read_dic(alloc, affixes, bytes) {
         Ok(entries) => Ok(entries),
-        Err(FormFault::At { line }) => Err(Stop::Dic { line }),
-        Err(FormFault::NoMemory) => Err(Stop::NoMemory),
+        Err(DicFault::At { line, why }) => Err(Stop::Dic { line, why }),
+        Err(DicFault::NoMemory) => Err(Stop::NoMemory),
     }
 }
 
 /// The report on a document.
 #[tactic(auto, unfolding(crate::specs::Due::document_due))]
-fn check_document(alloc: Global, lexicon: &Lexicon, document: &[u8]) -> Result<Report, Stop>
+fn check_document(alloc: Global, stems: &Stems, document: &[u8]) -> Result<Report, Stop>
     requires { length document.now < 2 ^ 32 }
-    ensures due { Gives printed_by (document_due lexicon.now document.now) result }
+    ensures due { Gives printed_by (document_due stems.now document.now) result }
     ensures files { ¬ (IsErrOf result Stop.Files) }
     ensures words { ¬ (IsErrOf result Stop.Words) }
 {
@@ -120,5 +126,5 @@ fn check_document(alloc: Global, lexicon: &Lexicon, document: &[u8]) -> Result<R
     if let Some(line) = found.bad {
         return Err(Stop::Document { line });
     }
-    Ok(make_report(alloc, lexicon, document, found.good.as_slice())?)
+    Ok(make_report(alloc, stems, document, found.good.as_slice())?)
 }

@@ -10,9 +10,11 @@ ghost use Rattle.mark_types.specs.Words.{words_of};
 ghost use Rattle.affedit.specs.Paragraphs.{MayBeCut, marks_at};
 
 use crate::cutter::cut;
+use crate::verdict::generates;
+use affix_strip::Stems;
 use lists::{Items, NoMemory};
 use mark_types::{Mark, Marks, Span, marks_are_local, words_stand_in_their_text};
-use spell_types::Lexicon;
+use spell_types::chars_of;
 use std::alloc::Global;
 use text_lines::Text;
 
@@ -24,15 +26,15 @@ pub struct Checked {
 }
 
 /// Checks one paragraph.
-pub fn check_paragraph(alloc: Global, lexicon: &Lexicon, text: &str) -> Result<Checked, NoMemory>
+pub fn check_paragraph(alloc: Global, stems: &Stems, text: &str) -> Result<Checked, NoMemory>
     requires { length text.now < 2 ^ 32 }
-    ensures marks { IfOk result (λ checked. checked.marks ≡ map mark_of (marks_of lexicon.now (chars text.now ∷ []))) }
-    ensures words { IfOk result (λ checked. checked.words ≡ length (words_of lexicon.now.affixes.wordchars (chars text.now))) }
+    ensures marks { IfOk result (λ checked. checked.marks ≡ map mark_of (marks_of stems.now (chars text.now ∷ []))) }
+    ensures words { IfOk result (λ checked. checked.words ≡ length (words_of stems.now.affixes.wordchars (chars text.now))) }
 {
     words_stand_in_their_text();
     marks_are_local();
-    let spans = cut(alloc, text, lexicon.affixes.wordchars.as_slice())?;
-    let marks = marks_of_spans(alloc, lexicon, text, spans.as_slice())?;
+    let spans = cut(alloc, text, stems.lexicon().affixes.wordchars.as_slice())?;
+    let marks = marks_of_spans(alloc, stems, text, spans.as_slice())?;
     Ok(Checked {
         marks,
         words: spans.len(),
@@ -41,16 +43,16 @@ pub fn check_paragraph(alloc: Global, lexicon: &Lexicon, text: &str) -> Result<C
 
 fn marks_of_spans(
     alloc: Global,
-    lexicon: &Lexicon,
+    stems: &Stems,
     text: &str,
     spans: &[Span],
 ) -> Result<Marks, NoMemory>
     requires { All (MayBeCut text.now) spans.now }
-    ensures { IfOk result (λ marks. marks ≡ flat_map (marks_at lexicon.now text.now) spans.now) }
+    ensures { IfOk result (λ marks. marks ≡ flat_map (marks_at stems.now text.now) spans.now) }
 {
     let mut marks = Items::new(alloc);
     for span in spans {
-        push_mark(alloc, &mut marks, lexicon, text, *span)?;
+        push_mark(alloc, &mut marks, stems, text, *span)?;
     }
     Ok(marks)
 }
@@ -59,15 +61,15 @@ fn marks_of_spans(
 fn push_mark(
     alloc: Global,
     marks: &mut Marks,
-    lexicon: &Lexicon,
+    stems: &Stems,
     text: &str,
     span: Span,
 ) -> Result<(), NoMemory>
     requires { MayBeCut text.now span }
-    ensures { OnOk result (marks.new ≡ marks.old ++ marks_at lexicon.now text.now span) }
+    ensures { OnOk result (marks.new ≡ marks.old ++ marks_at stems.now text.now span) }
 {
     let word = &text[span.from as usize..span.to as usize];
-    if is_known(alloc, lexicon, word)? {
+    if is_known(alloc, stems, word)? {
         return Ok(());
     }
     marks.push(Mark {
@@ -79,22 +81,9 @@ fn push_mark(
 }
 
 /// Whether the lexicon generates the word.
-fn is_known(alloc: Global, lexicon: &Lexicon, word: &str) -> Result<bool, NoMemory>
-    ensures { IfOk result (λ known. known ≡ yields lexicon.now (chars word.now)) }
+fn is_known(alloc: Global, stems: &Stems, word: &str) -> Result<bool, NoMemory>
+    ensures { IfOk result (λ known. known ≡ yields stems.now (chars word.now)) }
 {
-    let written: Vec<char> = word.chars().collect(alloc)?;
-    Ok(is_generated(lexicon, written.as_slice()))
-}
-
-/// Whether the lexicon generates the written word. It looks at each entry until the entries stand in a
-/// table.
-#[tactic(auto, unfolding(spell_types::specs::Yields::yields))]
-fn is_generated(lexicon: &Lexicon, written: &[char]) -> bool
-    ensures { result ≡ yields lexicon.now written.now }
-{
-    lexicon
-        .entries
-        .as_slice()
-        .iter()
-        .any(|entry| entry.word.as_slice() == written)
+    let written = chars_of(alloc, word)?;
+    generates(alloc, stems, written.as_slice())
 }

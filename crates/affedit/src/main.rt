@@ -1,19 +1,15 @@
 //! Affedit checks the spelling of a text by a Hunspell dictionary, and prints where its words are unknown.
 #![tactic(auto)]
 
-mod aff_form;
 mod check;
 mod checker;
 mod cutter;
-mod dic_form;
-mod directives;
-mod letters;
-mod refusals;
 mod report;
 mod run;
 mod stop;
 #[cfg(test)]
 mod tests;
+mod verdict;
 
 use outside::{FreeGate, RealFiles, StdSink, StdSource};
 pub use run::{Ended, run, run_check};

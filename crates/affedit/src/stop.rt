@@ -3,8 +3,10 @@
 ghost use Rattle.std.specs.Prelude.{◌≡◌, ◌++◌, OnOk};
 ghost use Rattle.std.specs.String.{string_bytes};
 ghost use Rattle.affedit.specs.declared.stop.Stop.TheVariants.{NoMemory as OutOfMemory};
-ghost use Rattle.affedit.specs.Stops.{status_of, last_line};
+ghost use Rattle.affedit.specs.Stops.{status_of, fault_line, last_line};
 
+use aff_lines::AffWhy;
+use dic_reader::faults::DicWhy;
 use lists::NoMemory;
 use std::alloc::AllocError;
 
@@ -13,10 +15,10 @@ use std::alloc::AllocError;
 pub enum Stop {
     /// The words are in none of the program's forms.
     Words,
-    /// The first line of the .aff file that breaks its form.
-    Aff { line: u64 },
-    /// The first line of the .dic file that breaks its form.
-    Dic { line: u64 },
+    /// The first fault of the .aff file.
+    Aff { line: u64, why: AffWhy },
+    /// The first fault of the .dic file.
+    Dic { line: u64, why: DicWhy },
     /// The first line of the document that is not UTF-8.
     Document { line: u64 },
     /// The next file is not there.
@@ -50,8 +52,8 @@ impl Stop {
     {
         match self {
             Stop::Words => text.push_str("affedit: words\n"),
-            Stop::Aff { line } => write!(text, "aff {line} LeftOut\n"),
-            Stop::Dic { line } => write!(text, "dic {line} BadFlag\n"),
+            Stop::Aff { line, why } => push_fault(text, "aff", line, why.name()),
+            Stop::Dic { line, why } => push_fault(text, "dic", line, why.name()),
             Stop::Document { line } => write!(text, "doc {line}\n"),
             Stop::Missing => text.push_str("missing\n"),
             Stop::Files => text.push_str("files\n"),
@@ -59,6 +61,13 @@ impl Stop {
             Stop::Limit { limit } => write!(text, "limit {limit}\n"),
         }
     }
+}
+
+/// Adds the line of a fault of a file.
+fn push_fault(text: &mut String, file: &str, line: u64, why: &str) -> Result<(), AllocError>
+    ensures { OnOk result (string_bytes text.new ≡ string_bytes text.old ++ fault_line file.now line why.now) }
+{
+    write!(text, "{file} {line} {why}\n")
 }
 
 impl From<NoMemory> for Stop {

@@ -1,7 +1,7 @@
 //! Whole runs over objects in memory.
 
 use crate::run::run;
-use outside::{FreeGate, MemFiles, MemSink, SureSource};
+use outside::{Failed, FreeGate, MemFiles, MemSink, Sink, SureSource};
 use std::alloc::{AllocError, Global};
 use std::process::Abort;
 use std::sync::Wait;
@@ -133,9 +133,28 @@ fn marks_the_words_of_a_text(rt: HostRuntime) -> Result<(), Fail> {
     Ok(())
 }
 
+fn assert_checked<R: Threads + Wait + Sync + Abort>(
+    rt: &R,
+    alloc: Global,
+    aff: &[u8],
+    dic: &[u8],
+    text: &[u8],
+    want: &str,
+    status: u8,
+) -> Result<(), AllocError> {
+    let seen = run_check_of(rt, alloc, aff, dic, text, NO_FAULTS)?;
+    assert_eq!(rt;
+        seen.written.as_slice(),
+        want.as_bytes(),
+        "by {aff:?} and {dic:?}"
+    );
+    assert_eq!(rt; seen.status, status, "by {aff:?} and {dic:?}");
+    Ok(())
+}
+
 #[test]
-fn reads_plain_dictionaries(rt: HostRuntime) -> Result<(), Fail> {
-    let cases: [(&[u8], &[u8], &[u8], &str, u8); 22] = [
+fn checks_by_entries_and_their_flags(rt: HostRuntime) -> Result<(), Fail> {
+    let cases: [(&[u8], &[u8], &[u8], &str, u8); 14] = [
         (b"", b"0", b"a", "1 0 1 a\n1 of 1\n", 1),
         (b"WORDCHARS -\n", b"1\nco-op\n", b"co-op -", "0 of 1\n", 0),
         (
@@ -145,46 +164,108 @@ fn reads_plain_dictionaries(rt: HostRuntime) -> Result<(), Fail> {
             "1 5 6 a\n1 of 3\n",
             1,
         ),
-        (
-            b"SET UTF-8\nCOMPLEXPREFIXES\n",
-            DIC,
-            b"",
-            "aff 2 LeftOut\n",
-            3,
-        ),
-        (b"SET ISO8859-1\n", DIC, b"", "aff 1 LeftOut\n", 3),
-        (b"SET\n", DIC, b"", "aff 1 LeftOut\n", 3),
-        (b"SET UTF-8\n\nSET UTF-8\n", DIC, b"", "aff 3 LeftOut\n", 3),
-        (b"WORDCHARS\n", DIC, b"", "aff 1 LeftOut\n", 3),
-        (
-            b"WORDCHARS a\nWORDCHARS a\n",
-            DIC,
-            b"",
-            "aff 2 LeftOut\n",
-            3,
-        ),
-        (b"# x\n\xff\nSFX A Y 0\n", DIC, b"", "aff 2 LeftOut\n", 3),
-        (b"SFX A Y 0\n\xff\n", DIC, b"", "aff 1 LeftOut\n", 3),
         (b"#SFX A Y 0\n", b"1\nwork\n", b"work", "0 of 1\n", 0),
-        (b"", b"1\nwork/A\n", b"", "dic 2 BadFlag\n", 3),
-        (b"", b"", b"", "dic 1 BadFlag\n", 3),
-        (b"", b"\xef\xbb\xbf", b"", "dic 1 BadFlag\n", 3),
-        (b"", b"x\nwork\n", b"", "dic 1 BadFlag\n", 3),
-        (b"", b"\n1\n", b"", "dic 1 BadFlag\n", 3),
-        (b"", b"\xff\n", b"", "dic 1 BadFlag\n", 3),
-        (b"", b"1\nwork\n po:noun\n", b"", "dic 3 BadFlag\n", 3),
-        (b"", b"1\nwork\n\xff\n", b"", "dic 3 BadFlag\n", 3),
-        (b"", b"1\na/\n\xff\n", b"", "dic 2 BadFlag\n", 3),
-        (b"", b"1\na\\/b\n", b"", "dic 2 BadFlag\n", 3),
+        // Flags without a meaning change nothing.
+        (b"", b"1\nwork/A\n", b"work", "0 of 1\n", 0),
+        (
+            b"WORDCHARS /\n",
+            b"3\na\\/b\n/c\n/d/A\n",
+            b"a/b /c /d a",
+            "1 10 11 a\n1 of 4\n",
+            1,
+        ),
+        // A forbidden homonym forbids the word.
+        (
+            b"FLAG long\nFORBIDDENWORD Zz\nNEEDAFFIX Na\n",
+            b"4\nfoo\nbar/Zz\nbar\nqux/Na\n",
+            b"foo bar qux",
+            "1 4 7 bar\n1 8 11 qux\n2 of 3\n",
+            1,
+        ),
+        (
+            b"AF 1\nAF XY\nFORBIDDENWORD Y\n",
+            b"2\nfoo\nfoo/1\n",
+            b"foo",
+            "1 0 3 foo\n1 of 1\n",
+            1,
+        ),
+        // A homonym that stands alone is enough where the other needs an affix.
+        (b"PSEUDOROOT N\n", b"2\nqux/N\nqux\n", b"qux", "0 of 1\n", 0),
+        (
+            b"ONLYINCOMPOUND c\n",
+            b"2\nfoo/c\nbar/C\n",
+            b"foo bar",
+            "1 0 3 foo\n1 of 2\n",
+            1,
+        ),
+        // A bare stem that is forbidden bars no word.
+        (
+            b"NEEDAFFIX N\nFORBIDDENWORD Z\n",
+            b"2\nfoo/NZ\nfoo\n",
+            b"foo",
+            "0 of 1\n",
+            0,
+        ),
+        (b"WARN W\n", b"1\nfoo/W\n", b"foo", "0 of 1\n", 0),
+        (
+            b"WARN W\nFORBIDWARN\n",
+            b"2\nfoo/W\nbar\n",
+            b"foo bar",
+            "1 0 3 foo\n1 of 2\n",
+            1,
+        ),
+        (
+            b"FLAG num\nFORBIDDENWORD 65000\n",
+            b"2\nfoo/1,65000\nbar/65,1\n",
+            b"foo bar",
+            "1 0 3 foo\n1 of 2\n",
+            1,
+        ),
     ];
     for (aff, dic, text, want, status) in cases {
-        let seen = run_check_of(&rt, rt.alloc(), aff, dic, text, NO_FAULTS)?;
-        assert_eq!(rt;
-            seen.written.as_slice(),
-            want.as_bytes(),
-            "by {aff:?} and {dic:?}"
-        );
-        assert_eq!(rt; seen.status, status, "by {aff:?} and {dic:?}");
+        assert_checked(&rt, rt.alloc(), aff, dic, text, want, status)?;
+    }
+    Ok(())
+}
+
+#[test]
+fn refuses_dictionaries_with_the_first_fault(rt: HostRuntime) -> Result<(), Fail> {
+    let cases: [(&[u8], &[u8], &str); 31] = [
+        (b"SET UTF-8\nCOMPLEXPREFIXES\n", DIC, "aff 2 LeftOut\n"),
+        (b"COMPLEXPREFIXES\n", DIC, "aff 1 LeftOut\n"),
+        (b"SET ISO8859-1\n", DIC, "aff 1 OtherEncoding\n"),
+        (b"SET\n", DIC, "aff 1 MissingField\n"),
+        (b"SET UTF-8\n\nSET UTF-8\n", DIC, "aff 3 Twice\n"),
+        (b"WORDCHARS\n", DIC, "aff 1 MissingField\n"),
+        (b"WORDCHARS a\nWORDCHARS a\n", DIC, "aff 2 Twice\n"),
+        (b"# x\n\xff\nSFX A Y 0\n", DIC, "aff 2 NotUtf8\n"),
+        (b"CHECKSHARPS\n\xff\n", DIC, "aff 2 NotUtf8\n"),
+        (b"NEEDAFFIX ab\nFLAG wide\n", DIC, "aff 2 OtherFlag\n"),
+        (b"NEEDAFFIX ab\n", DIC, "aff 1 BadFlag\n"),
+        (b"AF 2\nAF A\n", DIC, "aff 1 TableShort\n"),
+        (b"AF 65001\n", DIC, "aff 1 TooMany\n"),
+        (b"AF many\n", DIC, "aff 1 BadNumber\n"),
+        (b"FLAG\n", DIC, "aff 1 MissingField\n"),
+        (b"FLAG num\nFLAG num\n", DIC, "aff 2 Twice\n"),
+        // A fault of the .aff file goes before those of the .dic file.
+        (b"WARN\n", b"", "aff 1 MissingField\n"),
+        (b"FLAG long\n", b"1\nfoo/abc\n", "dic 2 BadFlag\n"),
+        (b"FLAG num\n", b"1\nfoo/0\n", "dic 2 BadFlag\n"),
+        (b"AF 1\nAF X\n", b"1\nfoo/0\n", "dic 2 BadAlias\n"),
+        (b"AF 1\nAF X\n", b"1\nfoo/2\n", "dic 2 BadAlias\n"),
+        (b"AF 0\n", b"1\nfoo/X\n", "dic 2 BadAlias\n"),
+        (b"", b"1\n po:noun\n", "dic 2 EmptyWord\n"),
+        (b"", b"1\nwork\n po:noun\n", "dic 3 EmptyWord\n"),
+        (b"", b"", "dic 1 BadCount\n"),
+        (b"", b"\xef\xbb\xbf", "dic 1 BadCount\n"),
+        (b"", b"x\nwork\n", "dic 1 BadCount\n"),
+        (b"", b"\n1\n", "dic 1 BadCount\n"),
+        (b"", b"\xff\n", "dic 1 NotUtf8\n"),
+        (b"", b"x\n po:noun\n\xff\n", "dic 3 NotUtf8\n"),
+        (b"", b"1\na/\n\xff\n", "dic 3 NotUtf8\n"),
+    ];
+    for (aff, dic, want) in cases {
+        assert_checked(&rt, rt.alloc(), aff, dic, b"", want, 3)?;
     }
     Ok(())
 }
@@ -255,7 +336,7 @@ fn stops_in_order(rt: HostRuntime) -> Result<(), Fail> {
         alloc,
         &words,
         &[("a", AFF), ("b", b"")],
-        "dic 1 BadFlag\n",
+        "dic 1 BadCount\n",
         3,
     )?;
     stops(
@@ -354,4 +435,85 @@ fn tells_what_failed(rt: HostRuntime) -> Result<(), Fail> {
         assert_eq!(rt; seen.status, 6, "taken {taken}");
     }
     Ok(())
+}
+
+/// A sink that needs no memory, and remembers only whether what was put is one of two texts. It tells contracts
+/// nothing.
+#[derive(Drop)]
+struct Witness {
+    puts: u64,
+    was_output: bool,
+    was_memory: bool,
+}
+
+impl Sink for Witness {
+    ghost use Rattle.std.specs.Prelude.{None};
+
+    ghost written = { λ _. None };
+
+    ghost faults = { λ _. 0 };
+
+    fn put(&mut self, bytes: &[u8]) -> Result<(), Failed> {
+        self.puts = self.puts.saturating_add(1);
+        self.was_output = bytes == b"1 10 14 wrld\n1 of 3\n".as_slice();
+        self.was_memory = bytes == b"memory\n".as_slice();
+        Ok(())
+    }
+}
+
+/// What a run needs before it begins.
+#[derive(Drop)]
+struct Ready {
+    words: Vec<String>,
+    files: MemFiles,
+}
+
+fn make_ready(alloc: Global) -> Result<Ready, AllocError> {
+    let mut words = Vec::new(alloc);
+    for word in ["check", "a.aff", "a.dic", "text"] {
+        words.push(String::from_str(alloc, word)?)?;
+    }
+    let mut folder = Vec::new(alloc);
+    let text: &[u8] = b"hello 2nd wrld";
+    for (name, bytes) in [("a.aff", AFF), ("a.dic", DIC), ("text", text)] {
+        folder.push((
+            String::from_str(alloc, name)?,
+            Vec::from_slice(alloc, bytes)?,
+        ))?;
+    }
+    Ok(Ready {
+        words,
+        files: MemFiles::new(folder, Vec::new(alloc)),
+    })
+}
+
+/// With an allocation that fails, as the kit can arrange for a run of the tests, the run says that memory is
+/// wanting or prints all that is due. Where the objects of the test itself find no memory there is no run.
+#[test]
+fn says_that_memory_is_wanting(rt: HostRuntime) {
+    let alloc = rt.alloc();
+    let Ok(mut ready) = make_ready(alloc) else {
+        return;
+    };
+    let mut input = SureSource::new(Vec::new(alloc));
+    let mut out = Witness {
+        puts: 0,
+        was_output: false,
+        was_memory: false,
+    };
+    let ended = run(
+        &rt,
+        alloc,
+        ready.words.as_slice(),
+        &mut ready.files,
+        &mut input,
+        &mut out,
+        &FreeGate,
+    );
+    assert_eq!(rt; out.puts, 1);
+    match ended.status {
+        1 => assert!(rt; out.was_output),
+        7 => assert!(rt; out.was_memory),
+        status => assert!(rt; false, "status {status}"),
+    }
 }

@@ -6,7 +6,7 @@ use Rattle.affedit.proofs.report.report_of_paragraphs.Goals as goal
 
 pub returns-clause-text : goal.returns-clause-text
 returns-clause-text c =
-    let lexicon = c.args.lexicon.now in
+    let lexicon = c.args.stems.now in
     let document = c.args.document.now in
     let lines = c.args.lines.now in
     lines-finished lexicon document lines _ c.loop-place.place (omega arith) c.loop-place.invariant.text
@@ -14,7 +14,7 @@ returns-clause-text c =
 
 pub returns-clause-marks : goal.returns-clause-marks
 returns-clause-marks c =
-    let lexicon = c.args.lexicon.now in
+    let lexicon = c.args.stems.now in
     let document = c.args.document.now in
     let lines = c.args.lines.now in
     marks-finished lexicon document lines _ c.loop-place.place (omega arith) c.loop-place.invariant.marks
@@ -22,7 +22,7 @@ returns-clause-marks c =
 
 pub returns-clause-words : goal.returns-clause-words
 returns-clause-words c =
-    let lexicon = c.args.lexicon.now in
+    let lexicon = c.args.stems.now in
     let document = c.args.document.now in
     let lines = c.args.lines.now in
     words-finished lexicon document lines _ c.loop-place.place (omega arith) c.loop-place.invariant.words

@@ -6,7 +6,7 @@ use Rattle.affedit.proofs.report.report_of_paragraphs.Given as goal
 
 abbrev pub invariant-loop-place : goal.invariant-loop-place
 invariant-loop-place l = record {
-  text : string_bytes l.report.text ++ lines_from l.lexicon l.document (l.place + 1) (drop l.place l.lines) ≡ lines_from l.lexicon l.document 1 l.lines;
-  marks : l.report.marks + marks_from l.lexicon l.document (drop l.place l.lines) ≡ marks_from l.lexicon l.document l.lines;
-  words : l.report.words + words_from l.lexicon l.document (drop l.place l.lines) ≡ words_from l.lexicon l.document l.lines;
+  text : string_bytes l.report.text ++ lines_from l.stems l.document (l.place + 1) (drop l.place l.lines) ≡ lines_from l.stems l.document 1 l.lines;
+  marks : l.report.marks + marks_from l.stems l.document (drop l.place l.lines) ≡ marks_from l.stems l.document l.lines;
+  words : l.report.words + words_from l.stems l.document (drop l.place l.lines) ≡ words_from l.stems l.document l.lines;
 }

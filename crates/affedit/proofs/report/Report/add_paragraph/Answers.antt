@@ -14,4 +14,4 @@ returns-clause-text c =
     let number = c.args.number in
     c.in_ok-push_mark_lines.ensures
     ∙ ap (λ marks. before ++ flat_map (found_line number) marks) (c.as_slice-marks.ensures ∙ c.in_ok-checked.ensures.marks)
-    ∙ ap (λ lines. before ++ lines) (found-lines number (marks_of c.args.lexicon.now (chars c.args.text.now ∷ [])))
+    ∙ ap (λ lines. before ++ lines) (found-lines number (marks_of c.args.stems.now (chars c.args.text.now ∷ [])))

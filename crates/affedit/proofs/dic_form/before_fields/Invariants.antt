@@ -1,7 +1,0 @@
--- The entry goes on to the loop's place at least.
-use Rattle.std.proofs.Common.{◌≡◌, ◌++◌, take, drop}
-use Rattle.affedit.specs.DicForm.{before_fields}
-use Rattle.affedit.proofs.dic_form.before_fields.Given as goal
-
-abbrev pub invariant-loop-place : goal.invariant-loop-place
-invariant-loop-place l = before_fields l.line ≡ take l.place l.line ++ before_fields (drop l.place l.line)

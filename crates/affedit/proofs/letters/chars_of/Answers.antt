@@ -1,7 +1,0 @@
--- The characters that are collected are those of the text.
-use Rattle.std.proofs.Common.{rules}
-use Rattle.std.proofs.lemmas.Str.{chars_from_encodes}
-use Rattle.affedit.proofs.letters.chars_of.Goals as goal
-
-pub returns : goal.returns
-returns c = search (rules, chars_from_encodes)
