@@ -1,4 +1,4 @@
-mod FaultLemmas
+pub mod FaultLemmas
 mod RowLemmas
 mod ReadLemmas
 mod PassLemmas

@@ -57,7 +57,7 @@ fn misfit(form: Form) -> AffWhy
 }
 
 /// The cause, unless something holds.
-pub(crate) fn unless(holds: bool, why: AffWhy) -> Option<AffWhy>
+pub fn unless(holds: bool, why: AffWhy) -> Option<AffWhy>
     ensures { result ≡ unless holds why }
 {
     if holds { None } else { Some(why) }
@@ -103,7 +103,7 @@ pub(crate) fn kind_named(text: &str) -> Option<FlagKind>
 }
 
 /// The number that a text writes, if it is below 2^32.
-pub(crate) fn number_in(text: &str) -> Option<u64>
+pub fn number_in(text: &str) -> Option<u64>
     ensures { result ≡ number_in text.now }
 {
     decimal(text).filter(|number| *number < NUMBERS)

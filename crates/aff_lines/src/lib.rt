@@ -30,10 +30,10 @@ mod rows;
 mod tests;
 mod values;
 
-pub use causes::{line_why, number_at};
+pub use causes::{line_why, number_at, number_in, unless};
 pub use faults::{AffFault, AffWhy, Fault, sooner};
 pub use names::{Directive, FOURTH, Form, Row, form_of, is_among, is_named};
-pub use passes::{directive_fault, find_fault};
+pub use passes::{directive_fault, fault_at, find_fault};
 pub use rows::{Kept, next_of, value_of};
 pub use values::{flag_said, is_said, number_said, table_of, value_said};
 

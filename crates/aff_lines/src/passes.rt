@@ -51,7 +51,8 @@ fn form_fault(kind: FlagKind, form: Form, directive: Directive, rows: &[Kept]) -
     }
 }
 
-fn fault_at(why: Option<AffWhy>, line: &Kept) -> Option<Fault>
+/// The fault at a line, if there is a cause.
+pub fn fault_at(why: Option<AffWhy>, line: &Kept) -> Option<Fault>
     ensures { result ≡ least_of (faults_at why line.now) }
 {
     let why = why?;
