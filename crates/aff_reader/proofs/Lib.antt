@@ -1,1 +1,4 @@
+mod ClassLemmas
+mod TurnLemmas
+mod BoundLemmas
 mod PassLemmas

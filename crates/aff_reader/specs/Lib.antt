@@ -1,1 +1,4 @@
+pub mod ClassLines
+pub mod ClassRules
+pub mod Classes
 pub mod Grammar

@@ -15,6 +15,9 @@ use lists::{Items, NoMemory};
 use spell_types::{Affixes, Chars, FlagKind, FlagSet, Options, Signs, chars_of};
 use std::alloc::Global;
 
+mod class_lines;
+mod class_rules;
+mod classes;
 #[cfg(test)]
 mod tests;
 

@@ -1,0 +1,204 @@
+//! The lines of affix classes, and what each of them is in its class.
+
+ghost use Rattle.std.specs.Prelude.{◌≡◌, ◌++◌, ◌∷◌, [], List, Option, Some, OnOk, IfOk, if◌then◌else◌};
+ghost use Rattle.std.specs.Option.{option_copied};
+ghost use Rattle.spell_types.specs.declared.flags.FlagKind.{FlagKind};
+ghost use Rattle.aff_lines.specs.declared.rows.Kept.{Kept};
+ghost use Rattle.aff_reader.specs.declared.class_lines.Class.{Class};
+ghost use Rattle.aff_reader.specs.ClassLines.{field_of, side_of, flag_at, class_of, is_same_class, is_text, is_crossed, count_of, standing_of, role_after, placed_after, standing_in, Knows};
+
+use aff_lines::{Directive, Kept, is_named, number_in};
+use flag_sets::read_one_flag;
+use lists::NoMemory;
+use spell_types::{Flag, FlagKind, Side};
+use std::alloc::Global;
+use std::collections::BTreeMap;
+use text_lines::field;
+
+/// An affix class: the options PFX and SFX of hunspell(5).
+#[derive(Clone, Copy)]
+pub(crate) struct Class {
+    pub(crate) side: Side,
+    pub(crate) flag: Flag,
+}
+
+/// What the first lines of a class come to.
+#[derive(Clone, Copy)]
+pub(crate) struct Standing {
+    /// Whether the rules of the class may be crossed.
+    pub(crate) crossed: bool,
+    /// How many rules are still wanted. Nobody can tell where the header's number is none.
+    pub(crate) wanted: Option<u64>,
+}
+
+/// What a line is in its class.
+#[derive(Clone, Copy)]
+pub(crate) enum Role {
+    /// The first line of the class.
+    Header,
+    /// One of the rules that the header announces, and whether they may be crossed.
+    Member(bool),
+    /// A line past these rules.
+    Past,
+    /// A line behind a header without a number.
+    Unplaced,
+}
+
+/// The class of a line, and what the line is in it.
+#[derive(Clone, Copy)]
+pub(crate) struct Placed {
+    pub(crate) class: Class,
+    pub(crate) role: Role,
+}
+
+/// What some lines say of each class, by its flag.
+#[derive(Drop)]
+pub(crate) struct Classes {
+    prefixes: BTreeMap<u64, Standing>,
+    suffixes: BTreeMap<u64, Standing>,
+}
+
+impl Classes {
+    /// What no lines say.
+    pub(crate) fn new(alloc: Global) -> Classes
+        ensures { (kind : FlagKind) → Knows kind [] result }
+    {
+        Classes {
+            prefixes: BTreeMap::new(alloc),
+            suffixes: BTreeMap::new(alloc),
+        }
+    }
+
+    /// Tells what a line is behind those that are known, and takes it in.
+    pub(crate) fn place(&mut self, kind: FlagKind, line: &Kept) -> Result<Option<Placed>, NoMemory>
+        ensures knows { (before : List Kept) → Knows kind before self.old
+            → OnOk result (Knows kind (before ++ line.now ∷ []) self.new) }
+        ensures placed { (before : List Kept) → Knows kind before self.old
+            → IfOk result (λ placed. placed ≡ placed_after kind before line.now) }
+    {
+        let Some(class) = class_of(kind, line) else {
+            return Ok(None);
+        };
+        let standing = self.standing(class);
+        self.set(class, with_line(standing, line))?;
+        Ok(Some(Placed {
+            class,
+            role: role_after(standing),
+        }))
+    }
+
+    /// What the lines say of a class.
+    pub(crate) fn standing(&self, class: Class) -> Option<Standing>
+        ensures { result ≡ standing_in self.now class }
+    {
+        match class.side {
+            Side::Prefix => self.prefixes.get(&class.flag.0).copied(),
+            Side::Suffix => self.suffixes.get(&class.flag.0).copied(),
+        }
+    }
+
+    fn set(&mut self, class: Class, standing: Standing) -> Result<(), NoMemory>
+        ensures { OnOk result ((other : Class) → standing_in self.new other
+            ≡ (if is_same_class other class then Some standing else standing_in self.old other)) }
+    {
+        match class.side {
+            Side::Prefix => self.prefixes.insert(class.flag.0, standing)?,
+            Side::Suffix => self.suffixes.insert(class.flag.0, standing)?,
+        };
+        Ok(())
+    }
+}
+
+/// What the lines of a class come to with one line more.
+fn with_line(standing: Option<Standing>, line: &Kept) -> Standing
+    ensures { (own : List Kept) → standing ≡ standing_of own → Some result ≡ standing_of (own ++ line.now ∷ []) }
+{
+    match standing {
+        None => Standing {
+            crossed: is_crossed(line),
+            wanted: count_of(line),
+        },
+        Some(standing) => Standing {
+            crossed: standing.crossed,
+            wanted: standing.wanted.map(|wanted| wanted.saturating_sub(1)),
+        },
+    }
+}
+
+/// What the next line of a class is.
+fn role_after(standing: Option<Standing>) -> Role
+    ensures { result ≡ role_after standing }
+{
+    match standing {
+        None => Role::Header,
+        Some(Standing { wanted: None, .. }) => Role::Unplaced,
+        Some(
+            Standing {
+                wanted: Some(0),
+                ..
+            },
+        ) => Role::Past,
+        Some(Standing { crossed, .. }) => Role::Member(crossed),
+    }
+}
+
+/// The class that a line belongs to.
+#[tactic(auto, unfolding(crate::specs::ClassLines::class_of))]
+fn class_of(kind: FlagKind, line: &Kept) -> Option<Class>
+    ensures { result ≡ class_of kind line.now }
+{
+    let side = side_of(line.name.as_str())?;
+    let flag = flag_at(kind, line)?;
+    Some(Class { side, flag })
+}
+
+/// The side of the classes that a name is for.
+pub(crate) fn side_of(name: &str) -> Option<Side>
+    ensures { result ≡ side_of name.now }
+{
+    if is_named(Directive::Prefix, name) {
+        Some(Side::Prefix)
+    } else if is_named(Directive::Suffix, name) {
+        Some(Side::Suffix)
+    } else {
+        None
+    }
+}
+
+fn flag_at(kind: FlagKind, line: &Kept) -> Option<Flag>
+    ensures { result ≡ flag_at kind line.now }
+{
+    read_one_flag(kind, field_of(line, 1)?)
+}
+
+/// A field of a line; its name is field 0.
+pub(crate) fn field_of(line: &Kept, k: usize) -> Option<&str>
+    ensures { option_copied result ≡ field_of line.now k }
+{
+    field(line.text.as_str(), k)
+}
+
+/// Whether a field is there and is this word.
+pub(crate) fn is_text(word: &str, field: Option<&str>) -> bool
+    ensures { result ≡ is_text word.now (option_copied field.entry) }
+{
+    match field {
+        None => false,
+        Some(text) => word == text,
+    }
+}
+
+/// Whether a header lets the rules of its class be crossed.
+pub(crate) fn is_crossed(header: &Kept) -> bool
+    ensures { result ≡ is_crossed header.now }
+{
+    is_text("Y", field_of(header, 2))
+}
+
+/// How many rules a header announces.
+#[tactic(auto, unfolding(crate::specs::ClassLines::count_of))]
+pub(crate) fn count_of(header: &Kept) -> Option<u64>
+    ensures { result ≡ count_of header.now }
+{
+    number_in(field_of(header, 3)?)
+}

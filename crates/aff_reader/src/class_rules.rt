@@ -1,0 +1,93 @@
+//! The rule that a line of an affix class says.
+
+ghost use Rattle.std.specs.Prelude.{◌≡◌, IfOk};
+ghost use Rattle.std.specs.Option.{option_copied};
+ghost use Rattle.aff_reader.specs.ClassRules.{unless_zero, carried_of, asked_of, rule_of};
+
+use crate::class_lines::{Class, field_of};
+use aff_lines::{AffWhy, Kept};
+use affix_classes::{ConditionFault, read_condition};
+use flag_sets::{FlagFault, push_before_slash, read_flags};
+use lists::{Items, NoMemory};
+use spell_types::{Chars, Condition, FlagKind, FlagSet, Rule, chars_of};
+use std::alloc::Global;
+
+/// The rule that a line of a class says, or what is wrong with it. The rules of the class may be crossed or not.
+#[tactic(auto, unfolding(crate::specs::ClassRules::rule_from))]
+pub(crate) fn read_rule(
+    alloc: Global,
+    kind: FlagKind,
+    aliases: Option<&[FlagSet]>,
+    class: Class,
+    crossed: bool,
+    line: &Kept,
+) -> Result<Result<Rule, AffWhy>, NoMemory>
+    ensures { IfOk result (λ read. read ≡ rule_of kind (option_copied aliases.entry) class crossed line.now) }
+{
+    let strip = field_of(line, 2).unwrap_or("");
+    let affix = field_of(line, 3).unwrap_or("");
+    let mut add = Items::new(alloc);
+    let behind = push_before_slash(&mut add, affix)?;
+    let carried = match carried_of(alloc, kind, aliases, behind)? {
+        Ok(carried) => carried,
+        Err(why) => return Ok(Err(why)),
+    };
+    let Some(condition) = asked_of(alloc, field_of(line, 4))? else {
+        return Ok(Err(AffWhy::BadCondition));
+    };
+    Ok(Ok(Rule {
+        side: class.side,
+        flag: class.flag,
+        cross: crossed,
+        strip: unless_zero(alloc, chars_of(alloc, strip)?),
+        add: unless_zero(alloc, add),
+        carried,
+        condition,
+    }))
+}
+
+/// The characters that a text stands for: `0` is nothing.
+fn unless_zero(alloc: Global, characters: Chars) -> Chars
+    ensures { result ≡ unless_zero characters }
+{
+    if characters.as_slice() == ['0'].as_slice() {
+        Items::new(alloc)
+    } else {
+        characters
+    }
+}
+
+/// The set of the flags behind the slash.
+fn carried_of(
+    alloc: Global,
+    kind: FlagKind,
+    aliases: Option<&[FlagSet]>,
+    text: Option<&str>,
+) -> Result<Result<FlagSet, AffWhy>, NoMemory>
+    ensures { IfOk result (λ read. read
+        ≡ carried_of kind (option_copied aliases.entry) (option_copied text.entry)) }
+{
+    let Some(text) = text else {
+        return Ok(Ok(FlagSet::new(alloc)));
+    };
+    match read_flags(alloc, kind, aliases, text) {
+        Ok(set) => Ok(Ok(set)),
+        Err(FlagFault::BadFlag) => Ok(Err(AffWhy::BadFlag)),
+        Err(FlagFault::BadAlias) => Ok(Err(AffWhy::BadAlias)),
+        Err(FlagFault::NoMemory) => Err(NoMemory),
+    }
+}
+
+/// The condition of a rule, if the text is one.
+fn asked_of(alloc: Global, text: Option<&str>) -> Result<Option<Condition>, NoMemory>
+    ensures { IfOk result (λ read. read ≡ asked_of (option_copied text.entry)) }
+{
+    let Some(text) = text else {
+        return Ok(Some(Items::new(alloc)));
+    };
+    match read_condition(alloc, text) {
+        Ok(condition) => Ok(Some(condition)),
+        Err(ConditionFault::BadCondition) => Ok(None),
+        Err(ConditionFault::NoMemory) => Err(NoMemory),
+    }
+}
