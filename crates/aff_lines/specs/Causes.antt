@@ -1,8 +1,9 @@
 -- What is wrong with one line.
-use Rattle.std.specs.Prelude.{ℕ, ◌^◌, Bool, true, nat_lt, List, map, is_some, Option, None, Some, option_and_then, codes, if◌then◌else◌}
+use Rattle.std.specs.Prelude.{ℕ, ◌^◌, Bool, true, nat_lt, List, map, is_some, slice_get, Option, None, Some, option_and_then, codes, if◌then◌else◌}
 use Rattle.std.specs.Char.{to_ascii_lowercase}
 use Rattle.std.specs.Str.{bytes_eq}
 use Rattle.text_lines.specs.Fields.{decimal_of}
+use Rattle.text_lines.specs.Fields.{fields}
 use Rattle.spell_types.specs.declared.flags.FlagKind.{FlagKind}
 use Rattle.spell_types.specs.declared.flags.FlagKind.TheVariants.{Utf8, Long, Num}
 use Rattle.flag_sets.specs.FlagTexts.{listed_flags, one_flag}
@@ -11,7 +12,7 @@ use Rattle.aff_lines.specs.declared.faults.AffWhy.TheVariants.{OtherEncoding, Mi
 use Rattle.aff_lines.specs.declared.names.Form.{Form}
 use Rattle.aff_lines.specs.declared.names.Form.TheVariants.{Encoding, Kind, Flag, Number}
 use Rattle.aff_lines.specs.declared.names.Row.{Row}
-use Rattle.aff_lines.specs.declared.names.Row.TheVariants.{FlagField}
+use Rattle.aff_lines.specs.declared.names.Row.TheVariants.{FlagField, TwoTexts}
 use Rattle.aff_lines.specs.declared.rows.Kept.{Kept}
 use Rattle.aff_lines.specs.Rows.{value_of}
 
@@ -66,9 +67,14 @@ abbrev pub flags_why : FlagKind → Option (List ℕ) → Option AffWhy
 flags_why kind None = Some MissingField
 flags_why kind (Some value) = unless (is_some (listed_flags kind value)) BadFlag
 
+-- whether two fields stand behind a line's name
+abbrev pub has_two_texts : Kept → Bool
+has_two_texts line = is_some (slice_get (fields line.text) 2)
+
 -- what is wrong with a row of a table
 abbrev pub row_why : FlagKind → Row → Kept → Option AffWhy
 row_why kind FlagField line = flags_why kind (value_of line)
+row_why kind TwoTexts line = unless (has_two_texts line) MissingField
 
 -- the number in the field behind a line's name
 abbrev pub number_at : Kept → Option ℕ

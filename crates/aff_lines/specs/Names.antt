@@ -5,8 +5,8 @@ use Rattle.std.specs.Str.{bytes_eq}
 use Rattle.aff_lines.specs.declared.names.Directive.{Directive}
 use Rattle.aff_lines.specs.declared.names.Directive.TheVariants.{Set, FlagType, FlagAliases, WordCharacters, Ignore, NeedAffix, Circumfix, ForbiddenWord, KeepCase, Warn, CompoundFlag, CompoundBegin, CompoundMiddle, CompoundLast, CompoundPermitFlag, CompoundForbidFlag, OnlyInCompound, ForceUpperCase, CompoundMinimum, CompoundWordMaximum, FullStrip, ForbidWarn, CompoundMoreSuffixes, CheckCompoundDuplicates, CheckCompoundCase, CheckCompoundTriple, CheckCompoundReplacements, InputConversion, Replacement, Break, CompoundRule, CheckCompoundPattern, Prefix, Suffix, ComplexPrefixes, CompoundSyllable, SyllableNumber, CheckSharps, SimplifiedTriple}
 use Rattle.aff_lines.specs.declared.names.Form.{Form}
-use Rattle.aff_lines.specs.declared.names.Form.TheVariants.{Encoding, Kind, Text, Flag, Switch, Table, LeftOut}
-use Rattle.aff_lines.specs.declared.names.Row.TheVariants.{FlagField}
+use Rattle.aff_lines.specs.declared.names.Form.TheVariants.{Encoding, Kind, Text, Flag, Switch, Table, Class, LeftOut}
+use Rattle.aff_lines.specs.declared.names.Row.TheVariants.{FlagField, TwoTexts}
 
 -- the first name of a directive
 unfoldable pub first_name : Directive → List ℕ
@@ -75,8 +75,13 @@ form_of FlagType = Kind
 form_of FlagAliases = Table FlagField
 form_of WordCharacters = Text
 form_of NeedAffix = Flag
+form_of Circumfix = Flag
 form_of ForbiddenWord = Flag
 form_of Warn = Flag
 form_of OnlyInCompound = Flag
+form_of FullStrip = Switch
 form_of ForbidWarn = Switch
+form_of Replacement = Table TwoTexts
+form_of Prefix = Class
+form_of Suffix = Class
 form_of _ = LeftOut

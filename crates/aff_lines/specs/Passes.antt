@@ -16,7 +16,7 @@ use Rattle.aff_lines.specs.declared.faults.Fault.{Fault}
 use Rattle.aff_lines.specs.declared.names.Directive.{Directive}
 use Rattle.aff_lines.specs.declared.names.Directive.TheVariants.{Set, FlagType, FlagAliases}
 use Rattle.aff_lines.specs.declared.names.Form.{Form}
-use Rattle.aff_lines.specs.declared.names.Form.TheVariants.{Encoding, Kind, Text, Flag as FlagForm, Number, Switch, Table, LeftOut}
+use Rattle.aff_lines.specs.declared.names.Form.TheVariants.{Encoding, Kind, Text, Flag as FlagForm, Number, Switch, Table, Class, LeftOut}
 use Rattle.aff_lines.specs.declared.names.TheConstants.{FIRST, SECOND, THIRD, FOURTH}
 use Rattle.aff_lines.specs.declared.rows.Kept.{Kept}
 use Rattle.aff_lines.specs.Causes.{number_at, number_in, kind_named}
@@ -25,7 +25,8 @@ use Rattle.aff_lines.specs.Grammar.{once_faults, table_faults, all_left_out}
 use Rattle.aff_lines.specs.Rows.{rows_of, rows_with, lines_of, value_of}
 use Rattle.aff_lines.specs.Names.{form_of}
 
--- the faults of a directive of this form that has these lines
+-- The faults of a directive of this form that has these lines. A switch has none, and those of affix classes are asked
+-- of the lines of both sides together, not here.
 abbrev pub form_faults : FlagKind → Form → List Kept → List Fault
 form_faults kind Encoding own = once_faults kind Encoding own
 form_faults kind Kind own = once_faults kind Kind own
@@ -33,6 +34,7 @@ form_faults kind Text own = once_faults kind Text own
 form_faults kind FlagForm own = once_faults kind FlagForm own
 form_faults kind Number own = once_faults kind Number own
 form_faults kind Switch own = []
+form_faults kind Class own = []
 form_faults kind (Table row) own = table_faults kind row own
 form_faults kind LeftOut own = all_left_out own
 

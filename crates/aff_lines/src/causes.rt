@@ -2,14 +2,14 @@
 
 ghost use Rattle.std.specs.Prelude.{◌≡◌, option_and_then};
 ghost use Rattle.std.specs.Option.{option_copied};
-ghost use Rattle.aff_lines.specs.Causes.{is_utf8_name, kind_named, number_in, fits, misfit, unless, value_why, line_why, flags_why, row_why, number_at};
+ghost use Rattle.aff_lines.specs.Causes.{is_utf8_name, kind_named, number_in, fits, misfit, unless, value_why, line_why, flags_why, has_two_texts, row_why, number_at};
 
 use crate::faults::AffWhy;
 use crate::names::{Form, Row};
 use crate::rows::{Kept, value_of};
 use flag_sets::{lists_flags, read_one_flag};
 use spell_types::FlagKind;
-use text_lines::decimal;
+use text_lines::{decimal, field};
 
 /// How many values a number of 32 bits has.
 const NUMBERS: u64 = 1 << 32;
@@ -39,7 +39,7 @@ fn fits(kind: FlagKind, form: Form, value: &str) -> bool
         Form::Kind => kind_named(value).is_some(),
         Form::Flag => read_one_flag(kind, value).is_some(),
         Form::Number => number_in(value).is_some(),
-        Form::Text | Form::Switch | Form::Table(_) | Form::LeftOut => true,
+        Form::Text | Form::Switch | Form::Table(_) | Form::Class | Form::LeftOut => true,
     }
 }
 
@@ -52,7 +52,9 @@ fn misfit(form: Form) -> AffWhy
         Form::Kind => AffWhy::OtherFlag,
         Form::Flag => AffWhy::BadFlag,
         Form::Number => AffWhy::BadNumber,
-        Form::Text | Form::Switch | Form::Table(_) | Form::LeftOut => AffWhy::MissingField,
+        Form::Text | Form::Switch | Form::Table(_) | Form::Class | Form::LeftOut => {
+            AffWhy::MissingField
+        },
     }
 }
 
@@ -69,7 +71,15 @@ pub(crate) fn row_why(kind: FlagKind, row: Row, line: &Kept) -> Option<AffWhy>
 {
     match row {
         Row::FlagField => flags_why(kind, value_of(line)),
+        Row::TwoTexts => unless(has_two_texts(line), AffWhy::MissingField),
     }
+}
+
+/// Whether two fields stand behind a line's name.
+fn has_two_texts(line: &Kept) -> bool
+    ensures { result ≡ has_two_texts line.now }
+{
+    field(line.text.as_str(), 2).is_some()
 }
 
 fn flags_why(kind: FlagKind, value: Option<&str>) -> Option<AffWhy>

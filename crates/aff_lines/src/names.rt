@@ -66,6 +66,8 @@ pub enum Form {
     Switch,
     /// A header with a number, and so many rows.
     Table(Row),
+    /// A line of an affix class, which is looked at with all lines of its class.
+    Class,
     /// A line of the directive is a fault.
     LeftOut,
 }
@@ -75,6 +77,8 @@ pub enum Form {
 pub enum Row {
     /// Flags of the type of the file.
     FlagField,
+    /// Two texts.
+    TwoTexts,
 }
 
 /// The directives that the first pass looks at.
@@ -225,10 +229,15 @@ pub fn form_of(directive: Directive) -> Form
         Directive::FlagAliases => Form::Table(Row::FlagField),
         Directive::WordCharacters => Form::Text,
         Directive::NeedAffix => Form::Flag,
+        Directive::Circumfix => Form::Flag,
         Directive::ForbiddenWord => Form::Flag,
         Directive::Warn => Form::Flag,
         Directive::OnlyInCompound => Form::Flag,
+        Directive::FullStrip => Form::Switch,
         Directive::ForbidWarn => Form::Switch,
+        Directive::Replacement => Form::Table(Row::TwoTexts),
+        Directive::Prefix => Form::Class,
+        Directive::Suffix => Form::Class,
         _ => Form::LeftOut,
     }
 }

@@ -45,7 +45,7 @@ fn form_fault(kind: FlagKind, form: Form, directive: Directive, rows: &[Kept]) -
         Form::Text => once_fault(kind, Form::Text, directive, rows),
         Form::Flag => once_fault(kind, Form::Flag, directive, rows),
         Form::Number => once_fault(kind, Form::Number, directive, rows),
-        Form::Switch => None,
+        Form::Switch | Form::Class => None,
         Form::Table(row) => table_fault(kind, row, directive, rows),
         Form::LeftOut => left_out_fault(directive, rows),
     }

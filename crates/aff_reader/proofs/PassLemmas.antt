@@ -1,16 +1,16 @@
 -- The first fault of the early passes and one more, and what is read of a file.
-use Rattle.std.proofs.Common.{◌≡◌, ℕ, List, [], ◌∷◌, ◌++◌, Option, Some, None, Result, Ok, Err, IfOk, IfErr, refl, sym, ap, ◌∙◌, subst, arith}
+use Rattle.std.proofs.Common.{◌≡◌, ℕ, Bool, true, false, cond, List, [], ◌∷◌, ◌++◌, Option, Some, None, Result, Ok, Err, IfOk, IfErr, refl, sym, ap, ◌∙◌}
 use Rattle.std.specs.Option.{option_or}
 use Rattle.spell_types.specs.declared.Affixes.{Affixes}
+use Rattle.spell_types.specs.declared.flags.Flag.{Flag}
 use Rattle.spell_types.specs.declared.flags.FlagKind.{FlagKind}
-use Rattle.spell_types.specs.Sanity.{AreSaneAffixes}
 use Rattle.aff_lines.specs.declared.faults.AffFault.{AffFault}
 use Rattle.aff_lines.specs.declared.faults.AffFault.TheVariants.{At, NoMemory}
 use Rattle.aff_lines.specs.declared.faults.Fault.{Fault}
 use Rattle.aff_lines.specs.declared.rows.Kept.{Kept}
-use Rattle.aff_lines.specs.Faults.{least_of, first_fault, IsFault, IsLeast}
+use Rattle.aff_lines.specs.Faults.{least_of, first_fault, is_before, sooner, IsFault, IsLeast}
 use Rattle.aff_lines.specs.Passes.{early_passes}
-use Rattle.aff_reader.specs.Grammar.{kind_of, kept_of, late_faults, aff_passes, aff_said, unless_fault, aff_read, AffReads, AffRefuses, IsRead}
+use Rattle.aff_reader.specs.Grammar.{kind_of, aliases_of, kept_of, late_faults, aff_passes, aff_said, unless_fault, aff_read, AffReads, AffRefuses, IsRead}
 
 or-none : (found : Option Fault) → option_or found None ≡ found
 or-none None = refl
@@ -27,16 +27,28 @@ first_behind (faults ∷ passes) late =
     ap (option_or (least_of faults)) (first_behind passes late) ∙ or-assoc (least_of faults) (first_fault passes) (least_of late)
 
 -- a file whose first fault is one of the fourth pass
-pub read_late : (bytes : List ℕ) (kind : FlagKind) (rows : List Kept) (fault : Fault) → kind ≡ kind_of bytes → rows ≡ kept_of bytes
-    → first_fault (early_passes bytes) ≡ None → least_of (late_faults kind rows) ≡ Some fault → aff_read bytes ≡ Err fault
+pub read_late : (bytes : List ℕ) (kind : FlagKind) (aliases : Option (List (List Flag))) (rows : List Kept) (fault : Fault)
+    → kind ≡ kind_of bytes → aliases ≡ aliases_of bytes → rows ≡ kept_of bytes
+    → first_fault (early_passes bytes) ≡ None → least_of (late_faults kind aliases rows) ≡ Some fault → aff_read bytes ≡ Err fault
 unfolding aff_read
-read_late bytes kind rows fault same_kind same_rows fine late =
-    let own : late_faults (kind_of bytes) (kept_of bytes) ≡ late_faults kind rows =
-    ap (λ k. late_faults k (kept_of bytes)) (sym same_kind) ∙ ap (late_faults kind) (sym same_rows) in
+read_late bytes kind aliases rows fault same_kind same_aliases same_rows fine late =
+    let whole = late_faults (kind_of bytes) (aliases_of bytes) (kept_of bytes) in
+    let own : whole ≡ late_faults kind aliases rows =
+    ap (λ k. late_faults k (aliases_of bytes) (kept_of bytes)) (sym same_kind)
+    ∙ ap (λ a. late_faults kind a (kept_of bytes)) (sym same_aliases)
+    ∙ ap (late_faults kind aliases) (sym same_rows) in
     ap (λ found. unless_fault found (aff_said bytes))
-    (first_behind (early_passes bytes) (late_faults (kind_of bytes) (kept_of bytes))
-    ∙ ap (λ found. option_or found (least_of (late_faults (kind_of bytes) (kept_of bytes)))) fine
-    ∙ ap least_of own ∙ late)
+    (first_behind (early_passes bytes) whole ∙ ap (λ found. option_or found (least_of whole)) fine ∙ ap least_of own ∙ late)
+
+-- the later of two faults is none where the earlier of them is
+pub later_none : (found later : Option Fault) → sooner found later ≡ None → later ≡ None
+later_none None later none = none
+later_none (Some first) None none = refl
+later_none (Some first) (Some other) none = absurd (some-or-some (is_before other first) none)
+  where
+    some-or-some : (b : Bool) → cond b (Some other) (Some first) ≡ None → ⊥
+    some-or-some true is = cc is
+    some-or-some false is = cc is
 
 -- what is read, taken apart
 
@@ -66,10 +78,3 @@ refuses_at_first bytes (Err NoMemory) is law = tt
 refuses_at_first bytes (Err (At line why)) is law =
     let fault : Fault = record { line = line; why = why } in
     law (aff_passes bytes) fault (read-err (first_fault (aff_passes bytes)) (aff_said bytes) fault is)
-
-pub reads_sane : (bytes : List ℕ) (result : Result Affixes AffFault) → IsRead (aff_read bytes) result → IfOk result AreSaneAffixes
-unfolding aff_read
-reads_sane bytes (Ok affixes) is =
-    let apart = read-ok (first_fault (aff_passes bytes)) (aff_said bytes) affixes is in
-    subst AreSaneAffixes (sym apart.1) (omega arith)
-reads_sane bytes (Err fault) is = tt

@@ -1,5 +1,5 @@
 -- The grammar of the .aff file: the faults of its four passes, and what it says.
-use Rattle.std.specs.Prelude.{◌≡◌, ℕ, false, List, [], ◌∷◌, ◌++◌, Option, None, Some, Result, Ok, Err, unwrap_or}
+use Rattle.std.specs.Prelude.{◌≡◌, ℕ, List, [], ◌∷◌, ◌++◌, Option, None, Some, Result, Ok, Err, unwrap_or}
 use Rattle.std.specs.Str.{chars}
 use Rattle.spell_types.specs.declared.Affixes.{Affixes}
 use Rattle.spell_types.specs.declared.flags.Flag.{Flag}
@@ -9,11 +9,12 @@ use Rattle.spell_types.specs.declared.signs.Signs.{Signs}
 use Rattle.aff_lines.specs.declared.faults.AffFault.{AffFault}
 use Rattle.aff_lines.specs.declared.faults.AffFault.TheVariants.{At, NoMemory}
 use Rattle.aff_lines.specs.declared.faults.Fault.{Fault}
-use Rattle.aff_lines.specs.declared.names.Directive.TheVariants.{FlagType, FlagAliases, WordCharacters, NeedAffix, ForbiddenWord, Warn, OnlyInCompound, ForbidWarn}
+use Rattle.aff_lines.specs.declared.names.Directive.TheVariants.{FlagType, FlagAliases, WordCharacters, NeedAffix, Circumfix, ForbiddenWord, Warn, OnlyInCompound, FullStrip, ForbidWarn}
 use Rattle.aff_lines.specs.declared.names.TheConstants.{FOURTH}
 use Rattle.aff_lines.specs.declared.rows.Kept.{Kept}
 use Rattle.aff_lines.specs.Faults.{first_fault, IsFault, Refuses}
 use Rattle.aff_lines.specs.Passes.{early_passes, pass_faults, kind_said, aliases_said, flag_said, is_said, value_said}
+use Rattle.aff_reader.specs.Classes.{class_faults, rules_said}
 use Rattle.aff_lines.specs.Rows.{rows_of, rows_with, lines_of}
 
 -- the type of flags of a file
@@ -24,19 +25,23 @@ kind_of bytes = kind_said (lines_of FlagType (rows_of bytes))
 abbrev pub kept_of : List ℕ → List Kept
 kept_of bytes = rows_with FOURTH (rows_of bytes)
 
--- the faults of the fourth pass
-abbrev pub late_faults : FlagKind → List Kept → List Fault
-late_faults kind rows = pass_faults kind rows FOURTH
+-- the flag aliases of a file, if it has any
+abbrev pub aliases_of : List ℕ → Option (List (List Flag))
+aliases_of bytes = aliases_said (kind_of bytes) (lines_of FlagAliases (rows_of bytes))
+
+-- the faults of the fourth pass: those of each option, and those of affix classes
+abbrev pub late_faults : FlagKind → Option (List (List Flag)) → List Kept → List Fault
+late_faults kind aliases rows = pass_faults kind rows FOURTH ++ class_faults kind aliases rows
 
 -- the faults of a file, pass by pass
 abbrev pub aff_passes : List ℕ → List (List Fault)
-aff_passes bytes = early_passes bytes ++ late_faults (kind_of bytes) (kept_of bytes) ∷ []
+aff_passes bytes = early_passes bytes ++ late_faults (kind_of bytes) (aliases_of bytes) (kept_of bytes) ∷ []
 
--- The flags with a meaning; those whose options are not built have none.
+-- the flags with a meaning
 abbrev pub signs_said : FlagKind → List Kept → Signs
 signs_said kind rows = record {
   need_affix = flag_said kind (lines_of NeedAffix rows);
-  circumfix = None;
+  circumfix = flag_said kind (lines_of Circumfix rows);
   forbidden = flag_said kind (lines_of ForbiddenWord rows);
   warn = flag_said kind (lines_of Warn rows);
   only_inside = flag_said kind (lines_of OnlyInCompound rows);
@@ -44,7 +49,7 @@ signs_said kind rows = record {
 
 -- the switches
 abbrev pub options_said : List Kept → Options
-options_said rows = record { full_strip = false; forbid_warn = is_said (lines_of ForbidWarn rows) }
+options_said rows = record { full_strip = is_said (lines_of FullStrip rows); forbid_warn = is_said (lines_of ForbidWarn rows) }
 
 -- the characters of a text that may be there
 abbrev pub characters_said : Option (List ℕ) → List ℕ
@@ -55,7 +60,7 @@ abbrev pub affixes_said : FlagKind → Option (List (List Flag)) → List Kept �
 affixes_said kind aliases rows = record {
   kind = kind;
   aliases = aliases;
-  rules = [];
+  rules = rules_said kind aliases rows;
   signs = signs_said kind rows;
   options = options_said rows;
   wordchars = characters_said (value_said (lines_of WordCharacters rows));
@@ -63,7 +68,7 @@ affixes_said kind aliases rows = record {
 
 -- what a file without faults says
 abbrev pub aff_said : List ℕ → Affixes
-aff_said bytes = affixes_said (kind_of bytes) (aliases_said (kind_of bytes) (lines_of FlagAliases (rows_of bytes))) (kept_of bytes)
+aff_said bytes = affixes_said (kind_of bytes) (aliases_of bytes) (kept_of bytes)
 
 abbrev pub unless_fault : Option Fault → Affixes → Result Affixes Fault
 unless_fault None affixes = Ok affixes

@@ -1,22 +1,26 @@
 //! Reads the .aff file of a dictionary: its options, by the rules of hunspell(5), or its first fault.
 #![tactic(auto)]
 
-ghost use Rattle.std.specs.Prelude.{◌≡◌, IfOk, IfErr};
+ghost use Rattle.std.specs.Prelude.{◌≡◌, ◌≤◌, None, length, IfOk, IfErr};
 ghost use Rattle.std.specs.Option.{option_copied};
 ghost use Rattle.spell_types.specs.Sanity.{AreSaneAffixes};
 ghost use Rattle.aff_lines.specs.Faults.{least_of};
+ghost use Rattle.aff_reader.specs.Classes.{class_faults, rules_said};
 ghost use Rattle.aff_reader.specs.Grammar.{AffReads, AffRefuses, IsRead, aff_read, late_faults, affixes_said, signs_said, options_said, characters_said};
 
 use aff_lines::{
     AffFault, Directive, Directives, FOURTH, Fault, Kept, find_fault, first_faults_are_least,
-    flag_said, is_said, read_directives, value_said,
+    flag_said, is_said, read_directives, sooner, value_said,
 };
+use classes::{class_fault, read_rules};
 use lists::{Items, NoMemory};
-use spell_types::{Affixes, Chars, FlagKind, FlagSet, Options, Signs, chars_of};
+use spell_types::{Affixes, Chars, FlagKind, FlagSet, Options, Rule, Signs, chars_of};
 use std::alloc::Global;
 
 mod class_lines;
 mod class_rules;
+#[cfg(test)]
+mod class_tests;
 mod classes;
 #[cfg(test)]
 mod tests;
@@ -38,27 +42,45 @@ pub fn read_aff(alloc: Global, bytes: &[u8]) -> Result<Affixes, AffFault>
 
 #[tactic(auto, unfolding(crate::specs::Grammar::aff_read))]
 fn read_passes(alloc: Global, bytes: &[u8]) -> Result<Affixes, AffFault>
-    ensures { IsRead (aff_read bytes.now) result }
+    ensures read { IsRead (aff_read bytes.now) result }
+    ensures sane { IfOk result AreSaneAffixes }
 {
     let Directives {
         kind,
         aliases,
         kept,
     } = read_directives(alloc, bytes)?;
-    if let Some(fault) = late_fault(kind, kept.as_slice()) {
+    let rows = kept.as_slice();
+    if let Some(fault) = late_fault(alloc, kind, aliases_of(&aliases), rows)? {
         return Err(AffFault::At {
             line: fault.line,
             why: fault.why,
         });
     }
-    Ok(read_affixes(alloc, kind, aliases, kept.as_slice())?)
+    let rules = read_rules(alloc, kind, aliases_of(&aliases), rows)?;
+    Ok(read_affixes(alloc, kind, aliases, rules, rows)?)
 }
 
 /// The first fault of the fourth pass.
-fn late_fault(kind: FlagKind, rows: &[Kept]) -> Option<Fault>
-    ensures { result ≡ least_of (late_faults kind rows.now) }
+#[tactic(auto, using(aff_lines::proofs::FaultLemmas::least_append, crate::proofs::PassLemmas::later_none))]
+fn late_fault(
+    alloc: Global,
+    kind: FlagKind,
+    aliases: Option<&[FlagSet]>,
+    rows: &[Kept],
+) -> Result<Option<Fault>, NoMemory>
+    ensures least { IfOk result (λ fault. fault ≡ least_of (late_faults kind (option_copied aliases.entry) rows.now)) }
+    ensures classes { IfOk result (λ fault. fault ≡ None → least_of (class_faults kind (option_copied aliases.entry) rows.now) ≡ None) }
 {
-    find_fault(kind, rows, &FOURTH)
+    let fault = class_fault(alloc, kind, aliases, rows)?;
+    Ok(sooner(find_fault(kind, rows, &FOURTH), fault))
+}
+
+/// The sets that ordinals stand for, if the file has aliases.
+fn aliases_of(aliases: &Option<Items<FlagSet>>) -> Option<&[FlagSet]>
+    ensures { option_copied result ≡ aliases.now }
+{
+    aliases.as_ref().map(|sets| sets.as_slice())
 }
 
 /// What rows without faults say.
@@ -66,14 +88,18 @@ fn read_affixes(
     alloc: Global,
     kind: FlagKind,
     aliases: Option<Items<FlagSet>>,
+    rules: Items<Rule>,
     rows: &[Kept],
 ) -> Result<Affixes, NoMemory>
-    ensures { IfOk result (λ affixes. affixes ≡ affixes_said kind aliases rows.now) }
+    requires rules { rules ≡ rules_said kind aliases rows.now }
+    requires few { length rules ≤ 200000 }
+    ensures said { IfOk result (λ affixes. affixes ≡ affixes_said kind aliases rows.now) }
+    ensures sane { IfOk result AreSaneAffixes }
 {
     Ok(Affixes {
         kind,
         aliases,
-        rules: Items::new(alloc),
+        rules,
         signs: signs_of(kind, rows),
         options: options_of(rows),
         wordchars: characters_of(alloc, value_said(Directive::WordCharacters, rows))?,
@@ -86,7 +112,7 @@ fn signs_of(kind: FlagKind, rows: &[Kept]) -> Signs
 {
     Signs {
         need_affix: flag_said(kind, Directive::NeedAffix, rows),
-        circumfix: None,
+        circumfix: flag_said(kind, Directive::Circumfix, rows),
         forbidden: flag_said(kind, Directive::ForbiddenWord, rows),
         warn: flag_said(kind, Directive::Warn, rows),
         only_inside: flag_said(kind, Directive::OnlyInCompound, rows),
@@ -98,7 +124,7 @@ fn options_of(rows: &[Kept]) -> Options
     ensures { result ≡ options_said rows.now }
 {
     Options {
-        full_strip: false,
+        full_strip: is_said(Directive::FullStrip, rows),
         forbid_warn: is_said(Directive::ForbidWarn, rows),
     }
 }

@@ -103,7 +103,7 @@ fn refuses_in_the_second_and_third_pass(rt: HostRuntime) -> Result<(), Fail> {
 
 #[test]
 fn refuses_in_the_fourth_pass(rt: HostRuntime) -> Result<(), Fail> {
-    let table: [(&[u8], u64, AffWhy); 20] = [
+    let table: [(&[u8], u64, AffWhy); 26] = [
         (b"COMPLEXPREFIXES", 1, AffWhy::LeftOut),
         (b"SET UTF-8\nCOMPOUNDMIN\n", 2, AffWhy::LeftOut),
         (b"CHECKSHARPS\r\nSYLLABLENUM x\r\n", 1, AffWhy::LeftOut),
@@ -130,7 +130,22 @@ fn refuses_in_the_fourth_pass(rt: HostRuntime) -> Result<(), Fail> {
             AffWhy::Twice,
         ),
         (b"FORBIDDENWORD ab\nSFX\n", 1, AffWhy::BadFlag),
-        (b"SFX\nFORBIDDENWORD ab\n", 1, AffWhy::LeftOut),
+        (b"SFX\nFORBIDDENWORD ab\n", 1, AffWhy::MissingField),
+        // A row of two texts, and the lines of affix classes.
+        (b"REP 2\nREP a b\nREP c\n", 3, AffWhy::MissingField),
+        (b"REP 1\n", 1, AffWhy::TableShort),
+        (b"SFX A Y 1\nWARN ab\nSFX A 0 s [a\n", 2, AffWhy::BadFlag),
+        (
+            b"WARN a\nSFX A Y 1\nSFX A 0 s [a\nWARN a\n",
+            3,
+            AffWhy::BadCondition,
+        ),
+        (
+            b"AF 1\nAF XY\nSFX A Y 1\nSFX A 0 s/2 .\n",
+            4,
+            AffWhy::BadAlias,
+        ),
+        (b"CIRCUMFIX ab\nFULLSTRIP\n", 1, AffWhy::BadFlag),
         (b"FORBIDWARN\nFORBIDWARN x\nKEEPCASE\n", 3, AffWhy::LeftOut),
     ];
     assert_each_refused(&rt, rt.alloc(), table.as_slice())?;

@@ -228,9 +228,136 @@ fn checks_by_entries_and_their_flags(rt: HostRuntime) -> Result<(), Fail> {
     Ok(())
 }
 
+const TRY_AFF: &[u8] = b"SET UTF-8\nTRY esianrtolc\nREP 2\nREP f ph\nREP ph f\n\
+PFX A Y 1\nPFX A 0 re .\nSFX B Y 2\nSFX B 0 ed [^y]\nSFX B y ied y\n";
+
+const TRY_DIC: &[u8] = b"3\nhello\ntry/B\nwork/AB\n";
+
+#[test]
+fn checks_by_affix_rules(rt: HostRuntime) -> Result<(), Fail> {
+    let cases: [(&[u8], &[u8], &[u8], &str, u8); 16] = [
+        (
+            TRY_AFF,
+            TRY_DIC,
+            b"hello tried reworked retry worked",
+            "1 21 26 retry\n1 of 5\n",
+            1,
+        ),
+        (TRY_AFF, TRY_DIC, b"tryed tried", "1 0 5 tryed\n1 of 2\n", 1),
+        (
+            b"SFX Y Y 1\nSFX Y 0 s .\nSFX X Y 1\nSFX X 0 able/Y .\n",
+            b"1\ndrink/X\n",
+            b"drinkable drinkables drinks",
+            "1 21 27 drinks\n1 of 3\n",
+            1,
+        ),
+        (
+            b"PFX P Y 1\nPFX P 0 un .\nSFX S Y 1\nSFX S 0 s .\nSFX Q Y 1\nSFX Q 0 s .\nSFX R Y 1\nSFX R 0 able/PS .\n",
+            b"2\ndrink/RQ\ndrink/S\n",
+            b"undrinkable undrinkables drinks undrink",
+            "1 32 39 undrink\n1 of 4\n",
+            1,
+        ),
+        (
+            b"CIRCUMFIX X\nPFX A Y 1\nPFX A 0 leg/X .\nSFX C Y 2\nSFX C 0 obb .\nSFX C 0 obb/AX .\n",
+            b"1\nnagy/C\n",
+            b"nagy nagyobb legnagyobb legnagy",
+            "1 24 31 legnagy\n1 of 4\n",
+            1,
+        ),
+        (
+            b"CIRCUMFIX X\nPFX A Y 1\nPFX A 0 leg/X .\nSFX C Y 1\nSFX C 0 obb/AX .\n",
+            b"1\nnagy/C\n",
+            b"nagy nagyobb legnagyobb legnagy",
+            "1 5 12 nagyobb\n1 24 31 legnagy\n2 of 4\n",
+            1,
+        ),
+        (
+            b"NEEDAFFIX X\nSFX A Y 2\nSFX A 0 suf/B .\nSFX A 0 pseudosuf/XB .\nSFX B Y 1\nSFX B 0 bar .\nPFX C Y 2\nPFX C 0 pre .\nPFX C 0 pseudopre/X .\n",
+            b"1\nfoo/AC\n",
+            b"prefoopseudosuf pseudoprefoo foopseudosuf pseudoprefoopseudosuf foo",
+            "1 16 28 pseudoprefoo\n1 29 41 foopseudosuf\n1 42 63 pseudoprefoopseudosuf\n3 of 5\n",
+            1,
+        ),
+        (
+            b"NEEDAFFIX X\nSFX Z Y 1\nSFX Z 0 0 .\n",
+            b"2\nzero/XZ\nnone/X\n",
+            b"zero none",
+            "1 5 9 none\n1 of 2\n",
+            1,
+        ),
+        // The condition is longer than the word.
+        (
+            b"SFX C Y 1\nSFX C 0 s xyzz\n",
+            b"1\nzz/C\n",
+            b"zzs",
+            "1 0 3 zzs\n1 of 1\n",
+            1,
+        ),
+        (
+            b"SFX W Y 1\nSFX W go went go\n",
+            b"1\ngo/W\n",
+            b"go went",
+            "1 3 7 went\n1 of 2\n",
+            1,
+        ),
+        (
+            b"FULLSTRIP\nSFX W Y 1\nSFX W go went go\n",
+            b"1\ngo/W\n",
+            b"go went",
+            "0 of 2\n",
+            0,
+        ),
+        // Flags of entries by aliases.
+        (
+            b"PFX A Y 1\nPFX A 0 re .\nSFX B Y 2\nSFX B 0 ed [^y]\nSFX B y ied y\nAF 2\nAF B\nAF AB\n",
+            b"3\nhello\ntry/1\nwork/2\n",
+            b"hello tried reworked retry worked",
+            "1 21 26 retry\n1 of 5\n",
+            1,
+        ),
+        // The prefix licenses the suffix.
+        (
+            b"PFX P Y 1\nPFX P 0 un/S .\nSFX S Y 1\nSFX S 0 s .\n",
+            b"1\ndo/P\n",
+            b"do undo undos dos",
+            "1 14 17 dos\n1 of 4\n",
+            1,
+        ),
+        // A class that does not cross.
+        (
+            b"PFX P N 1\nPFX P 0 un .\nSFX S Y 1\nSFX S 0 s .\n",
+            b"1\ndo/PS\n",
+            b"undo dos undos",
+            "1 9 14 undos\n1 of 3\n",
+            1,
+        ),
+        // Two affixes that license each other from nothing.
+        (
+            b"PFX P Y 1\nPFX P 0 un/S .\nSFX S Y 1\nSFX S 0 s/P .\n",
+            b"1\ndo\n",
+            b"undos",
+            "1 0 5 undos\n1 of 1\n",
+            1,
+        ),
+        // The affixed forms of a forbidden word are forbidden.
+        (
+            b"FORBIDDENWORD Z\nSFX S Y 1\nSFX S 0 s .\n",
+            b"3\nbar/S\nbars/Z\nbaz/SZ\n",
+            b"bar bars baz bazs",
+            "1 4 8 bars\n1 9 12 baz\n1 13 17 bazs\n3 of 4\n",
+            1,
+        ),
+    ];
+    for (aff, dic, text, want, status) in cases {
+        assert_checked(&rt, rt.alloc(), aff, dic, text, want, status)?;
+    }
+    Ok(())
+}
+
 #[test]
 fn refuses_dictionaries_with_the_first_fault(rt: HostRuntime) -> Result<(), Fail> {
-    let cases: [(&[u8], &[u8], &str); 31] = [
+    let cases: [(&[u8], &[u8], &str); 39] = [
         (b"SET UTF-8\nCOMPLEXPREFIXES\n", DIC, "aff 2 LeftOut\n"),
         (b"COMPLEXPREFIXES\n", DIC, "aff 1 LeftOut\n"),
         (b"SET ISO8859-1\n", DIC, "aff 1 OtherEncoding\n"),
@@ -247,6 +374,30 @@ fn refuses_dictionaries_with_the_first_fault(rt: HostRuntime) -> Result<(), Fail
         (b"AF many\n", DIC, "aff 1 BadNumber\n"),
         (b"FLAG\n", DIC, "aff 1 MissingField\n"),
         (b"FLAG num\nFLAG num\n", DIC, "aff 2 Twice\n"),
+        (
+            b"SET UTF-8\nFLAG num\nPFX 65001 Y 0\n",
+            DIC,
+            "aff 3 BadFlag\n",
+        ),
+        (
+            b"SET UTF-8\nSFX A Y 3\nSFX A 0 s .\nSFX A 0 t .\n",
+            DIC,
+            "aff 2 TableShort\n",
+        ),
+        (b"SFX A Y 1\nSFX A 0 s [ab\n", DIC, "aff 2 BadCondition\n"),
+        (b"SFX S Y 4000000000\n", DIC, "aff 1 TooMany\n"),
+        (b"SFX S Y 99999999999\n", DIC, "aff 1 BadNumber\n"),
+        (
+            b"SFX S Y 2\nSFX S 0 s .\nSFX S 0 t .\nSFX S 0 u .\n",
+            DIC,
+            "aff 4 Twice\n",
+        ),
+        (b"SFX S X 0\n", DIC, "aff 1 BadCross\n"),
+        (
+            b"AF 2\nAF B\nAF AB\nSFX B Y 0\n",
+            b"3\nhello\ntry/1\nwork/3\n",
+            "dic 4 BadAlias\n",
+        ),
         // A fault of the .aff file goes before those of the .dic file.
         (b"WARN\n", b"", "aff 1 MissingField\n"),
         (b"FLAG long\n", b"1\nfoo/abc\n", "dic 2 BadFlag\n"),
@@ -319,7 +470,7 @@ fn stops_in_order(rt: HostRuntime) -> Result<(), Fail> {
         &rt,
         alloc,
         &words,
-        &[("a", b"REP 0\n")],
+        &[("a", b"KEEPCASE K\n")],
         "aff 1 LeftOut\n",
         3,
     )?;
