@@ -11,6 +11,8 @@ ghost use Rattle.spell_types.specs.Sanity.{IsSane};
 ghost use Rattle.affix_strip.specs.Found.{derivations_of, IsRising};
 ghost use Rattle.affix_strip.specs.Ways.{derived_by, derived_at};
 
+#[cfg(test)]
+mod tests;
 mod ways;
 
 use lists::{Items, NoMemory};
