@@ -26,6 +26,7 @@ undone_at affixes side None word = Some word
 undone_at affixes side (Some place) word =
     option_and_then (λ rule. undone_by side affixes.options.full_strip rule word) (rule_on affixes.rules side place)
 
+-- a second suffix and what is left without it, if it may be undone
 abbrev pub outer_at : Option ℕ → Option (List ℕ) → List Outer
 outer_at second None = []
 outer_at second (Some stem) = record { second = second; stem = stem } ∷ []
@@ -34,6 +35,7 @@ outer_at second (Some stem) = record { second = second; stem = stem } ∷ []
 abbrev pub outers_of : Affixes → List (Option ℕ) → List ℕ → List Outer
 outers_of affixes places word = flat_map (λ second. outer_at second (undone_at affixes Suffix second word)) places
 
+-- a way and its stem, if there is one
 abbrev pub way_at : Option ℕ → Option ℕ → Option ℕ → Option (List ℕ) → List Way
 way_at prefix first second None = []
 way_at prefix first second (Some stem) = record { prefix = prefix; first = first; second = second; stem = stem } ∷ []
@@ -70,5 +72,6 @@ abbrev pub derived_from : Lexicon → List Way → ℕ → Option Entry → List
 derived_from lexicon ways place None = []
 derived_from lexicon ways place (Some entry) = flat_map (derived_by lexicon place entry) ways
 
+-- the same from the entry with a place, if there is one
 abbrev pub derived_at : Lexicon → List Way → ℕ → List Derivation
 derived_at lexicon ways place = derived_from lexicon ways place (slice_get lexicon.entries place)

@@ -123,6 +123,7 @@ fn add_derived(
     }
 }
 
+/// Adds the derivations from this entry, which has that place, by these ways.
 fn add_from(
     lexicon: &Lexicon,
     ways: &[Way],

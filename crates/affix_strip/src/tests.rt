@@ -30,6 +30,11 @@ fn text_of(alloc: Global, text: &str) -> Result<Chars, Fail> {
     Ok(chars_of(alloc, text)?)
 }
 
+/// The field with a place, from 0, of a row that has a space between fields.
+fn field<'a>(row: &'a str, place: usize) -> &'a str {
+    row.split(' ').nth(place).unwrap_or("")
+}
+
 fn side_of(text: &str) -> Side {
     if text == "P" {
         Side::Prefix
@@ -41,17 +46,19 @@ fn side_of(text: &str) -> Side {
 /// A rule by its side, its flag, what it strips and adds, the flags that it carries and its condition, as in
 /// `S A y iable S [^aeiou]y`. The class X does not cross.
 fn rule_of(alloc: Global, row: &str) -> Result<Rule, Fail> {
-    let mut fields = row.split(' ');
-    let side = side_of(fields.next().unwrap_or(""));
-    let flag = fields.next().unwrap_or("").chars().next().unwrap_or('?');
+    let flag = field(row, 1).chars().next().unwrap_or('?');
+    let strip = text_of(alloc, field(row, 2))?;
+    let add = text_of(alloc, field(row, 3))?;
+    let carried = flags_of(alloc, field(row, 4))?;
+    let condition = read_condition(alloc, field(row, 5))?;
     Ok(Rule {
-        side,
+        side: side_of(field(row, 0)),
         flag: Flag(u64::from(flag as u32)),
         cross: flag != 'X',
-        strip: text_of(alloc, fields.next().unwrap_or(""))?,
-        add: text_of(alloc, fields.next().unwrap_or(""))?,
-        carried: flags_of(alloc, fields.next().unwrap_or(""))?,
-        condition: read_condition(alloc, fields.next().unwrap_or("."))?,
+        strip,
+        add,
+        carried,
+        condition,
     })
 }
 
@@ -65,11 +72,9 @@ fn rules_of(alloc: Global, rows: &str) -> Result<Items<Rule>, Fail> {
 
 /// An entry by its word and its flags, as in `do US`.
 fn entry_of(alloc: Global, row: &str) -> Result<Entry, Fail> {
-    let mut fields = row.split(' ');
-    Ok(Entry {
-        word: text_of(alloc, fields.next().unwrap_or(""))?,
-        flags: flags_of(alloc, fields.next().unwrap_or(""))?,
-    })
+    let word = text_of(alloc, field(row, 0))?;
+    let flags = flags_of(alloc, field(row, 1))?;
+    Ok(Entry { word, flags })
 }
 
 fn entries_of(alloc: Global, rows: &str) -> Result<Entries, Fail> {
@@ -148,21 +153,17 @@ fn lexicon_of(
     stems_of(rt, alloc, affixes, entries)
 }
 
-fn place_of(field: Option<&str>) -> Option<u32> {
-    match field {
-        None => None,
-        Some(text) => text.parse::<u32>().ok(),
-    }
+fn place_of(field: &str) -> Option<u32> {
+    field.parse::<u32>().ok()
 }
 
 /// A derivation by the places of its entry, its prefix and its suffixes, as in `0 - 2 1`.
 fn derivation_of(row: &str) -> Derivation {
-    let mut fields = row.split(' ');
     Derivation {
-        entry: place_of(fields.next()).unwrap_or(u32::MAX),
-        prefix: place_of(fields.next()),
-        first: place_of(fields.next()),
-        second: place_of(fields.next()),
+        entry: place_of(field(row, 0)).unwrap_or(u32::MAX),
+        prefix: place_of(field(row, 1)),
+        first: place_of(field(row, 2)),
+        second: place_of(field(row, 3)),
     }
 }
 

@@ -26,6 +26,11 @@ fn text_of(alloc: Global, text: &str) -> Result<Chars, Fail> {
     Ok(chars_of(alloc, text)?)
 }
 
+/// The field with a place, from 0, of a row that has a space between fields.
+fn field<'a>(row: &'a str, place: usize) -> &'a str {
+    row.split(' ').nth(place).unwrap_or("")
+}
+
 fn side_of(text: &str) -> Side {
     if text == "P" {
         Side::Prefix
@@ -37,23 +42,25 @@ fn side_of(text: &str) -> Side {
 /// A rule by its side, its flag, what it strips and adds, and the flags that it carries, as in `S A 0 able S`. The
 /// class X does not cross.
 fn rule_of(alloc: Global, row: &str) -> Result<Rule, Fail> {
-    let mut fields = row.split(' ');
-    let side = side_of(fields.next().unwrap_or(""));
-    let flag = fields.next().unwrap_or("").chars().next().unwrap_or('?');
+    let flag = field(row, 1).chars().next().unwrap_or('?');
+    let strip = text_of(alloc, field(row, 2))?;
+    let add = text_of(alloc, field(row, 3))?;
+    let carried = flags_of(alloc, field(row, 4))?;
+    let condition = Items::new(alloc);
     Ok(Rule {
-        side,
+        side: side_of(field(row, 0)),
         flag: flag_of(flag),
         cross: flag != 'X',
-        strip: text_of(alloc, fields.next().unwrap_or(""))?,
-        add: text_of(alloc, fields.next().unwrap_or(""))?,
-        carried: flags_of(alloc, fields.next().unwrap_or(""))?,
-        condition: Items::new(alloc),
+        strip,
+        add,
+        carried,
+        condition,
     })
 }
 
-fn rules_of(alloc: Global, rows: &[&str]) -> Result<Items<Rule>, Fail> {
+fn rules_of(alloc: Global, rows: &str) -> Result<Items<Rule>, Fail> {
     let mut rules = Items::new(alloc);
-    for row in rows {
+    for row in rows.split("; ") {
         rules.push(rule_of(alloc, row)?)?;
     }
     Ok(rules)
@@ -61,16 +68,14 @@ fn rules_of(alloc: Global, rows: &[&str]) -> Result<Items<Rule>, Fail> {
 
 /// An entry by its word and its flags, as in `do US`.
 fn entry_of(alloc: Global, row: &str) -> Result<Entry, Fail> {
-    let mut fields = row.split(' ');
-    Ok(Entry {
-        word: text_of(alloc, fields.next().unwrap_or(""))?,
-        flags: flags_of(alloc, fields.next().unwrap_or(""))?,
-    })
+    let word = text_of(alloc, field(row, 0))?;
+    let flags = flags_of(alloc, field(row, 1))?;
+    Ok(Entry { word, flags })
 }
 
-fn entries_of(alloc: Global, rows: &[&str]) -> Result<Entries, Fail> {
+fn entries_of(alloc: Global, rows: &str) -> Result<Entries, Fail> {
     let mut entries = Items::new(alloc);
-    for row in rows {
+    for row in rows.split("; ") {
         entries.push(entry_of(alloc, row)?)?;
     }
     Ok(entries)
@@ -79,8 +84,8 @@ fn entries_of(alloc: Global, rows: &[&str]) -> Result<Entries, Fail> {
 fn lexicon_of(
     alloc: Global,
     forbid_warn: bool,
-    rules: &[&str],
-    entries: &[&str],
+    rules: &str,
+    entries: &str,
 ) -> Result<Lexicon, Fail> {
     let affixes = Affixes {
         kind: FlagKind::Single,
@@ -105,21 +110,17 @@ fn lexicon_of(
     })
 }
 
-fn place_of(field: Option<&str>) -> Option<u32> {
-    match field {
-        None => None,
-        Some(text) => text.parse::<u32>().ok(),
-    }
+fn place_of(field: &str) -> Option<u32> {
+    field.parse::<u32>().ok()
 }
 
 /// A derivation by the places of its entry, its prefix and its suffixes, as in `0 - 2 1`.
 fn derivation_of(row: &str) -> Derivation {
-    let mut fields = row.split(' ');
     Derivation {
-        entry: place_of(fields.next()).unwrap_or(u32::MAX),
-        prefix: place_of(fields.next()),
-        first: place_of(fields.next()),
-        second: place_of(fields.next()),
+        entry: place_of(field(row, 0)).unwrap_or(u32::MAX),
+        prefix: place_of(field(row, 1)),
+        first: place_of(field(row, 2)),
+        second: place_of(field(row, 3)),
     }
 }
 
@@ -142,105 +143,65 @@ fn assert_derivation(
     rt: &impl Abort,
     alloc: Global,
     lexicon: &Lexicon,
-    row: &str,
+    d: &Derivation,
     want: &str,
     verdict: &str,
 ) -> Result<(), Fail> {
-    let d = derivation_of(row);
-    assert_eq!(rt; verdict_of(lexicon, &d), verdict, "{row}");
+    assert_eq!(rt; verdict_of(lexicon, d), verdict, "{want}");
     let wanted = text_of(alloc, want)?;
-    match form(alloc, lexicon, &d)? {
-        None => assert_eq!(rt; want, "0", "{row}"),
-        Some(made) => assert_eq!(rt; made.as_slice(), wanted.as_slice(), "{row}"),
+    match form(alloc, lexicon, d)? {
+        None => assert_eq!(rt; want, "0"),
+        Some(made) => assert_eq!(rt; made.as_slice(), wanted.as_slice(), "{want}"),
     }
     Ok(())
 }
 
+/// Each row is a derivation, its form, or `0` where it has none, and how far it comes.
 fn assert_derivations(
     rt: &impl Abort,
     alloc: Global,
     lexicon: &Lexicon,
-    cases: &[(&str, &str, &str)],
+    rows: &str,
 ) -> Result<(), Fail> {
-    for (row, want, verdict) in cases {
-        assert_derivation(rt, alloc, lexicon, row, want, verdict)?;
+    for row in rows.split("; ") {
+        let d = derivation_of(row);
+        assert_derivation(rt, alloc, lexicon, &d, field(row, 4), field(row, 5))?;
     }
     Ok(())
 }
 
-const RULES: [&str; 13] = [
-    "P U 0 un 0",
-    "S S 0 s 0",
-    "S A 0 able S",
-    "P P 0 pre A",
-    "S B 0 ing Q",
-    "P Q 0 be B",
-    "S X 0 x 0",
-    "S E 0 e nS",
-    "S G 0 t c",
-    "P G 0 ge c",
-    "S I 0 i o",
-    "S Y y ies U",
-    "P D un in 0",
-];
+const RULES: &str =
+    "P U 0 un 0; S S 0 s 0; S A 0 able S; P P 0 pre A; S B 0 ing Q; P Q 0 be B; S X 0 x 0; \
+    S E 0 e nS; S G 0 t c; P G 0 ge c; S I 0 i o; S Y y ies U; P D un in 0";
 
-const ENTRIES: [&str; 10] = [
-    "do USAX", "paid P", "friend 0", "stem nES", "mach GU", "bad fS", "rare wS", "part oI",
-    "foot I", "try YD",
-];
+const ENTRIES: &str =
+    "do USAX; paid P; friend 0; stem nES; mach GU; bad fS; rare wS; part oI; foot I; try YD";
+
+/// What the entry allows; a second suffix that the entry alone allows, or without a first; rules of the wrong side;
+/// and places where there is nothing.
+const NAMED: &str =
+    "0 - - - do a; 0 0 - - undo a; 0 - 1 - dos a; 0 - 2 1 doables a; 0 0 2 - undoable a; \
+    0 0 2 1 undoables a; 0 - 1 2 dosable -; 0 - - 1 0 -; 0 1 - - 0 -; 0 - 0 - 0 -; 0 13 - - 0 -; 10 - - - 0 -";
+
+/// A class that does not cross, a prefix that licenses a suffix, two affixes that license each other from nothing, a
+/// prefix that a suffix licenses, and a rule that does not fit the word.
+const LICENSED: &str = "0 - 6 - dox a; 0 0 6 - undox -; 1 3 2 - prepaidable a; 1 - 2 - paidable -; \
+    2 5 4 - befriending -; 9 0 11 - untries a; 9 12 - - 0 a";
+
+/// NEEDAFFIX of an entry and of a suffix, CIRCUMFIX of both sides and of one, FORBIDDENWORD, WARN, and ONLYINCOMPOUND
+/// of an entry and of a suffix.
+const SIGNED: &str =
+    "3 - - - stem l; 3 - 1 - stems a; 3 - 7 - steme l; 3 - 7 1 stemes a; 4 9 8 - gemacht a; \
+    4 - 8 - macht l; 4 9 - - gemach l; 4 0 8 - unmacht l; 5 - 1 - bads f; 6 - 1 - rares s; 7 - - - part s; \
+    8 - 10 - footi s; 8 - - - foot a";
 
 #[test]
 fn tells_derivations(rt: HostRuntime) -> Result<(), Fail> {
     let alloc = rt.alloc();
-    let lexicon = lexicon_of(alloc, true, &RULES, &ENTRIES)?;
-    // A derivation, its form or 0 where it has none, and how far it comes.
-    let cases = [
-        ("0 - - -", "do", "a"),
-        ("0 0 - -", "undo", "a"),
-        ("0 - 1 -", "dos", "a"),
-        ("0 - 2 1", "doables", "a"),
-        ("0 0 2 -", "undoable", "a"),
-        ("0 0 2 1", "undoables", "a"),
-        // A second suffix that the entry alone allows, or without a first.
-        ("0 - 1 2", "dosable", "-"),
-        ("0 - - 1", "0", "-"),
-        // A rule of the wrong side, and places where there is nothing.
-        ("0 1 - -", "0", "-"),
-        ("0 - 0 -", "0", "-"),
-        ("0 13 - -", "0", "-"),
-        ("10 - - -", "0", "-"),
-        // A class that does not cross.
-        ("0 - 6 -", "dox", "a"),
-        ("0 0 6 -", "undox", "-"),
-        // A prefix that licenses a suffix, and that suffix without it.
-        ("1 3 2 -", "prepaidable", "a"),
-        ("1 - 2 -", "paidable", "-"),
-        // Two affixes that license each other from nothing.
-        ("2 5 4 -", "befriending", "-"),
-        // NEEDAFFIX of an entry, and of a suffix with none or another behind it.
-        ("3 - - -", "stem", "l"),
-        ("3 - 1 -", "stems", "a"),
-        ("3 - 7 -", "steme", "l"),
-        ("3 - 7 1", "stemes", "a"),
-        // CIRCUMFIX of both sides, and of one.
-        ("4 9 8 -", "gemacht", "a"),
-        ("4 - 8 -", "macht", "l"),
-        ("4 9 - -", "gemach", "l"),
-        ("4 0 8 -", "unmacht", "l"),
-        // FORBIDDENWORD, WARN, and ONLYINCOMPOUND of an entry and of a suffix.
-        ("5 - 1 -", "bads", "f"),
-        ("6 - 1 -", "rares", "s"),
-        ("7 - - -", "part", "s"),
-        ("8 - 10 -", "footi", "s"),
-        ("8 - - -", "foot", "a"),
-        // A prefix that a suffix licenses, and a rule that does not fit the word.
-        ("9 0 11 -", "untries", "a"),
-        ("9 12 - -", "0", "a"),
-    ];
-    assert_derivations(&rt, alloc, &lexicon, &cases)?;
-    let rare = derivation_of("6 - - -");
-    assert!(rt; !alone(&lexicon, &rare));
-    let lenient = lexicon_of(alloc, false, &RULES, &ENTRIES)?;
-    assert!(rt; alone(&lenient, &rare));
-    Ok(())
+    let lexicon = lexicon_of(alloc, true, RULES, ENTRIES)?;
+    assert_derivations(&rt, alloc, &lexicon, NAMED)?;
+    assert_derivations(&rt, alloc, &lexicon, LICENSED)?;
+    assert_derivations(&rt, alloc, &lexicon, SIGNED)?;
+    let lenient = lexicon_of(alloc, false, RULES, ENTRIES)?;
+    assert_derivations(&rt, alloc, &lenient, "6 - 1 - rares a")
 }
