@@ -1,0 +1,34 @@
+#!/usr/bin/env bash
+# Times `check` on large dictionaries: an .aff file of 16 MB, one of 100,000 rules, a .dic file of 1,000,000 entries, and a
+# text of 1,000 words by 300 rules and 50,000 entries. Prints seconds and the most memory that was used.
+set -euo pipefail
+top=$(cd "$(dirname "$0")/.." && pwd)
+work=$(mktemp -d)
+trap 'rm -rf "$work"' EXIT
+cd "$work"
+
+# A word of five syllables for a number, another one for each below 6,250,000.
+words='function word(i) { return substr("bdfgklmnrt", i % 10 + 1, 1) "a" substr("bdfgklmnrt", int(i / 10) % 10 + 1, 1) "e" substr("bdfgklmnrt", int(i / 100) % 10 + 1, 1) "i" substr("bdfgklmnrt", int(i / 1000) % 10 + 1, 1) "o" substr("bdfgklmnrtpsvzj", int(i / 10000) % 15 + 1, 1) substr("aeiou", int(i / 150000) % 5 + 1, 1) substr("bdfgklmnrt", int(i / 750000) % 10 + 1, 1) }'
+: > empty
+echo 0 > zero.dic
+awk 'BEGIN { print "SET UTF-8"; while (size < 16700000) { line = "FORBIDWARN of the words that are rare"; print line; size += length(line) + 1 } }' > lines.aff
+awk 'BEGIN { while (size < 16700000) { line = "FORBIDWARN"; print line; size += length(line) + 1 } }' > short.aff
+awk "$words"' BEGIN { print "FLAG num"; for (c = 1; c <= 1000; c++) { print "SFX", c, "Y", 100; for (r = 0; r < 100; r++) print "SFX", c, "0", substr(word(c * 100 + r), 1, 6) "/" c, "[^aeiou]" } }' > rules.aff
+awk "$words"' BEGIN { print 1000000; for (i = 0; i < 1000000; i++) print word(i) "/AB" }' > million.dic
+awk "$words"' BEGIN { print "SET UTF-8"; for (c = 0; c < 26; c++) { f = substr("ABCDEFGHIJKLMNOPQRSTUVWXYZ", c + 1, 1); print "SFX", f, "Y", 11; for (r = 0; r < 11; r++) print "SFX", f, "0", substr(word(c * 11 + r), 1, 2 + r % 3) "/" f, "." } print "PFX a Y 14"; for (r = 0; r < 14; r++) print "PFX", "a", "0", substr(word(r * 7), 1, 3), "." }' > strip.aff
+awk "$words"' BEGIN { print 50000; for (i = 0; i < 50000; i++) print word(i) "/" substr("ABCDEFGHIJKLMNOPQRSTUVWXYZ", i % 26 + 1, 1) "a" }' > strip.dic
+awk "$words"' BEGIN { for (k = 0; k < 1000; k++) { i = (k * 7919) % 100000; printf "%s%s%s", k % 3 == 0 ? "dab" : "", word(i), k % 10 == 9 ? "\n" : " " } }' > strip.text
+
+measure() {
+    local name=$1 said
+    shift
+    said=$({ /usr/bin/time -f '%e s, %M kB' "$top/affedit" check "$@" > out || true; } 2>&1 | tail -n 1)
+    printf '%-44s %s, %s\n' "$name" "$said" "$(tail -n 1 out)"
+}
+
+"$top/affedit" check empty zero.dic empty > /dev/null || true
+measure "an .aff of 16 MB, $(wc -l < lines.aff) lines" lines.aff zero.dic empty
+measure "an .aff of 16 MB, $(wc -l < short.aff) lines" short.aff zero.dic empty
+measure "an .aff of 100,000 rules" rules.aff zero.dic empty
+measure "a .dic of 1,000,000 entries" empty million.dic empty
+measure "300 rules, 50,000 entries, 1,000 words" strip.aff strip.dic strip.text
