@@ -211,12 +211,14 @@ fn assert_words(rt: &impl Abort, alloc: Global, stems: &Stems, rows: &str) -> Re
 
 const RULES: &str =
     "P U 0 un 0; S S 0 s 0; S A 0 able SU; P P 0 pre A; S B 0 ing Q; P Q 0 be B; S X 0 x 0; \
-    S Y y ies 0 [^aeiou]y; S Y 0 s 0 [aeiou]y; S W go went 0; S C 0 z 0 .....; S V 0 0 0; P R 0 0 0";
+    S Y y ies 0 [^aeiou]y; S Y 0 s 0 [aeiou]y; S W go went 0; S C 0 z 0 .....; S V 0 0 0; P R 0 0 0; S Z 0 s 0";
 
-const ENTRIES: &str = "do USAX; paid P; friend 0; try Y; day Y; go W; gos 0; do AS; tea C; ran VR";
+const ENTRIES: &str =
+    "do USAX; paid P; friend 0; try Y; day Y; go W; gos 0; do AS; tea C; ran VR; drink Z; drink S";
 
 /// Homonyms, a second suffix, and prefixes that a suffix licenses.
-const AFFIXED: &str = "do: 0 - - -, 7 - - -; dos: 0 - 1 -, 7 - 1 -; undo: 0 0 - -; undos: 0 0 1 -; \
+const AFFIXED: &str =
+    "drinks: 10 - 13 -, 11 - 1 -; do: 0 - - -, 7 - - -; dos: 0 - 1 -, 7 - 1 -; undo: 0 0 - -; undos: 0 0 1 -; \
     undoable: 0 0 2 -, 7 0 2 -; doables: 0 - 2 1, 7 - 2 1; undoables: 0 0 2 1, 7 0 2 1; dosable: ";
 
 /// A prefix that licenses a suffix, two affixes that license each other from nothing, and a class that does not
