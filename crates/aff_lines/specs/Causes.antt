@@ -12,7 +12,7 @@ use Rattle.aff_lines.specs.declared.faults.AffWhy.TheVariants.{OtherEncoding, Mi
 use Rattle.aff_lines.specs.declared.names.Form.{Form}
 use Rattle.aff_lines.specs.declared.names.Form.TheVariants.{Encoding, Kind, Flag, Number}
 use Rattle.aff_lines.specs.declared.names.Row.{Row}
-use Rattle.aff_lines.specs.declared.names.Row.TheVariants.{FlagField, TwoTexts}
+use Rattle.aff_lines.specs.declared.names.Row.TheVariants.{FlagField, OneText, TwoTexts}
 use Rattle.aff_lines.specs.declared.rows.Kept.{Kept}
 use Rattle.aff_lines.specs.Rows.{value_of}
 
@@ -74,6 +74,7 @@ has_two_texts line = is_some (slice_get (fields line.text) 2)
 -- what is wrong with a row of a table
 abbrev pub row_why : FlagKind → Row → Kept → Option AffWhy
 row_why kind FlagField line = flags_why kind (value_of line)
+row_why kind OneText line = unless (is_some (value_of line)) MissingField
 row_why kind TwoTexts line = unless (has_two_texts line) MissingField
 
 -- the number in the field behind a line's name

@@ -6,7 +6,7 @@ use Rattle.aff_lines.specs.declared.names.Directive.{Directive}
 use Rattle.aff_lines.specs.declared.names.Directive.TheVariants.{Set, FlagType, FlagAliases, WordCharacters, Ignore, NeedAffix, Circumfix, ForbiddenWord, KeepCase, Warn, CompoundFlag, CompoundBegin, CompoundMiddle, CompoundLast, CompoundPermitFlag, CompoundForbidFlag, OnlyInCompound, ForceUpperCase, CompoundMinimum, CompoundWordMaximum, FullStrip, ForbidWarn, CompoundMoreSuffixes, CheckCompoundDuplicates, CheckCompoundCase, CheckCompoundTriple, CheckCompoundReplacements, InputConversion, Replacement, Break, CompoundRule, CheckCompoundPattern, Prefix, Suffix, ComplexPrefixes, CompoundSyllable, SyllableNumber, CheckSharps, SimplifiedTriple}
 use Rattle.aff_lines.specs.declared.names.Form.{Form}
 use Rattle.aff_lines.specs.declared.names.Form.TheVariants.{Encoding, Kind, Text, Flag, Switch, Table, Class, LeftOut}
-use Rattle.aff_lines.specs.declared.names.Row.TheVariants.{FlagField, TwoTexts}
+use Rattle.aff_lines.specs.declared.names.Row.TheVariants.{FlagField, OneText, TwoTexts}
 
 -- the first name of a directive
 unfoldable pub first_name : Directive → List ℕ
@@ -74,14 +74,18 @@ form_of Set = Encoding
 form_of FlagType = Kind
 form_of FlagAliases = Table FlagField
 form_of WordCharacters = Text
+form_of Ignore = Text
 form_of NeedAffix = Flag
 form_of Circumfix = Flag
 form_of ForbiddenWord = Flag
+form_of KeepCase = Flag
 form_of Warn = Flag
 form_of OnlyInCompound = Flag
 form_of FullStrip = Switch
 form_of ForbidWarn = Switch
+form_of InputConversion = Table TwoTexts
 form_of Replacement = Table TwoTexts
+form_of Break = Table OneText
 form_of Prefix = Class
 form_of Suffix = Class
 form_of _ = LeftOut

@@ -71,6 +71,7 @@ pub(crate) fn row_why(kind: FlagKind, row: Row, line: &Kept) -> Option<AffWhy>
 {
     match row {
         Row::FlagField => flags_why(kind, value_of(line)),
+        Row::OneText => unless(value_of(line).is_some(), AffWhy::MissingField),
         Row::TwoTexts => unless(has_two_texts(line), AffWhy::MissingField),
     }
 }

@@ -77,6 +77,8 @@ pub enum Form {
 pub enum Row {
     /// Flags of the type of the file.
     FlagField,
+    /// One text.
+    OneText,
     /// Two texts.
     TwoTexts,
 }
@@ -228,14 +230,18 @@ pub fn form_of(directive: Directive) -> Form
         Directive::FlagType => Form::Kind,
         Directive::FlagAliases => Form::Table(Row::FlagField),
         Directive::WordCharacters => Form::Text,
+        Directive::Ignore => Form::Text,
         Directive::NeedAffix => Form::Flag,
         Directive::Circumfix => Form::Flag,
         Directive::ForbiddenWord => Form::Flag,
+        Directive::KeepCase => Form::Flag,
         Directive::Warn => Form::Flag,
         Directive::OnlyInCompound => Form::Flag,
         Directive::FullStrip => Form::Switch,
         Directive::ForbidWarn => Form::Switch,
+        Directive::InputConversion => Form::Table(Row::TwoTexts),
         Directive::Replacement => Form::Table(Row::TwoTexts),
+        Directive::Break => Form::Table(Row::OneText),
         Directive::Prefix => Form::Class,
         Directive::Suffix => Form::Class,
         _ => Form::LeftOut,

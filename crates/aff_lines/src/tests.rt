@@ -200,7 +200,7 @@ fn rows_of(alloc: Global, texts: &[&str]) -> Result<Items<Kept>, NoMemory> {
 
 #[test]
 fn finds_faults_of_a_pass(rt: HostRuntime) -> Result<(), Fail> {
-    let table: [(&[&str], Option<(u64, AffWhy)>); 17] = [
+    let table: [(&[&str], Option<(u64, AffWhy)>); 20] = [
         (&[], None),
         (&["WORDCHARS -", "NEEDAFFIX X", "WARN !"], None),
         (&["FORBIDWARN", "FORBIDWARN x", "TRY"], None),
@@ -217,11 +217,18 @@ fn finds_faults_of_a_pass(rt: HostRuntime) -> Result<(), Fail> {
         (&["WORDCHARS", "WARN"], Some((1, AffWhy::MissingField))),
         // What is not built is left out at each line, whatever else is wrong with it.
         (&["COMPLEXPREFIXES"], Some((1, AffWhy::LeftOut))),
-        (&["WARN !", "KEEPCASE", "WARN"], Some((2, AffWhy::LeftOut))),
+        (
+            &["WARN !", "COMPOUNDFLAG", "WARN"],
+            Some((2, AffWhy::LeftOut)),
+        ),
         // The lines of affix classes are looked at together, not here.
         (&["WARN !", "SFX", "WARN"], Some((3, AffWhy::MissingField))),
         (&["COMPOUNDEND"], Some((1, AffWhy::LeftOut))),
         (&["TRY x", "WARN", "REP 1"], Some((2, AffWhy::MissingField))),
+        // A row of two texts, and one of a single text.
+        (&["ICONV 1", "ICONV a"], Some((2, AffWhy::MissingField))),
+        (&["BREAK 1", "BREAK"], Some((2, AffWhy::MissingField))),
+        (&["BREAK 1", "BREAK a b"], None),
     ];
     for (texts, want) in table {
         let rows = rows_of(rt.alloc(), texts)?;

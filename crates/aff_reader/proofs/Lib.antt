@@ -1,4 +1,5 @@
 mod ClassLemmas
 mod TurnLemmas
+mod TableLemmas
 mod BoundLemmas
 mod PassLemmas

@@ -1,6 +1,7 @@
 -- The first fault of the early passes and one more, and what is read of a file.
-use Rattle.std.proofs.Common.{◌≡◌, ℕ, Bool, true, false, cond, List, [], ◌∷◌, ◌++◌, Option, Some, None, Result, Ok, Err, IfOk, IfErr, refl, sym, ap, ◌∙◌}
+use Rattle.std.proofs.Common.{◌≡◌, ℕ, Bool, true, false, cond, List, [], ◌∷◌, ◌++◌, Option, Some, None, Result, Ok, Err, IfOk, IfErr, refl, sym, ap, subst, ◌∙◌}
 use Rattle.std.specs.Option.{option_or}
+use Rattle.std.specs.Result.{IsErrAnd}
 use Rattle.spell_types.specs.declared.Affixes.{Affixes}
 use Rattle.spell_types.specs.declared.flags.Flag.{Flag}
 use Rattle.spell_types.specs.declared.flags.FlagKind.{FlagKind}
@@ -9,7 +10,7 @@ use Rattle.aff_lines.specs.declared.faults.AffFault.TheVariants.{At, NoMemory}
 use Rattle.aff_lines.specs.declared.faults.Fault.{Fault}
 use Rattle.aff_lines.specs.declared.rows.Kept.{Kept}
 use Rattle.aff_lines.specs.Faults.{least_of, first_fault, is_before, sooner, IsFault, IsLeast}
-use Rattle.aff_lines.specs.Passes.{early_passes}
+use Rattle.aff_lines.specs.Passes.{early_passes, IsFirst}
 use Rattle.aff_reader.specs.Grammar.{kind_of, aliases_of, kept_of, late_faults, aff_passes, aff_said, unless_fault, aff_read, AffReads, AffRefuses, IsRead}
 
 or-none : (found : Option Fault) → option_or found None ≡ found
@@ -39,6 +40,20 @@ read_late bytes kind aliases rows fault same_kind same_aliases same_rows fine la
     ∙ ap (late_faults kind aliases) (sym same_rows) in
     ap (λ found. unless_fault found (aff_said bytes))
     (first_behind (early_passes bytes) whole ∙ ap (λ found. option_or found (least_of whole)) fine ∙ ap least_of own ∙ late)
+
+-- a file whose first fault is one of the early passes
+pub read_early : (bytes : List ℕ) (fault : AffFault) → IsFirst (early_passes bytes) fault → IsRead (aff_read bytes) (Err fault)
+unfolding aff_read
+read_early bytes NoMemory first = tt
+read_early bytes (At line why) first =
+    let whole = late_faults (kind_of bytes) (aliases_of bytes) (kept_of bytes) in
+    ap (λ found. unless_fault found (aff_said bytes))
+    (first_behind (early_passes bytes) whole ∙ ap (λ found. option_or found (least_of whole)) first)
+
+-- a fault that is handed on
+pub handed : {T : Type 0} (P : Result T AffFault → Type 0) (result : Result T AffFault) (fault : AffFault) → IsErrAnd result (λ given. given ≡ fault) → P (Err fault) → P result
+handed P (Ok made) fault same told = absurd same
+handed P (Err given) fault same told = subst (λ own. P (Err own)) (sym same) told
 
 -- the later of two faults is none where the earlier of them is
 pub later_none : (found later : Option Fault) → sooner found later ≡ None → later ≡ None

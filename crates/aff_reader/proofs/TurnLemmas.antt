@@ -1,7 +1,7 @@
 -- The turns of the loops over the lines.
-use Rattle.std.proofs.Common.{◌≡◌, ℕ, suc, ◌+◌, ◌-◌, ◌^◌, ◌<◌, ◌≤◌, min, List, [], ◌∷◌, ◌++◌, length, take, cond, nat_le, Option, refl, sym, ap, ◌∙◌, subst, get_or, append_assoc, arith}
+use Rattle.std.proofs.Common.{◌≡◌, ℕ, suc, ◌+◌, ◌-◌, ◌^◌, ◌<◌, ◌≤◌, min, List, [], ◌∷◌, ◌++◌, length, map, take, cond, nat_le, Option, refl, sym, ap, ◌∙◌, subst, get_or, append_assoc, arith}
 use Rattle.std.specs.List.{sum}
-use Rattle.std.proofs.lemmas.List.{take_more, append-nil}
+use Rattle.std.proofs.lemmas.List.{take_more, append-nil, map-append}
 use Rattle.std.proofs.lemmas.Bool.Decides.{nat_tests}
 use Rattle.std.proofs.Math.Nat.{le-min, min-eq_left}
 use Rattle.std.proofs.lemmas.List.Sums.{sum_by-append}
@@ -18,6 +18,7 @@ use Rattle.aff_lines.proofs.FaultLemmas.{least_append}
 use Rattle.aff_reader.specs.declared.class_lines.Classes.{Classes}
 use Rattle.aff_reader.specs.declared.class_lines.Placed.{Placed}
 use Rattle.aff_reader.specs.ClassLines.{side_of, placed_after, each_after, Knows}
+use Rattle.aff_reader.specs.ClassRules.{rule_without}
 use Rattle.aff_reader.specs.Classes.{side_faults, line_faults, heads, placed_rules, rules_said, announced_by, announced, total_faults, limit_faults}
 
 each-append : {A : Type 0} (f : List Kept → Kept → List A) (before lines more : List Kept)
@@ -46,18 +47,20 @@ knows-turn kind lines longer line old new is grown known =
     subst (λ (ls : List Kept). Knows kind ls new) (sym is) (grown lines known)
 
 -- a turn that adds the rule of a line
-pub rules-turn : (kind : FlagKind) (aliases : Option (List (List Flag))) (lines longer : List Kept) (line : Kept) (old : Classes)
+pub rules-turn : (kind : FlagKind) (aliases : Option (List (List Flag))) (ignore : List ℕ) (lines longer : List Kept) (line : Kept) (old : Classes)
     (placed : Option Placed) (rules more : List Rule) → longer ≡ lines ++ line ∷ []
     → ((before : List Kept) → Knows kind before old → placed ≡ placed_after kind before line)
-    → more ≡ rules ++ placed_rules kind aliases line placed
-    → Knows kind lines old → rules ≡ rules_said kind aliases lines → more ≡ rules_said kind aliases longer
+    → more ≡ rules ++ map (rule_without ignore) (placed_rules kind aliases line placed)
+    → Knows kind lines old → rules ≡ map (rule_without ignore) (rules_said kind aliases lines)
+    → more ≡ map (rule_without ignore) (rules_said kind aliases longer)
 unfolding rules_said
-rules-turn kind aliases lines longer line old placed rules more is told grown known so_far =
+rules-turn kind aliases ignore lines longer line old placed rules more is told grown known so_far =
     let f : List Kept → Kept → List Rule = λ before own. placed_rules kind aliases own (placed_after kind before own) in
     grown
-    ∙ ap (λ p. rules ++ placed_rules kind aliases line p) (told lines known)
-    ∙ ap (λ r. r ++ f lines line) so_far
-    ∙ sym (ap (each_after f []) is ∙ each-more f lines line)
+    ∙ ap (λ p. rules ++ map (rule_without ignore) (placed_rules kind aliases line p)) (told lines known)
+    ∙ ap (λ r. r ++ map (rule_without ignore) (f lines line)) so_far
+    ∙ sym (ap (λ all. map (rule_without ignore) all) (ap (each_after f []) is ∙ each-more f lines line)
+    ∙ map-append (rule_without ignore) (each_after f [] lines) (f lines line))
 
 -- a turn that looks for the fault of a line
 pub fault-turn : (f : List Kept → Kept → List Fault) (lines longer : List Kept) (line : Kept) (found here now : Option Fault) → longer ≡ lines ++ line ∷ []

@@ -6,6 +6,7 @@ use Rattle.spell_types.specs.declared.flags.FlagKind.{FlagKind}
 use Rattle.spell_types.specs.declared.flags.Flag.{Flag}
 use Rattle.spell_types.specs.declared.rules.Piece.{Piece}
 use Rattle.spell_types.specs.declared.rules.Rule.{Rule}
+use Rattle.spell_types.specs.Conversions.{without_ignored}
 use Rattle.flag_sets.specs.declared.FlagFault.{FlagFault}
 use Rattle.flag_sets.specs.declared.FlagFault.TheVariants.{BadAlias as NoAlias}
 use Rattle.flag_sets.specs.FlagTexts.{flag_field}
@@ -61,3 +62,15 @@ rule_from kind aliases class crossed strip affix condition =
 abbrev pub rule_of : FlagKind → Option (List (List Flag)) → Class → Bool → Kept → Result Rule AffWhy
 rule_of kind aliases class crossed line =
     rule_from kind aliases class crossed (unwrap_or (field_of line 2) []) (unwrap_or (field_of line 3) []) (field_of line 4)
+
+-- the rule without the characters to ignore: they are left out of what it strips off and adds, and kept in its condition
+abbrev pub rule_without : List ℕ → Rule → Rule
+rule_without ignore rule = record {
+  side = rule.side;
+  flag = rule.flag;
+  cross = rule.cross;
+  strip = without_ignored ignore rule.strip;
+  add = without_ignored ignore rule.add;
+  carried = rule.carried;
+  condition = rule.condition;
+}

@@ -1,5 +1,5 @@
 -- The grammar of the .aff file: the faults of its four passes, and what it says.
-use Rattle.std.specs.Prelude.{◌≡◌, ℕ, List, [], ◌∷◌, ◌++◌, Option, None, Some, Result, Ok, Err, unwrap_or}
+use Rattle.std.specs.Prelude.{◌≡◌, ℕ, List, [], ◌∷◌, ◌++◌, map, Option, None, Some, Result, Ok, Err, unwrap_or}
 use Rattle.std.specs.Str.{chars}
 use Rattle.spell_types.specs.declared.Affixes.{Affixes}
 use Rattle.spell_types.specs.declared.flags.Flag.{Flag}
@@ -9,13 +9,15 @@ use Rattle.spell_types.specs.declared.signs.Signs.{Signs}
 use Rattle.aff_lines.specs.declared.faults.AffFault.{AffFault}
 use Rattle.aff_lines.specs.declared.faults.AffFault.TheVariants.{At, NoMemory}
 use Rattle.aff_lines.specs.declared.faults.Fault.{Fault}
-use Rattle.aff_lines.specs.declared.names.Directive.TheVariants.{FlagType, FlagAliases, WordCharacters, NeedAffix, Circumfix, ForbiddenWord, Warn, OnlyInCompound, FullStrip, ForbidWarn}
+use Rattle.aff_lines.specs.declared.names.Directive.TheVariants.{FlagType, FlagAliases, WordCharacters, Ignore, NeedAffix, Circumfix, ForbiddenWord, KeepCase, Warn, OnlyInCompound, FullStrip, ForbidWarn, InputConversion, Break}
 use Rattle.aff_lines.specs.declared.names.TheConstants.{FOURTH}
 use Rattle.aff_lines.specs.declared.rows.Kept.{Kept}
 use Rattle.aff_lines.specs.Faults.{first_fault, IsFault, Refuses}
 use Rattle.aff_lines.specs.Passes.{early_passes, pass_faults, kind_said, aliases_said, flag_said, is_said, value_said}
-use Rattle.aff_reader.specs.Classes.{class_faults, rules_said}
 use Rattle.aff_lines.specs.Rows.{rows_of, rows_with, lines_of}
+use Rattle.aff_reader.specs.ClassRules.{rule_without}
+use Rattle.aff_reader.specs.Classes.{class_faults, rules_said}
+use Rattle.aff_reader.specs.Tables.{conversions_said, breaks_said}
 
 -- the type of flags of a file
 abbrev pub kind_of : List ℕ → FlagKind
@@ -43,6 +45,7 @@ signs_said kind rows = record {
   need_affix = flag_said kind (lines_of NeedAffix rows);
   circumfix = flag_said kind (lines_of Circumfix rows);
   forbidden = flag_said kind (lines_of ForbiddenWord rows);
+  keep_case = flag_said kind (lines_of KeepCase rows);
   warn = flag_said kind (lines_of Warn rows);
   only_inside = flag_said kind (lines_of OnlyInCompound rows);
 }
@@ -55,15 +58,22 @@ options_said rows = record { full_strip = is_said (lines_of FullStrip rows); for
 abbrev pub characters_said : Option (List ℕ) → List ℕ
 characters_said value = chars (unwrap_or value [])
 
+-- the characters to ignore
+abbrev pub ignored_said : List Kept → List ℕ
+ignored_said rows = characters_said (value_said (lines_of Ignore rows))
+
 -- what the rows of the fourth pass say, beside the type of flags and the aliases
 abbrev pub affixes_said : FlagKind → Option (List (List Flag)) → List Kept → Affixes
 affixes_said kind aliases rows = record {
   kind = kind;
   aliases = aliases;
-  rules = rules_said kind aliases rows;
+  rules = map (rule_without (ignored_said rows)) (rules_said kind aliases rows);
   signs = signs_said kind rows;
   options = options_said rows;
+  ignore = ignored_said rows;
   wordchars = characters_said (value_said (lines_of WordCharacters rows));
+  iconv = conversions_said (lines_of InputConversion rows);
+  breaks = breaks_said (lines_of Break rows);
 }
 
 -- what a file without faults says

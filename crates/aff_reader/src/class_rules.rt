@@ -2,11 +2,12 @@
 
 ghost use Rattle.std.specs.Prelude.{◌≡◌, IfOk};
 ghost use Rattle.std.specs.Option.{option_copied};
-ghost use Rattle.aff_reader.specs.ClassRules.{unless_zero, carried_of, asked_of, rule_of};
+ghost use Rattle.aff_reader.specs.ClassRules.{unless_zero, carried_of, asked_of, rule_of, rule_without};
 
 use crate::class_lines::{Class, field_of};
 use aff_lines::{AffWhy, Kept};
 use affix_classes::{ConditionFault, read_condition};
+use conversions::drop_ignored;
 use flag_sets::{FlagFault, push_before_slash, read_flags};
 use lists::{Items, NoMemory};
 use spell_types::{Chars, Condition, FlagKind, FlagSet, Rule, chars_of};
@@ -44,6 +45,17 @@ pub(crate) fn read_rule(
         carried,
         condition,
     }))
+}
+
+/// The rule without the characters to ignore.
+pub(crate) fn without_ignored(alloc: Global, ignore: &[char], rule: Rule) -> Result<Rule, NoMemory>
+    ensures { IfOk result (λ made. made ≡ rule_without ignore.now rule) }
+{
+    Ok(Rule {
+        strip: drop_ignored(alloc, ignore, rule.strip.as_slice())?,
+        add: drop_ignored(alloc, ignore, rule.add.as_slice())?,
+        ..rule
+    })
 }
 
 /// The characters that a text stands for: `0` is nothing.

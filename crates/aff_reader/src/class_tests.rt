@@ -93,7 +93,7 @@ fn assert_rules(
 ) -> Result<(), Fail> {
     let rows = rows_of(alloc, text)?;
     assert_fault(rt, alloc, kind, aliases, text, None)?;
-    let rules = read_rules(alloc, kind, aliases, rows.as_slice())?;
+    let rules = read_rules(alloc, kind, aliases, &[], rows.as_slice())?;
     let mut written = String::new(alloc);
     for rule in rules.as_slice() {
         written.push_str(shown(alloc, rule)?.as_str())?;
@@ -318,6 +318,44 @@ fn adds_announced_rules(rt: HostRuntime) -> Result<(), Fail> {
         (5, None),
     ] {
         assert_many(&rt, rt.alloc(), limit, text, line)?;
+    }
+    Ok(())
+}
+
+/// That a text says these rules without the characters to ignore, one a line.
+fn assert_ignoring(
+    rt: &impl Abort,
+    alloc: Global,
+    ignore: &[char],
+    text: &str,
+    want: &str,
+) -> Result<(), Fail> {
+    let rows = rows_of(alloc, text)?;
+    let rules = read_rules(alloc, FlagKind::Single, None, ignore, rows.as_slice())?;
+    let mut written = String::new(alloc);
+    for rule in rules.as_slice() {
+        written.push_str(shown(alloc, rule)?.as_str())?;
+        written.push('\n')?;
+    }
+    assert_eq!(rt; written.as_str(), want, "in {text:?}");
+    Ok(())
+}
+
+#[test]
+fn ignores_characters(rt: HostRuntime) -> Result<(), Fail> {
+    let table = [
+        // In what is stripped and added, and not in the condition.
+        (
+            "SFX A Y 1\nSFX A -y i-ed/BC [^-]-y",
+            "S 65 Y|y|ied|66 67 |!{-}-y\n",
+        ),
+        ("PFX A N 1\nPFX A -- -", "P 65 N||||\n"),
+        // A zero that is left is literal, and one alone is nothing.
+        ("SFX A Y 1\nSFX A -0 0-", "S 65 Y|0|0||\n"),
+        ("SFX A Y 1\nSFX A 0 0", "S 65 Y||||\n"),
+    ];
+    for (text, want) in table {
+        assert_ignoring(&rt, rt.alloc(), &['-', '~'], text, want)?;
     }
     Ok(())
 }

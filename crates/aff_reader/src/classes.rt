@@ -1,16 +1,17 @@
 //! The affix classes of an .aff file: their faults, and their rules.
 
-ghost use Rattle.std.specs.Prelude.{◌≡◌, ◌++◌, ◌<◌, ◌≤◌, ◌^◌, List, [], length, None, OnOk, IfOk};
+ghost use Rattle.std.specs.Prelude.{◌≡◌, ◌++◌, ◌<◌, ◌≤◌, ◌^◌, List, [], length, map, None, OnOk, IfOk};
 ghost use Rattle.std.specs.Option.{option_copied};
 ghost use Rattle.aff_lines.specs.declared.rows.Kept.{Kept};
 ghost use Rattle.aff_lines.specs.Faults.{least_of};
 ghost use Rattle.aff_reader.specs.ClassLines.{side_of, standing_of, each_after, Knows};
+ghost use Rattle.aff_reader.specs.ClassRules.{rule_without};
 ghost use Rattle.aff_reader.specs.Classes.{says_cross, has_rules, header_faults, role_faults, side_faults, line_faults, heads, announced_by, total_faults, many_faults, class_faults, placed_rules, rules_said};
 
 use crate::class_lines::{
     Classes, Placed, Role, Standing, count_of, field_of, is_crossed, is_text, side_of,
 };
-use crate::class_rules::read_rule;
+use crate::class_rules::{read_rule, without_ignored};
 use aff_lines::{AffWhy, Fault, Kept, fault_at, sooner, unless};
 use lists::{Items, NoMemory};
 use spell_types::{FlagKind, FlagSet, Rule};
@@ -34,17 +35,18 @@ pub(crate) fn class_fault(
     Ok(sooner(fault, many_fault(alloc, kind, MOST_RULES, rows)?))
 }
 
-/// The rules of all affix classes in the order of the file, for lines in which `class_fault` finds no fault.
-/// Where it finds none they are at most as many as the headers may announce.
+/// The rules of all affix classes in the order of the file, without the characters to ignore, for lines in which
+/// `class_fault` finds no fault. Where it finds none they are at most as many as the headers may announce.
 #[tactic(auto, unfolding(crate::specs::Classes::rules_said))]
 pub(crate) fn read_rules(
     alloc: Global,
     kind: FlagKind,
     aliases: Option<&[FlagSet]>,
+    ignore: &[char],
     rows: &[Kept],
 ) -> Result<Items<Rule>, NoMemory>
     ensures rules { IfOk result
-        (λ rules. rules ≡ rules_said kind (option_copied aliases.entry) rows.now) }
+        (λ rules. rules ≡ map (rule_without ignore.now) (rules_said kind (option_copied aliases.entry) rows.now)) }
     ensures few { least_of (class_faults kind (option_copied aliases.entry) rows.now) ≡ None
         → IfOk result (λ rules. length rules ≤ 200000) }
 {
@@ -52,7 +54,7 @@ pub(crate) fn read_rules(
     let mut rules = Items::new(alloc);
     for line in rows {
         let placed = classes.place(kind, line)?;
-        push_rule(alloc, &mut rules, kind, aliases, line, placed)?;
+        push_rule(alloc, &mut rules, kind, aliases, ignore, line, placed)?;
     }
     Ok(rules)
 }
@@ -234,17 +236,18 @@ fn heads(placed: Option<Placed>) -> bool
     }
 }
 
-/// Adds the rule that a line says, if it says one.
+/// Adds the rule that a line says, without the characters to ignore, if it says one.
 fn push_rule(
     alloc: Global,
     rules: &mut Items<Rule>,
     kind: FlagKind,
     aliases: Option<&[FlagSet]>,
+    ignore: &[char],
     line: &Kept,
     placed: Option<Placed>,
 ) -> Result<(), NoMemory>
     ensures { OnOk result (rules.new
-        ≡ rules.old ++ placed_rules kind (option_copied aliases.entry) line.now placed) }
+        ≡ rules.old ++ map (rule_without ignore.now) (placed_rules kind (option_copied aliases.entry) line.now placed)) }
 {
     let Some(
         Placed {
@@ -256,7 +259,7 @@ fn push_rule(
         return Ok(());
     };
     if let Ok(rule) = read_rule(alloc, kind, aliases, class, crossed, line)? {
-        rules.push(rule)?;
+        rules.push(without_ignored(alloc, ignore, rule)?)?;
     }
     Ok(())
 }

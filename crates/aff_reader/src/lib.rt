@@ -1,11 +1,11 @@
 //! Reads the .aff file of a dictionary: its options, by the rules of hunspell(5), or its first fault.
 #![tactic(auto)]
 
-ghost use Rattle.std.specs.Prelude.{◌≡◌, ◌≤◌, None, length, IfOk, IfErr};
+ghost use Rattle.std.specs.Prelude.{◌≡◌, None, IfOk, IfErr};
 ghost use Rattle.std.specs.Option.{option_copied};
 ghost use Rattle.spell_types.specs.Sanity.{AreSaneAffixes};
 ghost use Rattle.aff_lines.specs.Faults.{least_of};
-ghost use Rattle.aff_reader.specs.Classes.{class_faults, rules_said};
+ghost use Rattle.aff_reader.specs.Classes.{class_faults};
 ghost use Rattle.aff_reader.specs.Grammar.{AffReads, AffRefuses, IsRead, aff_read, late_faults, affixes_said, signs_said, options_said, characters_said};
 
 use aff_lines::{
@@ -14,14 +14,17 @@ use aff_lines::{
 };
 use classes::{class_fault, read_rules};
 use lists::{Items, NoMemory};
-use spell_types::{Affixes, Chars, FlagKind, FlagSet, Options, Rule, Signs, chars_of};
+use spell_types::{Affixes, Chars, FlagKind, FlagSet, Options, Signs, chars_of};
 use std::alloc::Global;
+use tables::{read_breaks, read_conversions};
 
+mod anchored_texts;
 mod class_lines;
 mod class_rules;
 #[cfg(test)]
 mod class_tests;
 mod classes;
+mod tables;
 #[cfg(test)]
 mod tests;
 
@@ -57,8 +60,7 @@ fn read_passes(alloc: Global, bytes: &[u8]) -> Result<Affixes, AffFault>
             why: fault.why,
         });
     }
-    let rules = read_rules(alloc, kind, aliases_of(&aliases), rows)?;
-    Ok(read_affixes(alloc, kind, aliases, rules, rows)?)
+    Ok(read_affixes(alloc, kind, aliases, rows)?)
 }
 
 /// The first fault of the fourth pass.
@@ -88,21 +90,24 @@ fn read_affixes(
     alloc: Global,
     kind: FlagKind,
     aliases: Option<Items<FlagSet>>,
-    rules: Items<Rule>,
     rows: &[Kept],
 ) -> Result<Affixes, NoMemory>
-    requires rules { rules ≡ rules_said kind aliases rows.now }
-    requires few { length rules ≤ 200000 }
+    requires { least_of (class_faults kind aliases rows.now) ≡ None }
     ensures said { IfOk result (λ affixes. affixes ≡ affixes_said kind aliases rows.now) }
     ensures sane { IfOk result AreSaneAffixes }
 {
+    let ignore = characters_of(alloc, value_said(Directive::Ignore, rows))?;
+    let rules = read_rules(alloc, kind, aliases_of(&aliases), ignore.as_slice(), rows)?;
     Ok(Affixes {
         kind,
         aliases,
         rules,
         signs: signs_of(kind, rows),
         options: options_of(rows),
+        ignore,
         wordchars: characters_of(alloc, value_said(Directive::WordCharacters, rows))?,
+        iconv: read_conversions(alloc, rows)?,
+        breaks: read_breaks(alloc, rows)?,
     })
 }
 
@@ -114,6 +119,7 @@ fn signs_of(kind: FlagKind, rows: &[Kept]) -> Signs
         need_affix: flag_said(kind, Directive::NeedAffix, rows),
         circumfix: flag_said(kind, Directive::Circumfix, rows),
         forbidden: flag_said(kind, Directive::ForbiddenWord, rows),
+        keep_case: flag_said(kind, Directive::KeepCase, rows),
         warn: flag_said(kind, Directive::Warn, rows),
         only_inside: flag_said(kind, Directive::OnlyInCompound, rows),
     }

@@ -107,7 +107,7 @@ fn refuses_in_the_fourth_pass(rt: HostRuntime) -> Result<(), Fail> {
         (b"COMPLEXPREFIXES", 1, AffWhy::LeftOut),
         (b"SET UTF-8\nCOMPOUNDMIN\n", 2, AffWhy::LeftOut),
         (b"CHECKSHARPS\r\nSYLLABLENUM x\r\n", 1, AffWhy::LeftOut),
-        (b"# ICONV\n ICONV 1\nICONV a b\n", 2, AffWhy::LeftOut),
+        (b"# SYLLABLENUM\n COMPOUNDMIN 1\n", 2, AffWhy::LeftOut),
         (b"NEEDAFFIX ab", 1, AffWhy::BadFlag),
         (b"FLAG num\nFORBIDDENWORD 65001\n", 2, AffWhy::BadFlag),
         (b"FLAG long\nWARN a\n", 2, AffWhy::BadFlag),
@@ -146,9 +146,99 @@ fn refuses_in_the_fourth_pass(rt: HostRuntime) -> Result<(), Fail> {
             AffWhy::BadAlias,
         ),
         (b"CIRCUMFIX ab\nFULLSTRIP\n", 1, AffWhy::BadFlag),
-        (b"FORBIDWARN\nFORBIDWARN x\nKEEPCASE\n", 3, AffWhy::LeftOut),
+        (
+            b"FORBIDWARN\nFORBIDWARN x\nFORCEUCASE\n",
+            3,
+            AffWhy::LeftOut,
+        ),
     ];
     assert_each_refused(&rt, rt.alloc(), table.as_slice())?;
+    Ok(())
+}
+
+#[test]
+fn refuses_what_is_ignored_converted_and_broken(rt: HostRuntime) -> Result<(), Fail> {
+    let table: [(&[u8], u64, AffWhy); 12] = [
+        (b"ICONV 2\nICONV a b\nICONV a\n", 3, AffWhy::MissingField),
+        (b"ICONV 2\nICONV a b\n", 1, AffWhy::TableShort),
+        (b"ICONV 1\nICONV a b\nICONV\n", 3, AffWhy::Twice),
+        (b"ICONV x\n", 1, AffWhy::BadNumber),
+        (b"BREAK 2\nBREAK -\nBREAK\n", 3, AffWhy::MissingField),
+        (b"BREAK 1\n", 1, AffWhy::TableShort),
+        (b"BREAK 0\nBREAK -\n", 2, AffWhy::Twice),
+        (b"BREAK\n", 1, AffWhy::MissingField),
+        (b"IGNORE\n", 1, AffWhy::MissingField),
+        (b"IGNORE a\nIGNORE a\n", 2, AffWhy::Twice),
+        (b"KEEPCASE ab\n", 1, AffWhy::BadFlag),
+        (b"KEEPCASE A\n\nKEEPCASE B\n", 3, AffWhy::Twice),
+    ];
+    assert_each_refused(&rt, rt.alloc(), table.as_slice())?;
+    Ok(())
+}
+
+fn write_all(characters: &[char], written: &mut String) -> Result<(), Fail> {
+    for c in characters {
+        written.push(*c)?;
+    }
+    Ok(())
+}
+
+/// The conversions as `from=to;`, then the break patterns, each with `<` for the anchor at its front and `>` for
+/// the one at its end, and a semicolon.
+fn shown(alloc: Global, affixes: &Affixes) -> Result<String, Fail> {
+    let mut written = String::new(alloc);
+    for row in affixes.iconv.as_slice() {
+        write_all(row.from.as_slice(), &mut written)?;
+        written.push('=')?;
+        write_all(row.to.as_slice(), &mut written)?;
+        written.push(';')?;
+    }
+    for anchored in affixes.breaks.as_slice() {
+        if anchored.front {
+            written.push('<')?;
+        }
+        write_all(anchored.text.as_slice(), &mut written)?;
+        if anchored.back {
+            written.push('>')?;
+        }
+        written.push(';')?;
+    }
+    Ok(written)
+}
+
+fn assert_tables(rt: &impl Abort, alloc: Global, text: &str, want: &str) -> Result<(), Fail> {
+    match read_aff(alloc, text.as_bytes()) {
+        Err(fault) => assert!(rt; false, "{fault:?} in {text:?}"),
+        Ok(found) => {
+            assert_eq!(rt; shown(alloc, &found)?.as_str(), want, "in {text:?}");
+        }
+    }
+    Ok(())
+}
+
+#[test]
+fn reads_tables(rt: HostRuntime) -> Result<(), Fail> {
+    let table = [
+        // Without a line BREAK, and with a table without rows.
+        ("", "-;<-;->;"),
+        ("BREAK 0\n", ""),
+        ("BREAK 1\nBREAK - x\n", "-;"),
+        // What is an anchor, and what is literal.
+        ("BREAK 3\nBREAK ^-\nBREAK -$\nBREAK ^-$\n", "<-;->;<->;"),
+        ("BREAK 2\nBREAK ^\nBREAK $\n", "^;$;"),
+        ("BREAK 3\nBREAK ^$\nBREAK ^^\nBREAK $$\n", "<$;<^;$>;"),
+        ("BREAK 2\nBREAK a^\nBREAK $a\n", "a^;$a;"),
+        // The rows of ICONV in their order, between those of another table.
+        (
+            "ICONV 2\nBREAK 1\nICONV \u{2019} ' x\nBREAK -\nICONV ^a b$\n",
+            "\u{2019}=';^a=b$;-;",
+        ),
+        // Nothing is ignored in them.
+        ("IGNORE a-\nICONV 1\nICONV a ab\n", "a=ab;-;<-;->;"),
+    ];
+    for (text, want) in table {
+        assert_tables(&rt, rt.alloc(), text, want)?;
+    }
     Ok(())
 }
 

@@ -1,5 +1,4 @@
 pub mod CutLemmas
 pub mod CheckLemmas
 pub mod ReportLemmas
-pub mod VerdictLemmas
 pub mod EndingLemmas

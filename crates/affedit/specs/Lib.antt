@@ -1,7 +1,6 @@
 pub mod Runs
 pub mod Paragraphs
 pub mod Reports
-pub mod Verdicts
 pub mod Stops
 pub mod Due
 pub mod Endings

@@ -12,13 +12,13 @@ use crate::report::{Report, make_report};
 use crate::stop::Stop;
 use aff_lines::AffFault;
 use aff_reader::read_aff;
-use affix_strip::Stems;
 use dic_reader::faults::DicFault;
 use dic_reader::read_dic;
 use outside::{FileFault, Files};
-use spell_types::{Affixes, Entries, Lexicon};
+use spell_types::{Affixes, Entries};
 use std::alloc::Global;
 use text_lines::lines;
+use word_verdict::Speller;
 
 /// How large an .aff or a .dic file may be, in bytes.
 const DICTIONARY_LIMIT: u64 = 16_777_216;
@@ -62,8 +62,7 @@ pub fn check<F: Files>(alloc: Global, names: Names<'_>, files: &mut F) -> Result
     let dic = load(alloc, files, names.dic, DICTIONARY_LIMIT)?;
     let entries = read_entries(alloc, &affixes, dic.as_slice())?;
     let document = load(alloc, files, names.document, DOCUMENT_LIMIT)?;
-    let stems = Stems::new(alloc, Lexicon { affixes, entries })?;
-    check_document(alloc, &stems, document.as_slice())
+    check_document(alloc, affixes, entries, document.as_slice())
 }
 
 /// The bytes of the file.
@@ -114,11 +113,18 @@ fn read_entries(alloc: Global, affixes: &Affixes, bytes: &[u8]) -> Result<Entrie
     }
 }
 
-/// The report on a document.
+/// The report on a document, by what the files of a dictionary say.
 #[tactic(auto, unfolding(crate::specs::Due::document_due))]
-fn check_document(alloc: Global, stems: &Stems, document: &[u8]) -> Result<Report, Stop>
-    requires { length document.now < 2 ^ 32 }
-    ensures due { Gives printed_by (document_due stems.now document.now) result }
+fn check_document(
+    alloc: Global,
+    affixes: Affixes,
+    entries: Entries,
+    document: &[u8],
+) -> Result<Report, Stop>
+    requires small { length document.now < 2 ^ 32 }
+    requires affixes { AreSaneAffixes affixes }
+    requires entries { AreSaneEntries entries }
+    ensures due { Gives printed_by (document_due (record { affixes = affixes; entries = entries }) document.now) result }
     ensures files { ¬ (IsErrOf result Stop.Files) }
     ensures words { ¬ (IsErrOf result Stop.Words) }
 {
@@ -126,5 +132,6 @@ fn check_document(alloc: Global, stems: &Stems, document: &[u8]) -> Result<Repor
     if let Some(line) = found.bad {
         return Err(Stop::Document { line });
     }
-    Ok(make_report(alloc, stems, document, found.good.as_slice())?)
+    let speller = Speller::build(alloc, affixes, entries)?;
+    Ok(make_report(alloc, &speller, document, found.good.as_slice())?)
 }

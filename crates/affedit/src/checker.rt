@@ -10,10 +10,8 @@ ghost use Rattle.mark_types.specs.Words.{words_of};
 ghost use Rattle.affedit.specs.Paragraphs.{MayBeCut, marks_at};
 
 use crate::cutter::cut;
-use crate::verdict::generates;
-use affix_strip::Stems;
 use lists::{Items, NoMemory};
-use mark_types::{Mark, Marks, Span, marks_are_local, words_stand_in_their_text};
+use mark_types::{Judge, Mark, Marks, Span, marks_are_local, words_stand_in_their_text};
 use spell_types::chars_of;
 use std::alloc::Global;
 use text_lines::Text;
@@ -26,50 +24,50 @@ pub struct Checked {
 }
 
 /// Checks one paragraph.
-pub fn check_paragraph(alloc: Global, stems: &Stems, text: &str) -> Result<Checked, NoMemory>
+pub fn check_paragraph<J: Judge>(alloc: Global, judge: &J, text: &str) -> Result<Checked, NoMemory>
     requires { length text.now < 2 ^ 32 }
-    ensures marks { IfOk result (λ checked. checked.marks ≡ map mark_of (marks_of stems.now (chars text.now ∷ []))) }
-    ensures words { IfOk result (λ checked. checked.words ≡ length (words_of stems.now.affixes.wordchars (chars text.now))) }
+    ensures marks { IfOk result (λ checked. checked.marks ≡ map mark_of (marks_of (J.lexicon judge.now) (chars text.now ∷ []))) }
+    ensures words { IfOk result (λ checked. checked.words ≡ length (words_of (J.lexicon judge.now).affixes.wordchars (chars text.now))) }
 {
     words_stand_in_their_text();
     marks_are_local();
-    let spans = cut(alloc, text, stems.lexicon().affixes.wordchars.as_slice())?;
-    let marks = marks_of_spans(alloc, stems, text, spans.as_slice())?;
+    let spans = cut(alloc, text, judge.wordchars())?;
+    let marks = marks_of_spans(alloc, judge, text, spans.as_slice())?;
     Ok(Checked {
         marks,
         words: spans.len(),
     })
 }
 
-fn marks_of_spans(
+fn marks_of_spans<J: Judge>(
     alloc: Global,
-    stems: &Stems,
+    judge: &J,
     text: &str,
     spans: &[Span],
 ) -> Result<Marks, NoMemory>
     requires { All (MayBeCut text.now) spans.now }
-    ensures { IfOk result (λ marks. marks ≡ flat_map (marks_at stems.now text.now) spans.now) }
+    ensures { IfOk result (λ marks. marks ≡ flat_map (marks_at (J.lexicon judge.now) text.now) spans.now) }
 {
     let mut marks = Items::new(alloc);
     for span in spans {
-        push_mark(alloc, &mut marks, stems, text, *span)?;
+        push_mark(alloc, &mut marks, judge, text, *span)?;
     }
     Ok(marks)
 }
 
 /// Adds the mark of the word at the span, if the lexicon does not generate it.
-fn push_mark(
+fn push_mark<J: Judge>(
     alloc: Global,
     marks: &mut Marks,
-    stems: &Stems,
+    judge: &J,
     text: &str,
     span: Span,
 ) -> Result<(), NoMemory>
     requires { MayBeCut text.now span }
-    ensures { OnOk result (marks.new ≡ marks.old ++ marks_at stems.now text.now span) }
+    ensures { OnOk result (marks.new ≡ marks.old ++ marks_at (J.lexicon judge.now) text.now span) }
 {
     let word = &text[span.from as usize..span.to as usize];
-    if is_known(alloc, stems, word)? {
+    if is_known(alloc, judge, word)? {
         return Ok(());
     }
     marks.push(Mark {
@@ -81,9 +79,9 @@ fn push_mark(
 }
 
 /// Whether the lexicon generates the word.
-fn is_known(alloc: Global, stems: &Stems, word: &str) -> Result<bool, NoMemory>
-    ensures { IfOk result (λ known. known ≡ yields stems.now (chars word.now)) }
+fn is_known<J: Judge>(alloc: Global, judge: &J, word: &str) -> Result<bool, NoMemory>
+    ensures { IfOk result (λ known. known ≡ yields (J.lexicon judge.now) (chars word.now)) }
 {
     let written = chars_of(alloc, word)?;
-    generates(alloc, stems, written.as_slice())
+    judge.verdict(alloc, written.as_slice())
 }

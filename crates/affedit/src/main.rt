@@ -9,7 +9,6 @@ mod run;
 mod stop;
 #[cfg(test)]
 mod tests;
-mod verdict;
 
 use outside::{FreeGate, RealFiles, StdSink, StdSource};
 pub use run::{Ended, run, run_check};

@@ -10,9 +10,8 @@ ghost use Rattle.text_lines.specs.Lines.{IsInside};
 ghost use Rattle.affedit.specs.Reports.{line_of, found_line, count_line, report_of, paragraph_lines, paragraphs_of};
 
 use crate::checker::check_paragraph;
-use affix_strip::Stems;
 use lists::NoMemory;
-use mark_types::{Mark, marks_are_local};
+use mark_types::{Judge, Mark, marks_are_local};
 use std::alloc::{AllocError, Global};
 use text_lines::found::Line;
 use text_lines::line_text;
@@ -27,35 +26,35 @@ pub struct Report {
 
 /// The report on a document of these lines: a line `P S E WORD` for each mark, with its paragraph from 1
 /// and its bytes in the paragraph from 0, and a last line `M of W`.
-pub fn make_report(
+pub fn make_report<J: Judge>(
     alloc: Global,
-    stems: &Stems,
+    judge: &J,
     document: &[u8],
     lines: &[Line],
 ) -> Result<Report, NoMemory>
     requires small { length document.now < 2 ^ 32 }
     requires lines { All (IsInside document.now) lines.now }
-    ensures text { IfOk result (λ report. string_bytes report.text ≡ (report_of stems.now (paragraphs_of document.now lines.now)).text) }
-    ensures marks { IfOk result (λ report. report.marks ≡ (report_of stems.now (paragraphs_of document.now lines.now)).marks) }
+    ensures text { IfOk result (λ report. string_bytes report.text ≡ (report_of (J.lexicon judge.now) (paragraphs_of document.now lines.now)).text) }
+    ensures marks { IfOk result (λ report. report.marks ≡ (report_of (J.lexicon judge.now) (paragraphs_of document.now lines.now)).marks) }
 {
-    let mut report = report_of_paragraphs(alloc, stems, document, lines)?;
+    let mut report = report_of_paragraphs(alloc, judge, document, lines)?;
     push_count_line(&mut report.text, report.marks, report.words)?;
     Ok(report)
 }
 
-fn report_of_paragraphs(
+fn report_of_paragraphs<J: Judge>(
     alloc: Global,
-    stems: &Stems,
+    judge: &J,
     document: &[u8],
     lines: &[Line],
 ) -> Result<Report, NoMemory>
     requires small { length document.now < 2 ^ 32 }
     requires lines { All (IsInside document.now) lines.now }
     ensures text { IfOk result (λ report. string_bytes report.text
-        ≡ flat_map line_of (marks_of stems.now (paragraphs_of document.now lines.now))) }
-    ensures marks { IfOk result (λ report. report.marks ≡ length (marks_of stems.now (paragraphs_of document.now lines.now))) }
+        ≡ flat_map line_of (marks_of (J.lexicon judge.now) (paragraphs_of document.now lines.now))) }
+    ensures marks { IfOk result (λ report. report.marks ≡ length (marks_of (J.lexicon judge.now) (paragraphs_of document.now lines.now))) }
     ensures words { IfOk result (λ report. report.words
-        ≡ length (located_words stems.now.affixes.wordchars (paragraphs_of document.now lines.now))) }
+        ≡ length (located_words (J.lexicon judge.now).affixes.wordchars (paragraphs_of document.now lines.now))) }
 {
     marks_are_local();
     let mut report = Report {
@@ -64,26 +63,26 @@ fn report_of_paragraphs(
         words: 0,
     };
     for (place, line) in lines.iter().enumerate() {
-        report.add_paragraph(alloc, stems, place as u64 + 1, line_text(document, line))?;
+        report.add_paragraph(alloc, judge, place as u64 + 1, line_text(document, line))?;
     }
     Ok(report)
 }
 
 impl Report {
     /// Adds the lines of one paragraph's marks.
-    fn add_paragraph(
+    fn add_paragraph<J: Judge>(
         &mut self,
         alloc: Global,
-        stems: &Stems,
+        judge: &J,
         number: u64,
         text: &str,
     ) -> Result<(), NoMemory>
         requires { length text.now < 2 ^ 32 }
-        ensures text { OnOk result (string_bytes self.new.text ≡ string_bytes self.old.text ++ paragraph_lines stems.now number (chars text.now)) }
-        ensures marks { OnOk result (self.new.marks ≡ self.old.marks + length (marks_of stems.now (chars text.now ∷ []))) }
-        ensures words { OnOk result (self.new.words ≡ self.old.words + length (words_of stems.now.affixes.wordchars (chars text.now))) }
+        ensures text { OnOk result (string_bytes self.new.text ≡ string_bytes self.old.text ++ paragraph_lines (J.lexicon judge.now) number (chars text.now)) }
+        ensures marks { OnOk result (self.new.marks ≡ self.old.marks + length (marks_of (J.lexicon judge.now) (chars text.now ∷ []))) }
+        ensures words { OnOk result (self.new.words ≡ self.old.words + length (words_of (J.lexicon judge.now).affixes.wordchars (chars text.now))) }
     {
-        let checked = check_paragraph(alloc, stems, text)?;
+        let checked = check_paragraph(alloc, judge, text)?;
         let marks = checked.marks.as_slice();
         push_mark_lines(&mut self.text, number, marks)?;
         self.marks = sum(self.marks, marks.len())?;

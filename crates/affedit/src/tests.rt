@@ -116,7 +116,7 @@ fn marks_the_words_of_a_text(rt: HostRuntime) -> Result<(), Fail> {
             "1 0 4 \u{10400}\n1 9 15 \u{43f}\u{440}\u{438}\n2 of 2\n",
             1,
         ),
-        (b"12 3a4", "1 0 2 12\n1 3 6 3a4\n2 of 2\n", 1),
+        (b"12 3a4", "1 3 6 3a4\n1 of 2\n", 1),
         (
             b"a-b c_d",
             "1 0 1 a\n1 2 3 b\n1 4 5 c\n1 6 7 d\n4 of 4\n",
@@ -356,8 +356,143 @@ fn checks_by_affix_rules(rt: HostRuntime) -> Result<(), Fail> {
 }
 
 #[test]
+fn checks_words_as_they_are_written(rt: HostRuntime) -> Result<(), Fail> {
+    let dashes: &[u8] = b"foo-bar -foo foo- foo--bar foo-baz";
+    let cases: [(&[u8], &[u8], &[u8], &str, u8); 13] = [
+        (
+            b"WORDCHARS -\n",
+            b"2\nfoo\nbar\n",
+            dashes,
+            "1 27 34 foo-baz\n1 of 5\n",
+            1,
+        ),
+        (
+            b"WORDCHARS -\nBREAK 1\nBREAK -\n",
+            b"2\nfoo\nbar\n",
+            dashes,
+            "1 8 12 -foo\n1 13 17 foo-\n1 18 26 foo--bar\n1 27 34 foo-baz\n4 of 5\n",
+            1,
+        ),
+        (
+            b"WORDCHARS -\nBREAK 0\n",
+            b"2\nfoo\nbar\n",
+            dashes,
+            "1 0 7 foo-bar\n1 8 12 -foo\n1 13 17 foo-\n1 18 26 foo--bar\n1 27 34 foo-baz\n5 of 5\n",
+            1,
+        ),
+        (
+            b"WORDCHARS -\n",
+            b"2\nfoo\nbar\n",
+            b"foo - bar",
+            "0 of 2\n",
+            0,
+        ),
+        (
+            "ICONV 3\nICONV \u{2019} '\nICONV ae x\nICONV a y\n".as_bytes(),
+            b"2\ndon't\nxt\n",
+            "don\u{2019}t dan\u{2019}t aet".as_bytes(),
+            "1 8 15 dan\u{2019}t\n1 of 3\n",
+            1,
+        ),
+        (
+            b"KEEPCASE K\n",
+            b"2\nParis\nkg/K\n",
+            b"Paris PARIS paris kg Kg KG",
+            "1 12 17 paris\n1 21 23 Kg\n1 24 26 KG\n3 of 6\n",
+            1,
+        ),
+        (
+            b"KEEPCASE K\n",
+            b"3\nParis\nkg/K\nkg\n",
+            b"Paris PARIS paris kg Kg KG",
+            "1 12 17 paris\n1 of 6\n",
+            1,
+        ),
+        (
+            b"IGNORE -\nWORDCHARS -\nBREAK 0\n",
+            b"1\nco-op\n",
+            b"coop co-op c-o-o-p",
+            "0 of 3\n",
+            0,
+        ),
+        (
+            b"IGNORE -x\nWORDCHARS -\nBREAK 0\n",
+            b"1\nco-op\n",
+            b"x",
+            "0 of 1\n",
+            0,
+        ),
+        (
+            b"WORDCHARS .\n",
+            b"1\netc\n",
+            b"etc. a.b",
+            "1 5 8 a.b\n1 of 2\n",
+            1,
+        ),
+        (
+            b"FORBIDDENWORD Z\nSFX S Y 1\nSFX S 0 s .\n",
+            b"2\nbar/S\nbars/Z\n",
+            b"bar bars Bars BARS",
+            "1 4 8 bars\n1 9 13 Bars\n1 14 18 BARS\n3 of 4\n",
+            1,
+        ),
+        (
+            b"WORDCHARS 0123456789.,\n",
+            b"0\n",
+            b"1,000.50 7-8 1..2 1a",
+            "1 13 17 1..2\n1 18 20 1a\n2 of 5\n",
+            1,
+        ),
+        (b"", b"0\n", b"a", "1 0 1 a\n1 of 1\n", 1),
+    ];
+    for (aff, dic, text, want, status) in cases {
+        assert_checked(&rt, rt.alloc(), aff, dic, text, want, status)?;
+    }
+    Ok(())
+}
+
+/// A text of a part so many times.
+fn repeated(alloc: Global, part: &str, count: usize) -> Result<String, AllocError> {
+    let mut text = String::new(alloc);
+    for _ in 0..count {
+        text.push_str(part)?;
+    }
+    Ok(text)
+}
+
+/// Words and numbers at the limit of a hundred characters, and words of many pieces.
+#[test]
+fn checks_long_words(rt: HostRuntime) -> Result<(), Fail> {
+    let alloc = rt.alloc();
+    let cases = [
+        ("", "a", 100, "", 0),
+        ("", "a", 101, "", 1),
+        ("WORDCHARS 0123456789\n", "7", 101, "", 0),
+        ("WORDCHARS -\n", "a-", 49, "a", 0),
+        ("WORDCHARS -\n", "-", 99, "a", 0),
+        ("WORDCHARS -\n", "-", 99, "b", 1),
+    ];
+    for (aff, part, count, end, status) in cases {
+        let mut word = repeated(alloc, part, count)?;
+        word.push_str(end)?;
+        let mut dic = String::from_str(alloc, "2\na\n")?;
+        dic.push_str(if count > 99 { word.as_str() } else { "c" })?;
+        let seen = run_check_of(
+            &rt,
+            alloc,
+            aff.as_bytes(),
+            dic.as_bytes(),
+            word.as_bytes(),
+            NO_FAULTS,
+        )?;
+        assert_eq!(rt; seen.status, status, "{part} {count}");
+    }
+    Ok(())
+}
+
+#[test]
 fn refuses_dictionaries_with_the_first_fault(rt: HostRuntime) -> Result<(), Fail> {
-    let cases: [(&[u8], &[u8], &str); 39] = [
+    let cases: [(&[u8], &[u8], &str); 40] = [
         (b"SET UTF-8\nCOMPLEXPREFIXES\n", DIC, "aff 2 LeftOut\n"),
         (b"COMPLEXPREFIXES\n", DIC, "aff 1 LeftOut\n"),
         (b"SET ISO8859-1\n", DIC, "aff 1 OtherEncoding\n"),
@@ -406,6 +541,7 @@ fn refuses_dictionaries_with_the_first_fault(rt: HostRuntime) -> Result<(), Fail
         (b"AF 1\nAF X\n", b"1\nfoo/2\n", "dic 2 BadAlias\n"),
         (b"AF 0\n", b"1\nfoo/X\n", "dic 2 BadAlias\n"),
         (b"", b"1\n po:noun\n", "dic 2 EmptyWord\n"),
+        (b"IGNORE -\n", b"2\nfoo\n--\n", "dic 3 EmptyWord\n"),
         (b"", b"1\nwork\n po:noun\n", "dic 3 EmptyWord\n"),
         (b"", b"", "dic 1 BadCount\n"),
         (b"", b"\xef\xbb\xbf", "dic 1 BadCount\n"),
@@ -470,7 +606,7 @@ fn stops_in_order(rt: HostRuntime) -> Result<(), Fail> {
         &rt,
         alloc,
         &words,
-        &[("a", b"KEEPCASE K\n")],
+        &[("a", b"COMPOUNDFLAG K\n")],
         "aff 1 LeftOut\n",
         3,
     )?;

@@ -94,6 +94,7 @@ fn affixes_of(alloc: Global, full_strip: bool, rules: &str) -> Result<Affixes, F
             need_affix: None,
             circumfix: None,
             forbidden: None,
+            keep_case: None,
             warn: None,
             only_inside: None,
         },
@@ -101,7 +102,10 @@ fn affixes_of(alloc: Global, full_strip: bool, rules: &str) -> Result<Affixes, F
             full_strip,
             forbid_warn: false,
         },
+        ignore: Items::new(alloc),
         wordchars: Items::new(alloc),
+        iconv: Items::new(alloc),
+        breaks: Items::new(alloc),
     })
 }
 
@@ -110,6 +114,8 @@ fn is_sane(lexicon: &Lexicon) -> bool
     ensures { IsTrue result → IsSane lexicon.now }
 {
     are_few(lexicon.affixes.rules.as_slice().len())
+        && lexicon.affixes.iconv.as_slice().is_empty()
+        && lexicon.affixes.breaks.as_slice().is_empty()
         && are_few(lexicon.entries.as_slice().len())
         && have_words(lexicon.entries.as_slice())
 }

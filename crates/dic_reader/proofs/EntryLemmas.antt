@@ -16,7 +16,7 @@ use Rattle.flag_sets.specs.Slashes.{before_slash, behind_slash}
 use Rattle.dic_reader.specs.declared.faults.DicFault.{DicFault}
 use Rattle.dic_reader.specs.declared.faults.DicFault.TheVariants.{At, NoMemory}
 use Rattle.dic_reader.specs.declared.faults.DicWhy.TheVariants.{TooMany}
-use Rattle.dic_reader.specs.Entries.{Listed, entry_at, entry_of, is_passed_over, listed_in, listed, flag_text, word_of}
+use Rattle.dic_reader.specs.Entries.{Listed, entry_at, entry_of, is_passed_over, listed_in, listed, flag_text, whole_word}
 use Rattle.dic_reader.specs.Faults.{Fault, fault_at, entry_fault, entry_said, first_ill, one_too_many, entries_fault, unless_fault, entry_read, entries_read, IsTold}
 
 -- ---- the word and the flags of an entry
@@ -30,13 +30,13 @@ slash-char text = chars-append (47 ∷ []) text (subst IsUtf8 (encode_ascii 47 (
 
 -- behind a slash at the front
 pub front-word : (old word new entry : List ℕ) (rest stripped : Bor (List ℕ)) → entry ≡ 47 ∷ stripped.now → rest ≡ stripped
-    → word ≡ old ++ 47 ∷ [] → new ≡ word ++ chars (before_slash rest.now) → new ≡ old ++ word_of entry
+    → word ≡ old ++ 47 ∷ [] → new ≡ word ++ chars (before_slash rest.now) → new ≡ old ++ whole_word entry
 front-word old word new entry rest stripped is same begun grown =
     grown
     ∙ ap (λ w. w ++ chars (before_slash rest.now)) begun
     ∙ append_assoc old (47 ∷ []) (chars (before_slash rest.now))
     ∙ ap (λ r. old ++ 47 ∷ chars (before_slash r.now)) same
-    ∙ ap (λ cs. old ++ cs) (sym (ap word_of is ∙ slash-char (before_slash stripped.now)))
+    ∙ ap (λ cs. old ++ cs) (sym (ap whole_word is ∙ slash-char (before_slash stripped.now)))
 
 opened : (found : Option (Bor (List ℕ))) (place : _) → (unwrap_or found (record { ref_ptr = place; now = [] })).now ≡ unwrap_or (option_copied found) []
 opened None place = refl
@@ -51,7 +51,7 @@ front-flags entry rest stripped result found place is same behind given =
 unequal : (b n : ℕ) → (b ≡ n → ⊥) → (b == n) ≡ false
 unequal b n other = grind (arith, nat_tests)
 
-plain-word-of : (entry : List ℕ) → ((rest : List ℕ) → entry ≢ 47 ∷ rest) → word_of entry ≡ chars (before_slash entry)
+plain-word-of : (entry : List ℕ) → ((rest : List ℕ) → entry ≢ 47 ∷ rest) → whole_word entry ≡ chars (before_slash entry)
 plain-word-of [] plain = refl
 plain-word-of (c ∷ more) plain = ap (λ t. chars (cond t (c ∷ before_slash more) (before_slash (c ∷ more)))) (unequal c 47 (λ is. plain more (ap (λ n. n ∷ more) is)))
 
@@ -60,7 +60,7 @@ plain-flag-text [] plain = refl
 plain-flag-text (c ∷ more) plain = ap (λ t. unwrap_or (behind_slash (cond t more (c ∷ more))) []) (unequal c 47 (λ is. plain more (ap (λ n. n ∷ more) is)))
 
 pub plain-word : (old word new : List ℕ) (rest entry : Bor (List ℕ)) → ((more : List ℕ) → entry.now ≢ 47 ∷ more) → rest ≡ entry
-    → word ≡ old → new ≡ word ++ chars (before_slash rest.now) → new ≡ old ++ word_of entry.now
+    → word ≡ old → new ≡ word ++ chars (before_slash rest.now) → new ≡ old ++ whole_word entry.now
 plain-word old word new rest entry plain same begun grown =
     grown
     ∙ ap (λ w. w ++ chars (before_slash rest.now)) begun

@@ -7,6 +7,7 @@ use Rattle.text_lines.specs.declared.found.Line.{Line}
 use Rattle.text_lines.specs.Lines.{text_of}
 use Rattle.spell_types.specs.declared.Affixes.{Affixes}
 use Rattle.spell_types.specs.declared.flags.Flag.{Flag}
+use Rattle.spell_types.specs.Conversions.{without_ignored}
 use Rattle.flag_sets.specs.declared.FlagFault.{FlagFault}
 use Rattle.flag_sets.specs.FlagTexts.{flag_field}
 use Rattle.flag_sets.specs.Slashes.{is_slash, before_slash, behind_slash}
@@ -88,8 +89,13 @@ abbrev pub flag_text : List ℕ → List ℕ
 flag_text [] = []
 flag_text (c ∷ more) = unwrap_or (behind_slash (if is_slash c then more else c ∷ more)) []
 
-abbrev pub word_of : List ℕ → List ℕ
-word_of entry = chars (word_text entry)
+-- the word of an entry, with all its characters
+abbrev pub whole_word : List ℕ → List ℕ
+whole_word entry = chars (word_text entry)
+
+-- the word of an entry, without the characters to ignore
+abbrev pub word_of : Affixes → List ℕ → List ℕ
+word_of affixes entry = without_ignored affixes.ignore (whole_word entry)
 
 -- the flags of an entry, or what is wrong with them
 abbrev pub flags_of : Affixes → List ℕ → Result (List Flag) FlagFault

@@ -37,9 +37,9 @@ flags_why (Ok set) = None
 flags_why (Err NoAlias) = Some BadAlias
 flags_why (Err _) = Some BadFlag
 
--- what is wrong with an entry; an empty word goes before its flags
+-- what is wrong with an entry; a word of which nothing is left goes before its flags
 abbrev pub entry_why : Affixes → List ℕ → Option DicWhy
-entry_why affixes entry = if length (word_of entry) == 0 then Some EmptyWord else flags_why (flags_of affixes entry)
+entry_why affixes entry = if length (word_of affixes entry) == 0 then Some EmptyWord else flags_why (flags_of affixes entry)
 
 abbrev pub entry_fault : Affixes → Listed → Option Fault
 entry_fault affixes entry = option_map (fault_at entry.number) (entry_why affixes entry.text)
@@ -81,7 +81,7 @@ or_none (Ok set) = set
 or_none (Err _) = []
 
 abbrev pub entry_said : Affixes → Listed → Entry
-entry_said affixes entry = record { word = word_of entry.text; flags = or_none (flags_of affixes entry.text) }
+entry_said affixes entry = record { word = word_of affixes entry.text; flags = or_none (flags_of affixes entry.text) }
 
 -- the entries of the lines behind the first
 abbrev pub entries_said : Affixes → List ℕ → List Line → List Entry

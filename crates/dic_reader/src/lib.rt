@@ -3,7 +3,8 @@
 //! The first line holds a count, of which only its first digit is looked at. Behind it each line has one
 //! entry, except lines that are blank or begin with a tab. An entry goes to the first tab, or to a space
 //! before a field of morphology as `po:noun`; spaces at its ends are dropped. Its flags stand behind its first
-//! slash that is not its first character and that no backslash precedes. `\/` is a slash of the word.
+//! slash that is not its first character and that no backslash precedes. `\/` is a slash of the word. The
+//! characters to ignore are left out of words.
 #![tactic(auto)]
 
 ghost use Rattle.std.specs.Prelude.{◌≡◌, ◌<◌, ◌^◌, All, Ok, IfOk, IfErr};

@@ -14,6 +14,7 @@ fn plain(alloc: Global, kind: FlagKind, aliases: Option<Items<FlagSet>>) -> Affi
             need_affix: None,
             circumfix: None,
             forbidden: None,
+            keep_case: None,
             warn: None,
             only_inside: None,
         },
@@ -21,7 +22,10 @@ fn plain(alloc: Global, kind: FlagKind, aliases: Option<Items<FlagSet>>) -> Affi
             full_strip: false,
             forbid_warn: false,
         },
+        ignore: Items::new(alloc),
         wordchars: Items::new(alloc),
+        iconv: Items::new(alloc),
+        breaks: Items::new(alloc),
     }
 }
 
@@ -266,6 +270,27 @@ fn stops_behind_the_limit(rt: HostRuntime) -> Result<(), Fail> {
     ];
     for (text, limit, want) in table {
         assert_limited(&rt, rt.alloc(), text, limit, want)?;
+    }
+    Ok(())
+}
+
+#[test]
+fn ignores_characters(rt: HostRuntime) -> Result<(), Fail> {
+    let mut affixes = plain(rt.alloc(), FlagKind::Long, None);
+    affixes.ignore = Items::from_vec(['-', '\u{5b0}'].to_vec(rt.alloc())?);
+    let table = [
+        ("f-oo", "foo:;"),
+        ("-foo-", "foo:;"),
+        ("\u{5d0}\u{5b0}", "\u{5d0}:;"),
+        // Not in its flags.
+        ("foo/--", "foo: 193273528365;"),
+        // Nothing is left of the word, which goes before its flags.
+        ("--", "EmptyWord 2"),
+        ("--/abc", "EmptyWord 2"),
+        ("f/abc", "BadFlag 2"),
+    ];
+    for (line, want) in table {
+        assert_line(&rt, rt.alloc(), &affixes, line, want)?;
     }
     Ok(())
 }

@@ -2,16 +2,17 @@
 
 ghost use Rattle.std.specs.Prelude.{◌≡◌, ◌++◌, ◌<◌, length, Ok, OnOk, IfOk, IfErr};
 ghost use Rattle.std.specs.Option.{option_copied};
-ghost use Rattle.dic_reader.specs.Entries.{entry_at, flag_text, word_of};
+ghost use Rattle.dic_reader.specs.Entries.{entry_at, flag_text, whole_word};
 ghost use Rattle.dic_reader.specs.Faults.{entry_read, IsTold};
 
 use crate::faults::{DicFault, DicWhy};
+use conversions::drop_ignored;
 use flag_sets::{FlagFault, push_before_slash, read_flags};
 use lists::{Items, NoMemory};
 use spell_types::{Affixes, Chars, Entry, FlagSet};
 use std::alloc::Global;
 
-/// The entry with this text, of the line with this number.
+/// The entry with this text, of the line with this number. Its word is without the characters to ignore.
 pub(crate) fn read_entry(
     alloc: Global,
     affixes: &Affixes,
@@ -22,8 +23,9 @@ pub(crate) fn read_entry(
     ensures refused { IfErr result (IsTold (entry_read affixes.now (entry_at number text.now))) }
     ensures word { IfOk result (λ made. 0 < length made.word) }
 {
-    let mut word = Items::new(alloc);
-    let flags = push_word(&mut word, text)?;
+    let mut whole = Items::new(alloc);
+    let flags = push_word(&mut whole, text)?;
+    let word = drop_ignored(alloc, affixes.ignore.as_slice(), whole.as_slice())?;
     if word.as_slice().is_empty() {
         return Err(DicFault::At {
             line: number,
@@ -42,7 +44,7 @@ pub(crate) fn read_entry(
 /// Adds the characters of an entry's word, and gives the text of its flags. A slash at the front of the entry
 /// is one of its word.
 fn push_word<'a>(word: &mut Chars, entry: &'a str) -> Result<&'a str, NoMemory>
-    ensures word { OnOk result (word.new ≡ word.old ++ word_of entry.now) }
+    ensures word { OnOk result (word.new ≡ word.old ++ whole_word entry.now) }
     ensures flags { IfOk result (λ flags. flags.now ≡ flag_text entry.now) }
 {
     let mut rest = entry;

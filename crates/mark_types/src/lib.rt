@@ -7,6 +7,9 @@ ghost use Rattle.spell_types.specs.declared.Lexicon.{Lexicon};
 ghost use Rattle.mark_types.specs.Words.{words_of, StandsIn};
 ghost use Rattle.mark_types.specs.Marks.{located_at, located_words, one_by_one, marks_of};
 
+mod judges;
+
+pub use judges::{Asker, Judge};
 use lists::{Copied, Items, NoMemory};
 use std::alloc::Global;
 use text_lines::Text;

@@ -1,9 +1,12 @@
 pub mod Attaching
+pub mod Bases
+pub mod Breaks
 pub mod Cases
 pub mod Conditions
 pub mod Conversions
 pub mod Derivations
 pub mod Flags
 pub mod Licences
+pub mod Numbers
 pub mod Sanity
 pub mod Yields

@@ -4,9 +4,11 @@ use Rattle.spell_types.specs.declared.Affixes.{Affixes}
 use Rattle.spell_types.specs.declared.Entry.{Entry}
 use Rattle.spell_types.specs.declared.Lexicon.{Lexicon}
 
--- the rules may be numbered with 32 bits
-abbrev pub AreSaneAffixes : Affixes → Type 0
-AreSaneAffixes affixes = length affixes.rules < 2 ^ 32
+-- the rules may be numbered with 32 bits, and no text that is looked for is empty
+pub record AreSaneAffixes (affixes : Affixes) : Type 0 where
+  pub few : length affixes.rules < 2 ^ 32
+  pub conversions : All (λ row. 0 < length row.from) affixes.iconv
+  pub breaks : All (λ anchored. 0 < length anchored.text) affixes.breaks
 
 -- the entries may be numbered with 32 bits, and none has an empty word
 pub record AreSaneEntries (entries : List Entry) : Type 0 where

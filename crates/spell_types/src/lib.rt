@@ -2,6 +2,7 @@
 #![tactic(auto)]
 
 mod attaching;
+mod breaks;
 mod conversions;
 mod derivations;
 mod flags;
@@ -13,10 +14,11 @@ mod tests;
 mod texts;
 
 pub use attaching::{attach, joined, matches_back, matches_front};
+pub use breaks::Anchored;
 pub use conversions::Conversion;
 pub use derivations::{Derivation, form};
 pub use flags::{Flag, FlagKind, FlagSet, has, sets_have_their_flags};
-pub use licences::{alone, forbidden, licensed, sound};
+pub use licences::{alone, alone_in_case, forbidden, licensed, sound};
 use lists::{Copied, Items, NoMemory};
 pub use rules::{Condition, Piece, Rule, Side};
 pub use signs::{Options, Signs};
@@ -47,9 +49,16 @@ pub struct Affixes {
     pub rules: Items<Rule>,
     pub signs: Signs,
     pub options: Options,
+    /// The characters that are dropped from dictionary words, from what rules strip off and add, and from input:
+    /// the option IGNORE of hunspell(5).
+    pub ignore: Chars,
     /// The characters that are word characters beside letters and marks: the option WORDCHARS of
     /// hunspell(5).
     pub wordchars: Chars,
+    /// The conversions of input: the option ICONV of hunspell(5).
+    pub iconv: Items<Conversion>,
+    /// Where words may be broken: the option BREAK of hunspell(5).
+    pub breaks: Items<Anchored>,
 }
 
 /// A dictionary: what its two files say.

@@ -2,6 +2,7 @@
 
 ghost use Rattle.std.specs.Prelude.{◌≡◌};
 ghost use Rattle.std.specs.Option.{option_map};
+ghost use Rattle.spell_types.specs.Bases.{may_stand_in_case, is_alone_in_case};
 ghost use Rattle.spell_types.specs.Flags.{has};
 ghost use Rattle.spell_types.specs.Licences.{carried_by, allows, crosses, is_affix_without, has_affix, meets_need, meets_circumfix, some_carry, is_first_allowed, is_second_allowed, is_prefix_allowed, is_crossing_right, is_allowed, meets_signs, may_stand_alone, is_licensed, is_sound, is_alone, is_forbidden};
 
@@ -39,6 +40,18 @@ pub fn alone(lexicon: &Lexicon, d: &Derivation) -> bool
     match named_by(lexicon, d) {
         None => false,
         Some(n) => meets_signs(&lexicon.affixes.signs, &n) && may_stand_alone(&lexicon.affixes, &n),
+    }
+}
+
+/// Whether a derivation stands as a word that may be written in another case, which `by_case` says: the option KEEPCASE
+/// of hunspell(5).
+#[tactic(auto, unfolding(crate::specs::Bases::is_alone_in_case))]
+pub fn alone_in_case(by_case: bool, lexicon: &Lexicon, d: &Derivation) -> bool
+    ensures { result ≡ is_alone_in_case by_case lexicon.now d.now }
+{
+    match named_by(lexicon, d) {
+        None => false,
+        Some(n) => may_stand_in_case(by_case, lexicon, &n),
     }
 }
 
@@ -129,6 +142,16 @@ fn may_stand_alone(affixes: &Affixes, n: &Named) -> bool
     !has(&n.entry.flags, affixes.signs.forbidden)
         && !some_carry(affixes.signs.only_inside, n)
         && !(affixes.options.forbid_warn && has(&n.entry.flags, affixes.signs.warn))
+}
+
+/// Whether nothing bars a derivation from standing as a word, which is written in another case or is not.
+fn may_stand_in_case(by_case: bool, lexicon: &Lexicon, n: &Named) -> bool
+    ensures { result ≡ may_stand_in_case by_case lexicon.now n.now }
+{
+    let signs = &lexicon.affixes.signs;
+    meets_signs(signs, n)
+        && may_stand_alone(&lexicon.affixes, n)
+        && !(by_case && has(&n.entry.flags, signs.keep_case))
 }
 
 /// Whether the entry or an affix carries the flag.

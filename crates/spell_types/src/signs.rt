@@ -10,6 +10,8 @@ pub struct Signs {
     pub circumfix: Option<Flag>,
     /// FORBIDDENWORD: a word that is never right.
     pub forbidden: Option<Flag>,
+    /// KEEPCASE: a word in another case than the entry's is not this entry's.
+    pub keep_case: Option<Flag>,
     /// WARN: a rare word.
     pub warn: Option<Flag>,
     /// ONLYINCOMPOUND: no word by itself.

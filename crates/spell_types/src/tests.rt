@@ -95,6 +95,7 @@ fn lexicon_of(
             need_affix: Some(flag_of('n')),
             circumfix: Some(flag_of('c')),
             forbidden: Some(flag_of('f')),
+            keep_case: None,
             warn: Some(flag_of('w')),
             only_inside: Some(flag_of('o')),
         },
@@ -102,7 +103,10 @@ fn lexicon_of(
             full_strip: false,
             forbid_warn,
         },
+        ignore: Items::new(alloc),
         wordchars: Items::new(alloc),
+        iconv: Items::new(alloc),
+        breaks: Items::new(alloc),
     };
     Ok(Lexicon {
         affixes,

@@ -1,6 +1,12 @@
 -- The early passes have no fault, and the fourth has one.
-use Rattle.aff_reader.proofs.PassLemmas.{read_late}
+use Rattle.aff_reader.specs.Grammar.{aff_read, IsRead}
+use Rattle.aff_reader.proofs.PassLemmas.{read_early, read_late, handed}
 use Rattle.aff_reader.proofs.read_passes.Goals as goal
+
+pub returns-in_err-kind-clause-read : goal.returns-in_err-kind-clause-read
+returns-in_err-kind-clause-read c =
+    handed (IsRead (aff_read c.args.bytes.now)) c.from_residual.result c.in_err-kind.field-0.0 c.from_residual.ensures.1
+    (read_early c.args.bytes.now c.in_err-kind.field-0.0 c.in_err-kind.ensures.first)
 
 pub returns-in-Some-clause-read : goal.returns-in-Some-clause-read
 returns-in-Some-clause-read c =

@@ -1,7 +1,7 @@
 -- A line adds its rule.
-use Rattle.std.proofs.Common.{◌∙◌, ap, sym, subst, take, length, List, ◌+◌, ◌≤◌}
-use Rattle.std.proofs.lemmas.List.{take_all}
-use Rattle.spell_types.specs.declared.rules.Rule.{Rule}
+use Rattle.std.proofs.Common.{◌∙◌, ap, sym, subst, map, take, length, ◌≡◌, ◌+◌, ◌≤◌}
+use Rattle.std.proofs.lemmas.List.{take_all, length-map}
+use Rattle.aff_reader.specs.ClassRules.{rule_without}
 use Rattle.aff_reader.specs.Classes.{rules_said}
 use Rattle.aff_reader.proofs.BoundLemmas.{rules-few}
 use Rattle.std.specs.Option.{option_copied}
@@ -16,12 +16,15 @@ loop-line-preserved c =
     record {
       known = knows-turn c.args.kind lines longer c.line-item.result c.loop-line.classes c.place.new.self more
           c.in_ok-placed.ensures.knows c.loop-line.invariant.known;
-      said = rules-turn c.args.kind (option_copied c.args.aliases) lines longer c.line-item.result c.loop-line.classes c.in_ok-placed.placed c.loop-line.rules _
+      said = rules-turn c.args.kind (option_copied c.args.aliases) c.args.ignore.now lines longer c.line-item.result c.loop-line.classes c.in_ok-placed.placed c.loop-line.rules _
           more c.in_ok-placed.ensures.placed c.in_ok-push_rule.ensures c.loop-line.invariant.known c.loop-line.invariant.said;
     }
 
 pub returns-clause-few : goal.returns-clause-few
 returns-clause-few c = λ none.
     let all = take_all c.loop-line.line-index c.args.rows.now c.loop-line-test.false in
-    let said = c.loop-line.invariant.said ∙ ap (rules_said c.args.kind (option_copied c.args.aliases)) all in
-    subst (λ (rules : List Rule). length rules ≤ 200000) (sym said) (rules-few c.args.kind (option_copied c.args.aliases) c.args.rows.now none)
+    let whole = rules_said c.args.kind (option_copied c.args.aliases) c.args.rows.now in
+    let same : length c.loop-line.rules ≡ length whole =
+    ap length (c.loop-line.invariant.said ∙ ap (λ rows. map (rule_without c.args.ignore.now) (rules_said c.args.kind (option_copied c.args.aliases) rows)) all)
+    ∙ length-map whole (rule_without c.args.ignore.now) in
+    subst (λ n. n ≤ 200000) (sym same) (rules-few c.args.kind (option_copied c.args.aliases) c.args.rows.now none)

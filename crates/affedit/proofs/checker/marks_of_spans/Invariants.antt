@@ -5,4 +5,4 @@ use Rattle.affedit.specs.Paragraphs.{marks_at}
 use Rattle.affedit.proofs.checker.marks_of_spans.Given as goal
 
 abbrev pub invariant-loop-span : goal.invariant-loop-span
-invariant-loop-span l = l.marks ≡ flat_map (marks_at l.stems l.text) (take l.span-index l.spans)
+invariant-loop-span g l = l.marks ≡ flat_map (marks_at (g.J.Judge.lexicon l.judge) l.text) (take l.span-index l.spans)

@@ -5,24 +5,24 @@ use Rattle.affedit.proofs.ReportLemmas.{lines-all, marks-all, words-all, lines-f
 use Rattle.affedit.proofs.report.report_of_paragraphs.Goals as goal
 
 pub returns-clause-text : goal.returns-clause-text
-returns-clause-text c =
-    let lexicon = c.args.stems.now in
+returns-clause-text g c =
+    let lexicon = g.J.Judge.lexicon c.args.judge.now in
     let document = c.args.document.now in
     let lines = c.args.lines.now in
     lines-finished lexicon document lines _ c.loop-place.place (omega arith) c.loop-place.invariant.text
     ∙ lines-all lexicon document lines (c.marks_are_local.ensures.marks lexicon (paragraphs_of document lines))
 
 pub returns-clause-marks : goal.returns-clause-marks
-returns-clause-marks c =
-    let lexicon = c.args.stems.now in
+returns-clause-marks g c =
+    let lexicon = g.J.Judge.lexicon c.args.judge.now in
     let document = c.args.document.now in
     let lines = c.args.lines.now in
     marks-finished lexicon document lines _ c.loop-place.place (omega arith) c.loop-place.invariant.marks
     ∙ marks-all lexicon document lines (c.marks_are_local.ensures.marks lexicon (paragraphs_of document lines))
 
 pub returns-clause-words : goal.returns-clause-words
-returns-clause-words c =
-    let lexicon = c.args.stems.now in
+returns-clause-words g c =
+    let lexicon = g.J.Judge.lexicon c.args.judge.now in
     let document = c.args.document.now in
     let lines = c.args.lines.now in
     words-finished lexicon document lines _ c.loop-place.place (omega arith) c.loop-place.invariant.words

@@ -5,8 +5,8 @@ use Rattle.affedit.proofs.ReportLemmas.{lines_from, marks_from, words_from}
 use Rattle.affedit.proofs.report.report_of_paragraphs.Given as goal
 
 abbrev pub invariant-loop-place : goal.invariant-loop-place
-invariant-loop-place l = record {
-  text : string_bytes l.report.text ++ lines_from l.stems l.document (l.place + 1) (drop l.place l.lines) ≡ lines_from l.stems l.document 1 l.lines;
-  marks : l.report.marks + marks_from l.stems l.document (drop l.place l.lines) ≡ marks_from l.stems l.document l.lines;
-  words : l.report.words + words_from l.stems l.document (drop l.place l.lines) ≡ words_from l.stems l.document l.lines;
+invariant-loop-place g l = record {
+  text : string_bytes l.report.text ++ lines_from (g.J.Judge.lexicon l.judge) l.document (l.place + 1) (drop l.place l.lines) ≡ lines_from (g.J.Judge.lexicon l.judge) l.document 1 l.lines;
+  marks : l.report.marks + marks_from (g.J.Judge.lexicon l.judge) l.document (drop l.place l.lines) ≡ marks_from (g.J.Judge.lexicon l.judge) l.document l.lines;
+  words : l.report.words + words_from (g.J.Judge.lexicon l.judge) l.document (drop l.place l.lines) ≡ words_from (g.J.Judge.lexicon l.judge) l.document l.lines;
 }

@@ -1,0 +1,5 @@
+pub mod Breaking
+pub mod Trees
+pub mod Tables
+pub mod Partings
+pub mod Deciding

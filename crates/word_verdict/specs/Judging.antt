@@ -1,0 +1,26 @@
+-- What is said of a piece of a word, and how it is found.
+use Rattle.std.specs.Prelude.{ℕ, Bool, true, List, [], ◌∷◌, if◌then◌else◌}
+use Rattle.std.specs.List.{list_any}
+use Rattle.spell_types.specs.declared.Lexicon.{Lexicon}
+use Rattle.spell_types.specs.Bases.{is_base, is_right_spelling}
+use Rattle.spell_types.specs.Cases.{covered_by}
+use Rattle.spell_types.specs.Licences.{is_barred}
+use Rattle.break_points.specs.declared.Judged.{Judged}
+use Rattle.break_points.specs.declared.Judged.TheVariants.{Barred, Base, Other}
+
+-- what a piece is that is a forbidden word or not, and accepted as it is written or not
+abbrev pub judged_by : Bool → Bool → Judged
+judged_by barred base = if barred then Barred else (if base then Base else Other)
+
+-- a piece is a forbidden word, or accepted as it is written, or neither
+unfoldable pub judged : Lexicon → List ℕ → Judged
+judged lexicon piece = judged_by (is_barred lexicon piece) (is_base lexicon piece)
+
+-- the spellings but the first one, which is the word as it is written
+abbrev pub behind_first : List (List ℕ) → List (List ℕ)
+behind_first [] = []
+behind_first (written ∷ others) = others
+
+-- whether another spelling than the written one, which the word covers, is right
+unfoldable pub covers_right_spelling : Lexicon → List ℕ → Bool
+covers_right_spelling lexicon word = list_any (is_right_spelling lexicon true) (behind_first (covered_by word))

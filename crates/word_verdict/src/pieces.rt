@@ -1,0 +1,107 @@
+//! Words that are accepted as they are written, without being broken.
+
+ghost use Rattle.std.specs.Prelude.{◌≡◌, true, IfOk};
+ghost use Rattle.std.specs.List.{list_any};
+ghost use Rattle.spell_types.specs.Bases.{is_alone_in_case, is_right_spelling};
+ghost use Rattle.spell_types.specs.Licences.{is_forbidden, is_barred, is_derived};
+ghost use Rattle.word_verdict.specs.Judging.{judged, covers_right_spelling};
+
+use affix_strip::Stems;
+use break_points::Judged;
+use letter_case::covered;
+use lists::NoMemory;
+use spell_types::{Chars, Derivation, Lexicon, alone_in_case, forbidden};
+use std::alloc::Global;
+
+/// What the derivations of a word say.
+#[derive(Clone, Copy)]
+struct Standing {
+    /// Whether one is that of a forbidden word.
+    barred: bool,
+    /// Whether one stands as a word.
+    alone: bool,
+}
+
+/// What a piece of a word is by itself. It is looked at as it is written first, since most words need no other spelling.
+pub(crate) fn judge_piece(alloc: Global, stems: &Stems, piece: &[char]) -> Result<Judged, NoMemory>
+    ensures { IfOk result (λ answer. answer ≡ judged stems.now piece.now) }
+{
+    let written = standing_of(alloc, stems, false, piece)?;
+    if written.barred {
+        return Ok(Judged::Barred);
+    }
+    if written.alone {
+        return Ok(Judged::Base);
+    }
+    if covers_right_spelling(alloc, stems, piece)? {
+        return Ok(Judged::Base);
+    }
+    Ok(Judged::Other)
+}
+
+/// Whether a word covers a right spelling other than the written one.
+#[tactic(auto, unfolding(crate::specs::Judging::covers_right_spelling))]
+fn covers_right_spelling(alloc: Global, stems: &Stems, word: &[char]) -> Result<bool, NoMemory>
+    ensures { IfOk result (λ answer. answer ≡ covers_right_spelling stems.now word.now) }
+{
+    let spellings = covered(alloc, word)?;
+    match spellings.as_slice() {
+        [_, others @ ..] => one_is_right(alloc, stems, others),
+        [] => Ok(false),
+    }
+}
+
+/// Whether one of these spellings, which differ in case from the word as it is written, is right.
+fn one_is_right(alloc: Global, stems: &Stems, spellings: &[Chars]) -> Result<bool, NoMemory>
+    ensures { IfOk result (λ answer.
+        answer ≡ list_any (is_right_spelling stems.now true) spellings.now) }
+{
+    for spelling in spellings {
+        if is_right(alloc, stems, spelling.as_slice())? {
+            return Ok(true);
+        }
+    }
+    Ok(false)
+}
+
+/// Whether a spelling that differs in case from the word as it is written is right.
+#[tactic(auto, unfolding(spell_types::specs::Bases::is_right_spelling))]
+fn is_right(alloc: Global, stems: &Stems, spelling: &[char]) -> Result<bool, NoMemory>
+    ensures { IfOk result (λ answer. answer ≡ is_right_spelling stems.now true spelling.now) }
+{
+    let standing = standing_of(alloc, stems, true, spelling)?;
+    Ok(!standing.barred && standing.alone)
+}
+
+/// What the derivations of a word say, if it is written in another case or if it is not.
+fn standing_of(
+    alloc: Global,
+    stems: &Stems,
+    by_case: bool,
+    word: &[char],
+) -> Result<Standing, NoMemory>
+    ensures barred { IfOk result (λ standing. standing.barred ≡ is_barred stems.now word.now) }
+    ensures alone { IfOk result (λ standing.
+        standing.alone ≡ is_derived (is_alone_in_case by_case) stems.now word.now) }
+{
+    let found = stems.derivations(alloc, word)?;
+    let lexicon = stems.lexicon();
+    Ok(Standing {
+        barred: one_is_forbidden(lexicon, found.as_slice()),
+        alone: one_is_alone(by_case, lexicon, found.as_slice()),
+    })
+}
+
+/// Whether one of the derivations is that of a forbidden word.
+fn one_is_forbidden(lexicon: &Lexicon, found: &[Derivation]) -> bool
+    ensures { result ≡ list_any (is_forbidden lexicon.now) found.now }
+{
+    found.iter().any(|d| forbidden(lexicon, d))
+}
+
+/// Whether one of the derivations stands as a word, which is written in another case or is not.
+fn one_is_alone(by_case: bool, lexicon: &Lexicon, found: &[Derivation]) -> bool
+    ensures { result ≡ list_any (is_alone_in_case by_case lexicon.now) found.now }
+{
+    found.iter().any(|d| alone_in_case(by_case, lexicon, d))
+}
