@@ -1,5 +1,5 @@
 -- What makes a word accepted, one after another.
-use Rattle.std.proofs.Common.{◌≡◌, ◌∙◌, refl, sym, ap, arith, ℕ, ◌<◌, ◌≤◌, ◌-◌, ◌==◌, Bool, true, false, not, ◌&&◌, ◌||◌, List, length, take, nat_le, nat_lt, eq-eqb, ne_eqb, le-leb}
+use Rattle.std.proofs.Common.{◌≡◌, ◌∙◌, refl, sym, ap, arith, ℕ, ◌<◌, ◌≤◌, ◌-◌, ◌==◌, Bool, true, false, not, ◌&&◌, ◌||◌, List, length, nat_le, nat_lt, eq-eqb, ne_eqb, le-leb}
 use Rattle.std.proofs.lemmas.List.{length-take, take_all}
 use Rattle.std.specs.List.{suffix_len, list_any}
 use Rattle.spell_types.specs.declared.Lexicon.{Lexicon}
@@ -10,7 +10,7 @@ use Rattle.spell_types.specs.Cases.{is_same_word, covered_by}
 use Rattle.spell_types.specs.Conditions.{is_one_of}
 use Rattle.spell_types.specs.Licences.{is_barred}
 use Rattle.spell_types.specs.Numbers.{is_number, undotted, is_dot}
-use Rattle.spell_types.specs.Yields.{accepts, is_broken_by, is_accepted, is_accepted_undotted, most_characters}
+use Rattle.spell_types.specs.Yields.{accepts, is_broken_by, is_accepted_undotted, most_characters}
 use Rattle.break_points.specs.Judging.{is_base_by, is_barred_by}
 use Rattle.word_verdict.specs.Accepting.{is_accepted_short, is_accepted_before_dots}
 use Rattle.word_verdict.specs.Judging.{judged, judged_by}

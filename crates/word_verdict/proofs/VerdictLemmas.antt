@@ -1,6 +1,5 @@
 -- What holds of one of the licensed derivations of a word holds of one of all.
-use Rattle.std.proofs.Common.{◌≡◌, ℕ, Bool, true, false, cond, not, ◌&&◌, ◌||◌, List, [], ◌∷◌, ◌++◌, Option, Some, None, refl, ap, sym, ◌∙◌, nat_eq}
-use Rattle.std.specs.Cmp.Lexicographic.{pointwise}
+use Rattle.std.proofs.Common.{◌≡◌, ℕ, Bool, true, false, cond, not, ◌&&◌, ◌||◌, List, [], ◌∷◌, ◌++◌, Option, Some, None, refl, ap, sym, ◌∙◌}
 use Rattle.std.specs.List.{filter, list_any}
 use Rattle.std.proofs.lemmas.Slice.Eq.{bytes_eq-Decides}
 use Rattle.spell_types.specs.declared.Lexicon.{Lexicon}
@@ -9,7 +8,7 @@ use Rattle.spell_types.specs.Bases.{is_alone_in_case, is_right_spelling, is_base
 use Rattle.spell_types.specs.Cases.{is_same_word, covered_by, without_repeats, spellings_of_capital, spellings_of_capitals}
 use Rattle.spell_types.specs.Derivations.{Named, named, all_derivations}
 use Rattle.spell_types.specs.Licences.{is_allowed, holds_of, has_form, is_licensed, is_derived, is_forbidden, is_barred}
-use Rattle.affix_strip.specs.Found.{derives, derivations_of}
+use Rattle.affix_strip.specs.Found.{derivations_of}
 use Rattle.word_verdict.specs.Judging.{judged, judged_by, behind_first, covers_right_spelling}
 
 and-left : (a b : Bool) → (a && b) ≡ true → a ≡ true

@@ -1,5 +1,5 @@
 -- The cases of a word, one after another.
-use Rattle.std.proofs.Common.{rules, ◌≡◌, ◌∙◌, sym, subst, IfOk, arith}
+use Rattle.std.proofs.Common.{rules, ◌≡◌, subst, IfOk}
 use Rattle.word_verdict.proofs.AcceptLemmas.{accepts_empty, accepts_number, refuses_long, accepts_short_ones}
 use Rattle.word_verdict.proofs.words.accepts.Goals as goal
 use Rattle.word_verdict.proofs.words.accepts.Goals.{then-is_empty-via-then-is_empty, then-is_empty-via-else-is_empty+then-is_number}
