@@ -62,7 +62,9 @@ impl Stems {
     }
 
     /// All derivations of a word: those that are licensed and whose form is the word, by entry, then by prefix, by
-    /// first and by second suffix, none before any.
+    /// first and by second suffix, none before any. As long as neither rules nor entries stand in tables this is slow: for
+    /// each prefix that can be undone a call looks at every rule as a second suffix, for each that can be undone at every
+    /// rule as a first one, and for each way that is found at every entry.
     pub fn derivations(&self, alloc: Global, word: &[char]) -> Result<Vec<Derivation>, NoMemory>
         ensures { IfOk result (λ found. found.items ≡ derivations_of self.now word.now) }
     {
