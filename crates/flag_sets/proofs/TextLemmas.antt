@@ -1,6 +1,6 @@
 -- How the flags of a text go on after the first.
-use Rattle.std.proofs.Common.{is_some, ◌≡◌, ◌≢◌, ◌∙◌, refl, sym, ap, subst, ℕ, ◌+◌, ◌*◌, ◌^◌, ◌<◌, Ok, List, [], ◌∷◌, length, map, Option, Some, None, Bool, true, false, option_and_then, Bor, ◌==◌, IsTrue, true≢false, Contains, IsSomeAnd, ◌↔◌, arith, lit<}
-use Rattle.std.specs.List.{slice_split, position_or_len, before_first, after_first}
+use Rattle.std.proofs.Common.{is_some, nat_lt, ◌≡◌, ◌≢◌, ◌∙◌, refl, sym, ap, subst, ℕ, ◌+◌, ◌*◌, ◌^◌, ◌<◌, Ok, List, [], ◌∷◌, length, map, Option, Some, None, Bool, true, false, cond, option_and_then, Bor, ◌==◌, IsTrue, true≢false, Contains, IsSomeAnd, ◌↔◌, arith, lit<}
+use Rattle.std.specs.List.{AllByRecursion, slice_split, position_or_len, before_first, after_first}
 use Rattle.std.specs.Option.{option_map, ok_or}
 use Rattle.std.specs.Bool.{then_some}
 use Rattle.std.specs.Str.{chars, IsUtf8}
@@ -8,13 +8,14 @@ use Rattle.std.proofs.lemmas.Str.{encodes-chars}
 use Rattle.std.proofs.lemmas.Str.Pattern.{IsSplitOnceResult, split_once_first}
 use Rattle.std.proofs.lemmas.Option.{MatchOption-at_some, MatchOption-at_none}
 use Rattle.std.proofs.lemmas.List.{length-drop}
+use Rattle.std.proofs.lemmas.List.Elements.{All-from_recursion, recursion_from_All}
 use lib.Utf8.{encodes}
 use Rattle.std.proofs.lemmas.List.Splits.{slice_split_first, slice_split_none, length-slice_split}
 use Rattle.std.proofs.lemmas.List.Sums.{fails_before_first}
 use Rattle.std.proofs.lemmas.Bool.Decides.{nat_tests}
 use Rattle.text_lines.specs.Fields.{decimal_of}
 use Rattle.spell_types.specs.declared.flags.Flag.{Flag}
-use Rattle.spell_types.specs.Flags.{put, put_all, IsRising}
+use Rattle.spell_types.specs.Flags.{put, put_all, IsRising, IsOrdinary, AreOrdinary}
 use Rattle.spell_types.specs.declared.flags.FlagKind.{FlagKind}
 use Rattle.spell_types.specs.declared.flags.FlagKind.TheVariants.{Single, Utf8, Long, Num}
 use Rattle.flag_sets.specs.FlagTexts.{with_first, flag_of, flag_of_item, flags_of_items, paired_flags, is_comma, listed_flags, number_flags, flag_field, only_of, one_flag}
@@ -191,3 +192,18 @@ field_has None set is rising members = absurd (cc)
 field_has (Some flags) set is rising members =
     let same : put_all [] flags ≡ set = cc in
     (subst IsRising same (rising flags), λ flag. subst (λ xs. Contains xs flag ↔ Contains flags flag) same (members flags flag))
+
+-- ---- an ordinary flag that is put into a set of them leaves one
+put-each : (flag : Flag) (set : List Flag) → IsOrdinary flag → AllByRecursion IsOrdinary set → AllByRecursion IsOrdinary (put flag set)
+put-each flag [] one each = (one, tt)
+put-each flag (first ∷ more) one each =
+    elim (nat_lt flag.0 first.0) as (λ low. AllByRecursion IsOrdinary (cond low (flag ∷ first ∷ more) (cond (flag.0 == first.0) (first ∷ more) (first ∷ put flag more)))) [
+      | true ↦ (one, each)
+      | false ↦ elim (flag.0 == first.0) as (λ same. AllByRecursion IsOrdinary (cond same (first ∷ more) (first ∷ put flag more))) [
+        | true ↦ each
+        | false ↦ (each.0, put-each flag more one each.1)
+      ]
+    ]
+
+pub put-ordinary : (flag : Flag) (set : List Flag) → IsOrdinary flag → AreOrdinary set → AreOrdinary (put flag set)
+put-ordinary flag set one all = All-from_recursion IsOrdinary (put flag set) (put-each flag set one (recursion_from_All IsOrdinary set all))

@@ -3,6 +3,7 @@
 ghost use Rattle.std.specs.Prelude.{◌≡◌, ◌<◌, [], ◌∷◌, ◌++◌, length, IfNone, IfSome};
 ghost use Rattle.std.specs.Char.{encode_utf8};
 ghost use Rattle.std.specs.Str.{chars};
+ghost use Rattle.spell_types.specs.Flags.{IsOrdinary};
 ghost use Rattle.flag_sets.specs.FlagTexts.{listed_flags, character_flags, long_flags, number_flags, flag_of_item, GoesOn};
 
 use spell_types::{Flag, FlagKind};
@@ -14,7 +15,8 @@ const HIGHEST: u64 = 65000;
 /// The first flag that a text lists, and the rest of the text, which lists the others.
 pub(crate) fn first_flag(kind: FlagKind, text: &str) -> Option<(Flag, &str)>
     requires { 0 < length text.now }
-    ensures { GoesOn (listed_flags kind) text.now result }
+    ensures goes_on { GoesOn (listed_flags kind) text.now result }
+    ensures ordinary { IfSome result (λ found. IsOrdinary found.0) }
 {
     match kind {
         FlagKind::Single | FlagKind::Utf8 => first_character(text),
@@ -25,7 +27,8 @@ pub(crate) fn first_flag(kind: FlagKind, text: &str) -> Option<(Flag, &str)>
 
 fn first_character(text: &str) -> Option<(Flag, &str)>
     requires { 0 < length text.now }
-    ensures { GoesOn character_flags text.now result }
+    ensures goes_on { GoesOn character_flags text.now result }
+    ensures ordinary { IfSome result (λ found. IsOrdinary found.0) }
 {
     let (character, rest) = next_character(text)?;
     Some((Flag(u64::from(character)), rest))
@@ -33,7 +36,8 @@ fn first_character(text: &str) -> Option<(Flag, &str)>
 
 fn first_pair(text: &str) -> Option<(Flag, &str)>
     requires { 0 < length text.now }
-    ensures { GoesOn long_flags text.now result }
+    ensures goes_on { GoesOn long_flags text.now result }
+    ensures ordinary { IfSome result (λ found. IsOrdinary found.0) }
 {
     let (first, more) = next_character(text)?;
     let (second, rest) = next_character(more)?;
@@ -43,7 +47,8 @@ fn first_pair(text: &str) -> Option<(Flag, &str)>
 
 fn first_number(text: &str) -> Option<(Flag, &str)>
     requires { 0 < length text.now }
-    ensures { GoesOn number_flags text.now result }
+    ensures goes_on { GoesOn number_flags text.now result }
+    ensures ordinary { IfSome result (λ found. IsOrdinary found.0) }
 {
     let Some((item, rest)) = text.split_once(',') else {
         return Some((flag_of_number(text)?, ""));
@@ -57,7 +62,8 @@ fn first_number(text: &str) -> Option<(Flag, &str)>
 
 /// The flag that a decimal stands for.
 fn flag_of_number(item: &str) -> Option<Flag>
-    ensures { result ≡ flag_of_item item.now }
+    ensures flag { result ≡ flag_of_item item.now }
+    ensures ordinary { IfSome result IsOrdinary }
 {
     decimal(item)
         .filter(|number| (1..=HIGHEST).contains(number))

@@ -1,11 +1,11 @@
 //! The texts of flags: fields of flags, also through aliases, and single flags.
 #![tactic(auto)]
 
-ghost use Rattle.std.specs.Prelude.{◌≡◌, ◌≢◌, ◌↔◌, ℕ, List, [], Ok, Err, None, Some, IsTrue, IfOk, IfErr, IsSomeAnd, Contains, is_some};
+ghost use Rattle.std.specs.Prelude.{◌≡◌, ◌≢◌, ◌↔◌, ℕ, List, [], Ok, Err, None, Some, IsTrue, All, IfSome, IfOk, IfErr, IsSomeAnd, Contains, is_some};
 ghost use Rattle.std.specs.Option.{option_copied};
 ghost use Rattle.spell_types.specs.declared.flags.Flag.{Flag};
 ghost use Rattle.spell_types.specs.declared.flags.FlagKind.{FlagKind};
-ghost use Rattle.spell_types.specs.Flags.{IsRising};
+ghost use Rattle.spell_types.specs.Flags.{IsRising, IsOrdinary, AreOrdinary};
 ghost use Rattle.flag_sets.specs.FlagTexts.{listed_flags, alias_of, alias_field, flag_field, one_flag};
 
 use crate::first::first_flag;
@@ -56,6 +56,7 @@ pub fn read_flags(
     ensures fault { IfErr result
         (λ fault. fault ≢ FlagFault.NoMemory
         → flag_field kind (option_copied aliases.entry) text.now ≡ Err fault) }
+    ensures ordinary { IfSome (option_copied aliases.entry) (All AreOrdinary) → IfOk result AreOrdinary }
 {
     match aliases {
         None => read_listed(alloc, kind, text),
@@ -65,7 +66,8 @@ pub fn read_flags(
 
 /// The flag that a text is. Aliases are never used for it.
 pub fn read_one_flag(kind: FlagKind, text: &str) -> Option<Flag>
-    ensures { result ≡ one_flag kind text.now }
+    ensures flag { result ≡ one_flag kind text.now }
+    ensures ordinary { IfSome result IsOrdinary }
 {
     if text.is_empty() {
         return None;
@@ -109,6 +111,7 @@ fn read_listed(alloc: Global, kind: FlagKind, text: &str) -> Result<FlagSet, Fla
     ensures set { IfOk result (λ set. flag_field kind None text.now ≡ Ok set) }
     ensures fault { IfErr result
         (λ fault. fault ≢ FlagFault.NoMemory → flag_field kind None text.now ≡ Err fault) }
+    ensures ordinary { IfOk result AreOrdinary }
 {
     let mut set = FlagSet::new(alloc);
     let mut rest = text;
@@ -127,6 +130,7 @@ fn read_alias(alloc: Global, aliases: &[FlagSet], text: &str) -> Result<FlagSet,
     ensures set { IfOk result (λ set. alias_field aliases.now text.now ≡ Ok set) }
     ensures fault { IfErr result
         (λ fault. fault ≢ FlagFault.NoMemory → alias_field aliases.now text.now ≡ Err fault) }
+    ensures ordinary { All AreOrdinary aliases.now → IfOk result AreOrdinary }
 {
     if text.is_empty() {
         return Ok(FlagSet::new(alloc));
@@ -139,7 +143,8 @@ fn read_alias(alloc: Global, aliases: &[FlagSet], text: &str) -> Result<FlagSet,
 
 /// The alias whose ordinal the text is.
 fn alias<'a>(aliases: &'a [FlagSet], text: &str) -> Option<&'a FlagSet>
-    ensures { option_copied result ≡ alias_of aliases.now text.now }
+    ensures alias { option_copied result ≡ alias_of aliases.now text.now }
+    ensures ordinary { All AreOrdinary aliases.now → IfSome result (λ set. AreOrdinary set.now) }
 {
     let place = decimal(text)?.checked_sub(1)?;
     aliases.get(place as usize)

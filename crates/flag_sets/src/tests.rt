@@ -196,7 +196,7 @@ fn assert_parted(
     behind: Option<&str>,
 ) -> Result<(), NoMemory> {
     let mut word = chars_of(alloc, "+")?;
-    let found = push_before_slash(&mut word, text)?;
+    let found = push_before_slash(alloc, &mut word, text)?;
     let mut own = String::new(alloc);
     for c in word.as_slice() {
         own.push(*c)?;

@@ -1,8 +1,11 @@
 -- What every dictionary that was read meets.
-use Rattle.std.specs.Prelude.{◌<◌, ◌^◌, List, All, length}
+use Rattle.std.specs.Prelude.{◌<◌, ◌^◌, List, All, length, IfSome}
 use Rattle.spell_types.specs.declared.Affixes.{Affixes}
 use Rattle.spell_types.specs.declared.Entry.{Entry}
 use Rattle.spell_types.specs.declared.Lexicon.{Lexicon}
+use Rattle.spell_types.specs.declared.rules.Rule.{Rule}
+use Rattle.spell_types.specs.declared.signs.Signs.{Signs}
+use Rattle.spell_types.specs.Flags.{IsOrdinary, AreOrdinary}
 
 -- the rules may be numbered with 32 bits, and no text that is looked for is empty
 pub record AreSaneAffixes (affixes : Affixes) : Type 0 where
@@ -19,3 +22,27 @@ pub record AreSaneEntries (entries : List Entry) : Type 0 where
 pub record IsSane (lexicon : Lexicon) : Type 0 where
   pub affixes : AreSaneAffixes lexicon.affixes
   pub entries : AreSaneEntries lexicon.entries
+
+-- the flag of a rule's class and the flags that the rule carries are ordinary
+pub record IsOrdinaryRule (rule : Rule) : Type 0 where
+  pub class : IsOrdinary rule.flag
+  pub carried : AreOrdinary rule.carried
+
+-- each flag with a meaning is ordinary, where it is given
+pub record AreOrdinarySigns (signs : Signs) : Type 0 where
+  pub need_affix : IfSome signs.need_affix IsOrdinary
+  pub circumfix : IfSome signs.circumfix IsOrdinary
+  pub forbidden : IfSome signs.forbidden IsOrdinary
+  pub keep_case : IfSome signs.keep_case IsOrdinary
+  pub warn : IfSome signs.warn IsOrdinary
+  pub only_inside : IfSome signs.only_inside IsOrdinary
+
+-- no flag of an .aff file is the number that is left over
+pub record HasOrdinaryFlags (affixes : Affixes) : Type 0 where
+  pub aliases : IfSome affixes.aliases (All AreOrdinary)
+  pub rules : All IsOrdinaryRule affixes.rules
+  pub signs : AreOrdinarySigns affixes.signs
+
+-- and none of a .dic file is
+abbrev pub HaveOrdinaryFlags : List Entry → Type 0
+HaveOrdinaryFlags entries = All (λ entry. AreOrdinary entry.flags) entries

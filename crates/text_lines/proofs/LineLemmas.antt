@@ -95,6 +95,7 @@ numbers_more good line before is =
 -- what the walk keeps: the good lines so far, and that all others are after a place
 pub record Walks (bytes : List ℕ) (good : List Line) (number place : ℕ) : Type 0 where
   pub count : number ≤ place + 1
+  pub few : number ≤ length bytes + 1
   pub next : number ≡ length good + 1
   pub numbers : map (λ line. line.number) good ≡ range_with_len 1 (length good)
   pub within : place ≤ length bytes + 1
@@ -152,6 +153,7 @@ walk_more bytes good number place stop line walks comes inside fits =
     let step = walk_line bytes number place stop line comes in
     record {
       count = omega (arith, walks.count, comes.stops);
+      few = omega (arith, walks.count, comes.within);
       next = omega (arith, walks.next, length_push good line);
       numbers = numbers_more good line walks.numbers (ap (λ l. l.number) comes.is ∙ walks.next);
       within = omega arith;

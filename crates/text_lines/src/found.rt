@@ -1,6 +1,7 @@
 //! What was found of the lines of a file.
 
-use lists::Items;
+use lists::{Copied, Items, NoMemory};
+use std::alloc::Global;
 
 /// A line by its places in the bytes of its file: its text stands from `from` up to `to`.
 #[derive(Clone, Copy, Debug, PartialEq, Eq)]
@@ -11,6 +12,12 @@ pub struct Line {
     pub from: usize,
     /// Where the line's text ends: before its line feed, and before a carriage return there.
     pub to: usize,
+}
+
+impl Copied for Line {
+    fn copy(&self, _alloc: Global) -> Result<Line, NoMemory> {
+        Ok(*self)
+    }
 }
 
 /// The lines of a file up to the first that is not UTF-8.

@@ -30,6 +30,7 @@ pub fn lines(alloc: Global, bytes: &[u8]) -> Result<Lines, NoMemory>
     ensures bad { IfOk result (λ found. found.bad ≡ bad_line bytes.now) }
     ensures numbered { IfOk result
         (λ found. map (λ line. line.number) found.good ≡ range_with_len 1 (length found.good)) }
+    ensures few { IfOk result (λ found. length found.good ≤ length bytes.now) }
 
     // So that `line_text` may be called with each of them.
     ensures inside { IfOk result (λ found. All (IsInside bytes.now) found.good) }

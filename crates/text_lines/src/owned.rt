@@ -3,7 +3,7 @@
 ghost use Rattle.std.specs.Prelude.{◌≡◌, [], IfOk, List, ℕ};
 ghost use Rattle.std.specs.Cmp.{partial_equiv_from_equiv};
 ghost use Rattle.std.specs.Cmp.Lexicographic.{nat_list_eq_equiv};
-ghost use Rattle.std.specs.Str.{bytes_eq};
+ghost use Rattle.std.specs.Str.{IsUtf8, bytes_eq};
 ghost use Rattle.std.specs.String.{string_bytes};
 
 use lists::{Copied, NoMemory};
@@ -20,6 +20,8 @@ impl Model for Text {
     ghost Value = { List ℕ };
 
     ghost view = { λ inside. string_bytes inside.kept };
+
+    ghost invariant = { λ inside. IsUtf8 (string_bytes inside.kept) };
 }
 
 impl Text {
@@ -43,7 +45,8 @@ impl Text {
 
     /// The text, to be read.
     pub fn as_str(&self) -> &str
-        ensures { result.now ≡ self.now }
+        ensures text { result.now ≡ self.now }
+        ensures utf8 { IsUtf8 self.now }
     {
         self.kept.as_str()
     }

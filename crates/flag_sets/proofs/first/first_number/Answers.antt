@@ -5,31 +5,31 @@ use Rattle.flag_sets.specs.FlagTexts.{GoesOn, number_flags}
 use Rattle.flag_sets.proofs.TextLemmas.{goes_last, goes_more, goes_nowhere, shorter_rest, cut_at, no_cut}
 use Rattle.flag_sets.proofs.first.first_number.Goals as goal
 
-pub returns-in_err-flag_of_number : goal.returns-in_err-flag_of_number
-returns-in_err-flag_of_number c =
+pub returns-in_err-flag_of_number-clause-goes_on : goal.returns-in_err-flag_of_number-clause-goes_on
+returns-in_err-flag_of_number-clause-goes_on c =
     subst (GoesOn number_flags c.args.text.now) (sym c.from_residual.ensures)
-    (goes_last c.args.text.now None c.requires (no_cut c.args.text.now c.split_once.result c.split_once.ensures.cases c.in_default.is) c.in_err-flag_of_number.ensures)
+    (goes_last c.args.text.now None c.requires (no_cut c.args.text.now c.split_once.result c.split_once.ensures.cases c.in_default.is) c.in_err-flag_of_number.ensures.flag)
 
-pub returns-in_default : goal.returns-in_default
-returns-in_default c = (
-  goes_last c.args.text.now _ c.requires (no_cut c.args.text.now c.split_once.result c.split_once.ensures.cases c.in_default.is) c.in_ok-flag_of_number.ensures,
+pub returns-in_default-clause-goes_on : goal.returns-in_default-clause-goes_on
+returns-in_default-clause-goes_on c = (
+  goes_last c.args.text.now _ c.requires (no_cut c.args.text.now c.split_once.result c.split_once.ensures.cases c.in_default.is) c.in_ok-flag_of_number.ensures.flag,
   c.requires,
 )
 
-pub returns-then-is_empty : goal.returns-then-is_empty
-returns-then-is_empty c =
+pub returns-then-is_empty-clause-goes_on : goal.returns-then-is_empty-clause-goes_on
+returns-then-is_empty-clause-goes_on c =
     let cut = cut_at c.args.text.now c.split_once.result c.in-Some.item c.in-Some.rest c.split_once.ensures.cases c.in-Some.is in
     goes_nowhere c.args.text.now c.in-Some.item.now c.in-Some.rest.now cut (grind (arith, nat_tests))
 
-pub returns-in_err-flag_of_number-2 : goal.returns-in_err-flag_of_number-2
-returns-in_err-flag_of_number-2 c =
+pub returns-in_err-flag_of_number-2-clause-goes_on : goal.returns-in_err-flag_of_number-2-clause-goes_on
+returns-in_err-flag_of_number-2-clause-goes_on c =
     let cut = cut_at c.args.text.now c.split_once.result c.in-Some.item c.in-Some.rest c.split_once.ensures.cases c.in-Some.is in
     subst (GoesOn number_flags c.args.text.now) (sym c.from_residual-in_err-flag_of_number-2.ensures)
-    (goes_more c.args.text.now c.in-Some.item.now c.in-Some.rest.now None cut (grind (arith, nat_tests)) c.in_err-flag_of_number-2.ensures)
+    (goes_more c.args.text.now c.in-Some.item.now c.in-Some.rest.now None cut (grind (arith, nat_tests)) c.in_err-flag_of_number-2.ensures.flag)
 
-pub returns : goal.returns
-returns c =
+pub returns-clause-goes_on : goal.returns-clause-goes_on
+returns-clause-goes_on c =
     let cut = cut_at c.args.text.now c.split_once.result c.in-Some.item c.in-Some.rest c.split_once.ensures.cases c.in-Some.is in (
-      goes_more c.args.text.now c.in-Some.item.now c.in-Some.rest.now _ cut (grind (arith, nat_tests)) c.in_ok-flag_of_number-2.ensures,
+      goes_more c.args.text.now c.in-Some.item.now c.in-Some.rest.now _ cut (grind (arith, nat_tests)) c.in_ok-flag_of_number-2.ensures.flag,
       shorter_rest c.args.text.now c.in-Some.item.now c.in-Some.rest.now cut,
     )

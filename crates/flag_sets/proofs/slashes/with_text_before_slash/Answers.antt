@@ -5,12 +5,12 @@ use Rattle.std.proofs.lemmas.List.{append-nil}
 use Rattle.std.proofs.lemmas.Str.{chars-nil}
 use Rattle.std.proofs.lemmas.Str.Pattern.{strip_prefix_char}
 use Rattle.flag_sets.proofs.SlashLemmas.{nothing-before}
-use Rattle.flag_sets.proofs.slashes.push_before_slash.Goals as goal
+use Rattle.flag_sets.proofs.slashes.with_text_before_slash.Goals as goal
 
 pub returns-clause-word : goal.returns-clause-word
 returns-clause-word c =
-    sym (append-nil c.loop-character.word)
-    ∙ ap (λ cs. c.loop-character.word ++ cs) (sym (ap chars c.in_default.ensures.none ∙ chars-nil))
+    sym (append-nil c.loop-character.longer)
+    ∙ ap (λ cs. c.loop-character.longer ++ cs) (sym (ap chars c.in_default.ensures.none ∙ chars-nil))
     ∙ c.loop-character.invariant.1
 
 pub returns-clause-behind : goal.returns-clause-behind

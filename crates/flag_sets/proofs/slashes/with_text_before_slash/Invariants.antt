@@ -4,11 +4,11 @@ use denote.Text.{Utf8}
 use denote.Shadow.{shadow}
 use Rattle.std.specs.Str.{chars}
 use Rattle.flag_sets.specs.Slashes.{before_slash, behind_slash}
-use Rattle.flag_sets.proofs.slashes.push_before_slash.Given as goal
+use Rattle.flag_sets.proofs.slashes.with_text_before_slash.Given as goal
 
 abbrev pub invariant-loop-character : goal.invariant-loop-character
 invariant-loop-character l = shadow (Utf8 l.rest)
-    × (l.word ++ chars (before_slash l.rest) ≡ l.fn.word ++ chars (before_slash l.fn.text))
+    × (l.longer ++ chars (before_slash l.rest) ≡ l.fn.word ++ chars (before_slash l.fn.text))
     × (behind_slash l.rest ≡ behind_slash l.fn.text)
 
 abbrev pub decreases-loop-character : goal.decreases-loop-character
