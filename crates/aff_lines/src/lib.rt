@@ -5,8 +5,9 @@
 //! and the values of a directive are asked of all lines of its names at once.
 #![tactic(auto)]
 
-ghost use Rattle.std.specs.Prelude.{◌≡◌, ◌++◌, ℕ, List, None, Some, All, IfOk, IfErr, filter_map};
+ghost use Rattle.std.specs.Prelude.{◌≡◌, ◌++◌, ℕ, List, None, Some, All, IfOk, IfErr, IfSome, filter_map};
 ghost use Rattle.text_lines.specs.Lines.{IsInside};
+ghost use Rattle.spell_types.specs.Flags.{AreOrdinary};
 ghost use Rattle.aff_lines.specs.declared.faults.Fault.{Fault};
 ghost use Rattle.aff_lines.specs.Faults.{first_fault, least_of, IsFault, IsLeast, Refuses};
 ghost use Rattle.aff_lines.specs.Passes.{early_passes, passes_of, Says, Reads, IsFirst, SameEarly, bad_faults, pass_faults};
@@ -53,6 +54,7 @@ pub struct Directives {
 pub fn read_directives(alloc: Global, bytes: &[u8]) -> Result<Directives, AffFault>
     ensures read { IfOk result (Reads bytes.now) }
     ensures refused { IfErr result (Refuses (early_passes bytes.now)) }
+    ensures ordinary { IfOk result (λ found. IfSome found.aliases (All AreOrdinary)) }
 
     // The same as equations, so that a reader can go on with the next pass.
     ensures fine { IfOk result (λ _. first_fault (early_passes bytes.now) ≡ None) }
@@ -64,6 +66,7 @@ pub fn read_directives(alloc: Global, bytes: &[u8]) -> Result<Directives, AffFau
 fn read_early(alloc: Global, bytes: &[u8]) -> Result<Directives, AffFault>
     ensures fine { IfOk result (λ _. first_fault (early_passes bytes.now) ≡ None) }
     ensures says { IfOk result (Says bytes.now) }
+    ensures ordinary { IfOk result (λ found. IfSome found.aliases (All AreOrdinary)) }
     ensures first { IfErr result (IsFirst (early_passes bytes.now)) }
 {
     let found = lines(alloc, bytes)?;

@@ -1,7 +1,8 @@
 //! What the lines of a directive say.
 
-ghost use Rattle.std.specs.Prelude.{◌≡◌, IfOk, map, take, unwrap_or};
+ghost use Rattle.std.specs.Prelude.{◌≡◌, All, IfOk, IfSome, map, take, unwrap_or};
 ghost use Rattle.std.specs.Option.{option_copied};
+ghost use Rattle.spell_types.specs.Flags.{IsOrdinary, AreOrdinary};
 ghost use Rattle.aff_lines.specs.declared.names.Directive.{Directive};
 ghost use Rattle.aff_lines.specs.Causes.{number_at};
 ghost use Rattle.aff_lines.specs.Passes.{value_said, flag_said, number_said, is_said, IsTable, kind_said, set_in, aliases_said};
@@ -25,7 +26,8 @@ pub fn value_said(directive: Directive, rows: &[Kept]) -> Option<&str>
 
 /// The flag of a directive.
 pub fn flag_said(kind: FlagKind, directive: Directive, rows: &[Kept]) -> Option<Flag>
-    ensures { result ≡ flag_said kind (lines_of directive rows.now) }
+    ensures flag { result ≡ flag_said kind (lines_of directive rows.now) }
+    ensures ordinary { IfSome result IsOrdinary }
 {
     read_one_flag(kind, value_said(directive, rows)?)
 }
@@ -68,7 +70,8 @@ pub(crate) fn read_aliases(
     kind: FlagKind,
     rows: &[Kept],
 ) -> Result<Option<Items<FlagSet>>, NoMemory>
-    ensures { IfOk result (λ aliases. aliases ≡ aliases_said kind (lines_of Directive.FlagAliases rows.now)) }
+    ensures said { IfOk result (λ aliases. aliases ≡ aliases_said kind (lines_of Directive.FlagAliases rows.now)) }
+    ensures ordinary { IfOk result (λ aliases. IfSome aliases (All AreOrdinary)) }
 {
     let Some((count, later)) = table_of(Directive::FlagAliases, rows) else {
         return Ok(None);
@@ -83,7 +86,8 @@ fn read_sets(
     count: u64,
     rows: &[Kept],
 ) -> Result<Items<FlagSet>, NoMemory>
-    ensures { IfOk result (λ sets. sets ≡ map (set_in kind) (take count (lines_of Directive.FlagAliases rows.now))) }
+    ensures said { IfOk result (λ sets. sets ≡ map (set_in kind) (take count (lines_of Directive.FlagAliases rows.now))) }
+    ensures ordinary { IfOk result (All AreOrdinary) }
 {
     let mut sets = Items::new(alloc);
     let mut left = count;
@@ -101,7 +105,8 @@ fn read_sets(
 
 /// The set in the field behind a line's name.
 fn read_set(alloc: Global, kind: FlagKind, line: &Kept) -> Result<FlagSet, NoMemory>
-    ensures { IfOk result (λ set. set ≡ set_in kind line.now) }
+    ensures said { IfOk result (λ set. set ≡ set_in kind line.now) }
+    ensures ordinary { IfOk result AreOrdinary }
 {
     let text = value_of(line).unwrap_or("");
     match read_flags(alloc, kind, None, text) {

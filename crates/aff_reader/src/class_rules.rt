@@ -28,7 +28,7 @@ pub(crate) fn read_rule(
     let strip = field_of(line, 2).unwrap_or("");
     let affix = field_of(line, 3).unwrap_or("");
     let mut add = Items::new(alloc);
-    let behind = push_before_slash(&mut add, affix)?;
+    let behind = push_before_slash(alloc, &mut add, affix)?;
     let carried = match carried_of(alloc, kind, aliases, behind)? {
         Ok(carried) => carried,
         Err(why) => return Ok(Err(why)),

@@ -24,7 +24,7 @@ pub(crate) fn read_entry(
     ensures word { IfOk result (λ made. 0 < length made.word) }
 {
     let mut whole = Items::new(alloc);
-    let flags = push_word(&mut whole, text)?;
+    let flags = push_word(alloc, &mut whole, text)?;
     let word = drop_ignored(alloc, affixes.ignore.as_slice(), whole.as_slice())?;
     if word.as_slice().is_empty() {
         return Err(DicFault::At {
@@ -43,7 +43,7 @@ pub(crate) fn read_entry(
 
 /// Adds the characters of an entry's word, and gives the text of its flags. A slash at the front of the entry
 /// is one of its word.
-fn push_word<'a>(word: &mut Chars, entry: &'a str) -> Result<&'a str, NoMemory>
+fn push_word<'a>(alloc: Global, word: &mut Chars, entry: &'a str) -> Result<&'a str, NoMemory>
     ensures word { OnOk result (word.new ≡ word.old ++ whole_word entry.now) }
     ensures flags { IfOk result (λ flags. flags.now ≡ flag_text entry.now) }
 {
@@ -52,7 +52,7 @@ fn push_word<'a>(word: &mut Chars, entry: &'a str) -> Result<&'a str, NoMemory>
         word.push('/')?;
         rest = more;
     }
-    Ok(push_before_slash(word, rest)?.unwrap_or(""))
+    Ok(push_before_slash(alloc, word, rest)?.unwrap_or(""))
 }
 
 /// The sets that ordinals stand for, if the file has aliases.
