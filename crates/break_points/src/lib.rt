@@ -32,7 +32,8 @@ pub enum Judged {
 }
 
 /// Whether a word is accepted as it stands or in pieces, by the judge of each. The judge is asked only for pieces
-/// to which breaking leads, and once for each stretch of the word.
+/// to which breaking leads, and once for each stretch of the word. The only error is want of memory, of its own or
+/// told by the judge.
 pub fn broken<F: Fn(&[char]) -> Result<Judged, NoMemory>>(
     alloc: Global,
     breaks: &[Anchored],
