@@ -2,4 +2,5 @@ mod ClassLemmas
 mod TurnLemmas
 mod TableLemmas
 mod BoundLemmas
+mod MemberLemmas
 mod PassLemmas

@@ -1,10 +1,14 @@
 //! The affix classes of an .aff file: their faults, and their rules.
 
-ghost use Rattle.std.specs.Prelude.{◌≡◌, ◌++◌, ◌<◌, ◌≤◌, ◌^◌, List, [], length, map, None, OnOk, IfOk};
+ghost use Rattle.std.specs.Prelude.{◌≡◌, ◌++◌, ◌<◌, ◌≤◌, ◌^◌, List, [], length, filter, map, Option, None, OnOk, IfOk};
 ghost use Rattle.std.specs.Option.{option_copied};
+ghost use Rattle.spell_types.specs.declared.flags.Flag.{Flag};
+ghost use Rattle.spell_types.specs.declared.flags.FlagKind.{FlagKind};
 ghost use Rattle.aff_lines.specs.declared.rows.Kept.{Kept};
 ghost use Rattle.aff_lines.specs.Faults.{least_of};
-ghost use Rattle.aff_reader.specs.ClassLines.{side_of, standing_of, each_after, Knows};
+ghost use Rattle.aff_reader.specs.declared.class_lines.Class.{Class};
+ghost use Rattle.aff_reader.specs.ClassLines.{side_of, lines_in, standing_of, each_after, Knows};
+ghost use Rattle.aff_reader.specs.ClassMembers.{is_rule_of, rules_in};
 ghost use Rattle.aff_reader.specs.ClassRules.{rule_without};
 ghost use Rattle.aff_reader.specs.Classes.{says_cross, has_rules, header_faults, role_faults, side_faults, line_faults, heads, announced_by, total_faults, many_faults, class_faults, placed_rules, rules_said};
 
@@ -58,6 +62,13 @@ pub(crate) fn read_rules(
     }
     Ok(rules)
 }
+
+/// The rules of a class among those that the lines of all classes say are those that its own lines say: as many of them
+/// as the header announces, the next behind it. This holds for lines with faults, too.
+pub fn classes_have_their_rules()
+    ensures { (kind : FlagKind) (aliases : Option (List (List Flag))) (class : Class) (rows : List Kept)
+        → filter (is_rule_of class) (rules_said kind aliases rows) ≡ rules_in kind aliases class (lines_in kind class rows) }
+{}
 
 /// What the lines say of each class.
 fn read_classes(alloc: Global, kind: FlagKind, rows: &[Kept]) -> Result<Classes, NoMemory>

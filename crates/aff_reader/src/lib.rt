@@ -18,6 +18,8 @@ use spell_types::{Affixes, Chars, FlagKind, FlagSet, Options, Signs, chars_of};
 use std::alloc::Global;
 use tables::{read_breaks, read_conversions};
 
+pub use classes::classes_have_their_rules;
+
 mod anchored_texts;
 mod class_lines;
 mod class_rules;
