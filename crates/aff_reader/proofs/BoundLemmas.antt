@@ -22,7 +22,7 @@ use Rattle.aff_reader.specs.declared.class_lines.Role.TheVariants.{Member, Past}
 use Rattle.aff_reader.specs.declared.class_lines.Standing.{Standing}
 use Rattle.aff_reader.specs.ClassLines.{class_of, is_same_class, is_that_class, lines_in, count_of, wanted_behind, standing_of, role_wanted, role_after, placed_in, placed_after, each_after}
 use Rattle.aff_reader.specs.ClassRules.{rule_of}
-use Rattle.aff_reader.specs.Classes.{announced_by, announced, heads, role_rules, placed_rules, rules_said, line_faults, limit_faults, many_faults, class_faults}
+use Rattle.aff_reader.specs.Classes.{announced_by, announced, heads, role_rules, placed_rules, rules_said, line_faults, limit_faults, many_faults, rule_limit, class_faults}
 use Rattle.aff_reader.proofs.TurnLemmas.{announced-more}
 use Rattle.aff_reader.proofs.ClassLemmas.{same-class, same-self, lines-other, lines-own, placed-none}
 
@@ -343,9 +343,9 @@ none-least : (faults : List Fault) → least_of faults ≡ None → faults ≡ [
 none-least faults none = subst (λ (o : Option Fault). LeastIs faults o) none (least_law faults)
 
 pub rules-few : (kind : FlagKind) (aliases : Option (List (List Flag))) (rows : List Kept) → least_of (class_faults kind aliases rows) ≡ None
-    → length (rules_said kind aliases rows) ≤ 200000
+    → length (rules_said kind aliases rows) ≤ rule_limit
 rules-few kind aliases rows none =
     let no_faults = none-least (class_faults kind aliases rows) none in
-    let few = within-limit kind 200000 rows (second-none (each_after (line_faults kind aliases rows) [] rows) (many_faults kind 200000 rows) no_faults) in
+    let few = within-limit kind rule_limit rows (second-none (each_after (line_faults kind aliases rows) [] rows) (many_faults kind rule_limit rows) no_faults) in
     let said = rules-announced kind aliases rows in
     omega (arith, few, said)

@@ -93,9 +93,13 @@ limit_faults kind limit before line = total_faults limit (announced kind (before
 unfoldable pub many_faults : FlagKind → ℕ → List Kept → List Fault
 many_faults kind limit rows = each_after (limit_faults kind limit) [] rows
 
--- the faults of the lines of affix classes; the headers of a file may announce 200000 rules
+-- how many rules the headers of a file may announce
+abbrev pub rule_limit : ℕ
+rule_limit = 200000
+
+-- the faults of the lines of affix classes
 abbrev pub class_faults : FlagKind → Option (List (List Flag)) → List Kept → List Fault
-class_faults kind aliases rows = each_after (line_faults kind aliases rows) [] rows ++ many_faults kind 200000 rows
+class_faults kind aliases rows = each_after (line_faults kind aliases rows) [] rows ++ many_faults kind rule_limit rows
 
 abbrev pub role_rules : FlagKind → Option (List (List Flag)) → Kept → Class → Role → List Rule
 role_rules kind aliases line class (Member crossed) = option_to_list (result_ok (rule_of kind aliases class crossed line))

@@ -1,8 +1,9 @@
 //! The lines of affix classes, and what each of them is in its class.
 
-ghost use Rattle.std.specs.Prelude.{◌≡◌, ◌++◌, ◌∷◌, [], List, Option, Some, OnOk, IfOk, if◌then◌else◌};
+ghost use Rattle.std.specs.Prelude.{◌≡◌, ◌++◌, ◌∷◌, [], List, Option, Some, OnOk, IfOk, IfSome, if◌then◌else◌};
 ghost use Rattle.std.specs.Option.{option_copied};
 ghost use Rattle.spell_types.specs.declared.flags.FlagKind.{FlagKind};
+ghost use Rattle.spell_types.specs.Flags.{IsOrdinary};
 ghost use Rattle.aff_lines.specs.declared.rows.Kept.{Kept};
 ghost use Rattle.aff_reader.specs.declared.class_lines.Class.{Class};
 ghost use Rattle.aff_reader.specs.ClassLines.{field_of, side_of, flag_at, class_of, is_same_class, is_text, is_crossed, count_of, standing_of, role_after, placed_after, standing_in, Knows};
@@ -75,6 +76,7 @@ impl Classes {
             → OnOk result (Knows kind (before ++ line.now ∷ []) self.new) }
         ensures placed { (before : List Kept) → Knows kind before self.old
             → IfOk result (λ placed. placed ≡ placed_after kind before line.now) }
+        ensures ordinary { IfOk result (λ found. IfSome found (λ placed. IsOrdinary placed.class.flag)) }
     {
         let Some(class) = class_of(kind, line) else {
             return Ok(None);
@@ -145,7 +147,8 @@ fn role_after(standing: Option<Standing>) -> Role
 /// The class that a line belongs to.
 #[tactic(auto, unfolding(crate::specs::ClassLines::class_of))]
 fn class_of(kind: FlagKind, line: &Kept) -> Option<Class>
-    ensures { result ≡ class_of kind line.now }
+    ensures class { result ≡ class_of kind line.now }
+    ensures ordinary { IfSome result (λ class. IsOrdinary class.flag) }
 {
     let side = side_of(line.name.as_str())?;
     let flag = flag_at(kind, line)?;
@@ -166,7 +169,8 @@ pub(crate) fn side_of(name: &str) -> Option<Side>
 }
 
 fn flag_at(kind: FlagKind, line: &Kept) -> Option<Flag>
-    ensures { result ≡ flag_at kind line.now }
+    ensures flag { result ≡ flag_at kind line.now }
+    ensures ordinary { IfSome result IsOrdinary }
 {
     read_one_flag(kind, field_of(line, 1)?)
 }

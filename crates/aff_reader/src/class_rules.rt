@@ -1,7 +1,9 @@
 //! The rule that a line of an affix class says.
 
-ghost use Rattle.std.specs.Prelude.{◌≡◌, IfOk};
+ghost use Rattle.std.specs.Prelude.{◌≡◌, All, IfOk, IfSome};
 ghost use Rattle.std.specs.Option.{option_copied};
+ghost use Rattle.spell_types.specs.Flags.{IsOrdinary, AreOrdinary};
+ghost use Rattle.spell_types.specs.Sanity.{IsOrdinaryRule};
 ghost use Rattle.aff_reader.specs.ClassRules.{unless_zero, carried_of, asked_of, rule_of, rule_without};
 
 use crate::class_lines::{Class, field_of};
@@ -23,7 +25,9 @@ pub(crate) fn read_rule(
     crossed: bool,
     line: &Kept,
 ) -> Result<Result<Rule, AffWhy>, NoMemory>
-    ensures { IfOk result (λ read. read ≡ rule_of kind (option_copied aliases.entry) class crossed line.now) }
+    ensures rule { IfOk result (λ read. read ≡ rule_of kind (option_copied aliases.entry) class crossed line.now) }
+    ensures ordinary { IfSome (option_copied aliases.entry) (All AreOrdinary) → IsOrdinary class.flag
+        → IfOk result (λ read. IfOk read IsOrdinaryRule) }
 {
     let strip = field_of(line, 2).unwrap_or("");
     let affix = field_of(line, 3).unwrap_or("");
@@ -49,7 +53,8 @@ pub(crate) fn read_rule(
 
 /// The rule without the characters to ignore.
 pub(crate) fn without_ignored(alloc: Global, ignore: &[char], rule: Rule) -> Result<Rule, NoMemory>
-    ensures { IfOk result (λ made. made ≡ rule_without ignore.now rule) }
+    ensures rule { IfOk result (λ made. made ≡ rule_without ignore.now rule) }
+    ensures ordinary { IsOrdinaryRule rule → IfOk result IsOrdinaryRule }
 {
     Ok(Rule {
         strip: drop_ignored(alloc, ignore, rule.strip.as_slice())?,
@@ -76,8 +81,10 @@ fn carried_of(
     aliases: Option<&[FlagSet]>,
     text: Option<&str>,
 ) -> Result<Result<FlagSet, AffWhy>, NoMemory>
-    ensures { IfOk result (λ read. read
+    ensures set { IfOk result (λ read. read
         ≡ carried_of kind (option_copied aliases.entry) (option_copied text.entry)) }
+    ensures ordinary { IfSome (option_copied aliases.entry) (All AreOrdinary)
+        → IfOk result (λ read. IfOk read AreOrdinary) }
 {
     let Some(text) = text else {
         return Ok(Ok(FlagSet::new(alloc)));

@@ -1,16 +1,18 @@
 //! The affix classes of an .aff file: their faults, and their rules.
 
-ghost use Rattle.std.specs.Prelude.{◌≡◌, ◌++◌, ◌<◌, ◌≤◌, ◌^◌, List, [], length, filter, map, Option, None, OnOk, IfOk};
+ghost use Rattle.std.specs.Prelude.{◌≡◌, ◌++◌, ◌<◌, ◌≤◌, ◌^◌, List, [], length, filter, map, All, Option, None, OnOk, IfOk, IfSome};
 ghost use Rattle.std.specs.Option.{option_copied};
 ghost use Rattle.spell_types.specs.declared.flags.Flag.{Flag};
 ghost use Rattle.spell_types.specs.declared.flags.FlagKind.{FlagKind};
+ghost use Rattle.spell_types.specs.Flags.{IsOrdinary, AreOrdinary};
+ghost use Rattle.spell_types.specs.Sanity.{IsOrdinaryRule};
 ghost use Rattle.aff_lines.specs.declared.rows.Kept.{Kept};
 ghost use Rattle.aff_lines.specs.Faults.{least_of};
 ghost use Rattle.aff_reader.specs.declared.class_lines.Class.{Class};
 ghost use Rattle.aff_reader.specs.ClassLines.{side_of, lines_in, standing_of, each_after, Knows};
 ghost use Rattle.aff_reader.specs.ClassMembers.{is_rule_of, rules_in};
 ghost use Rattle.aff_reader.specs.ClassRules.{rule_without};
-ghost use Rattle.aff_reader.specs.Classes.{says_cross, has_rules, header_faults, role_faults, side_faults, line_faults, heads, announced_by, total_faults, many_faults, class_faults, placed_rules, rules_said};
+ghost use Rattle.aff_reader.specs.Classes.{says_cross, has_rules, header_faults, role_faults, side_faults, line_faults, heads, announced_by, total_faults, many_faults, rule_limit, class_faults, placed_rules, rules_said};
 
 use crate::class_lines::{
     Classes, Placed, Role, Standing, count_of, field_of, is_crossed, is_text, side_of,
@@ -52,7 +54,8 @@ pub(crate) fn read_rules(
     ensures rules { IfOk result
         (λ rules. rules ≡ map (rule_without ignore.now) (rules_said kind (option_copied aliases.entry) rows.now)) }
     ensures few { least_of (class_faults kind (option_copied aliases.entry) rows.now) ≡ None
-        → IfOk result (λ rules. length rules ≤ 200000) }
+        → IfOk result (λ rules. length rules ≤ rule_limit) }
+    ensures ordinary { IfSome (option_copied aliases.entry) (All AreOrdinary) → IfOk result (All IsOrdinaryRule) }
 {
     let mut classes = Classes::new(alloc);
     let mut rules = Items::new(alloc);
@@ -257,8 +260,11 @@ fn push_rule(
     line: &Kept,
     placed: Option<Placed>,
 ) -> Result<(), NoMemory>
-    ensures { OnOk result (rules.new
+    ensures rules { OnOk result (rules.new
         ≡ rules.old ++ map (rule_without ignore.now) (placed_rules kind (option_copied aliases.entry) line.now placed)) }
+    ensures ordinary { IfSome (option_copied aliases.entry) (All AreOrdinary)
+        → IfSome placed (λ placed. IsOrdinary placed.class.flag)
+        → All IsOrdinaryRule rules.old → OnOk result (All IsOrdinaryRule rules.new) }
 {
     let Some(
         Placed {

@@ -1,11 +1,12 @@
 //! Reads the .aff file of a dictionary: its options, by the rules of hunspell(5), or its first fault.
 #![tactic(auto)]
 
-ghost use Rattle.std.specs.Prelude.{◌≡◌, None, IfOk, IfErr};
+ghost use Rattle.std.specs.Prelude.{◌≡◌, ◌≤◌, All, None, length, IfOk, IfErr, IfSome};
 ghost use Rattle.std.specs.Option.{option_copied};
-ghost use Rattle.spell_types.specs.Sanity.{AreSaneAffixes};
+ghost use Rattle.spell_types.specs.Flags.{AreOrdinary};
+ghost use Rattle.spell_types.specs.Sanity.{AreSaneAffixes, AreOrdinarySigns, HasOrdinaryFlags};
 ghost use Rattle.aff_lines.specs.Faults.{least_of};
-ghost use Rattle.aff_reader.specs.Classes.{class_faults};
+ghost use Rattle.aff_reader.specs.Classes.{rule_limit, class_faults};
 ghost use Rattle.aff_reader.specs.Grammar.{AffReads, AffRefuses, IsRead, aff_read, late_faults, affixes_said, signs_said, options_said, characters_said};
 
 use aff_lines::{
@@ -37,6 +38,8 @@ pub fn read_aff(alloc: Global, bytes: &[u8]) -> Result<Affixes, AffFault>
     ensures read { IfOk result (AffReads bytes.now) }
     ensures refused { IfErr result (AffRefuses bytes.now) }
     ensures sane { IfOk result AreSaneAffixes }
+    ensures few { IfOk result (λ affixes. length affixes.rules ≤ rule_limit) }
+    ensures ordinary { IfOk result HasOrdinaryFlags }
 
     // The same as one value, so that a caller can go on with it.
     ensures value { IsRead (aff_read bytes.now) result }
@@ -49,6 +52,8 @@ pub fn read_aff(alloc: Global, bytes: &[u8]) -> Result<Affixes, AffFault>
 fn read_passes(alloc: Global, bytes: &[u8]) -> Result<Affixes, AffFault>
     ensures read { IsRead (aff_read bytes.now) result }
     ensures sane { IfOk result AreSaneAffixes }
+    ensures few { IfOk result (λ affixes. length affixes.rules ≤ rule_limit) }
+    ensures ordinary { IfOk result HasOrdinaryFlags }
 {
     let Directives {
         kind,
@@ -97,6 +102,8 @@ fn read_affixes(
     requires { least_of (class_faults kind aliases rows.now) ≡ None }
     ensures said { IfOk result (λ affixes. affixes ≡ affixes_said kind aliases rows.now) }
     ensures sane { IfOk result AreSaneAffixes }
+    ensures few { IfOk result (λ affixes. length affixes.rules ≤ rule_limit) }
+    ensures ordinary { IfSome aliases (All AreOrdinary) → IfOk result HasOrdinaryFlags }
 {
     let ignore = characters_of(alloc, value_said(Directive::Ignore, rows))?;
     let rules = read_rules(alloc, kind, aliases_of(&aliases), ignore.as_slice(), rows)?;
@@ -115,7 +122,8 @@ fn read_affixes(
 
 /// The flags with a meaning.
 fn signs_of(kind: FlagKind, rows: &[Kept]) -> Signs
-    ensures { result ≡ signs_said kind rows.now }
+    ensures signs { result ≡ signs_said kind rows.now }
+    ensures ordinary { AreOrdinarySigns result }
 {
     Signs {
         need_affix: flag_said(kind, Directive::NeedAffix, rows),

@@ -2,7 +2,7 @@
 use Rattle.std.proofs.Common.{◌∙◌, ap, sym, subst, map, take, length, ◌≡◌, ◌+◌, ◌≤◌}
 use Rattle.std.proofs.lemmas.List.{take_all, length-map}
 use Rattle.aff_reader.specs.ClassRules.{rule_without}
-use Rattle.aff_reader.specs.Classes.{rules_said}
+use Rattle.aff_reader.specs.Classes.{rule_limit, rules_said}
 use Rattle.aff_reader.proofs.BoundLemmas.{rules-few}
 use Rattle.std.specs.Option.{option_copied}
 use Rattle.aff_reader.proofs.TurnLemmas.{taken, knows-turn, rules-turn}
@@ -16,8 +16,9 @@ loop-line-preserved c =
     record {
       known = knows-turn c.args.kind lines longer c.line-item.result c.loop-line.classes c.place.new.self more
           c.in_ok-placed.ensures.knows c.loop-line.invariant.known;
+      ordinary = λ aliases. c.in_ok-push_rule.ensures.ordinary aliases c.in_ok-placed.ensures.ordinary (c.loop-line.invariant.ordinary aliases);
       said = rules-turn c.args.kind (option_copied c.args.aliases) c.args.ignore.now lines longer c.line-item.result c.loop-line.classes c.in_ok-placed.placed c.loop-line.rules _
-          more c.in_ok-placed.ensures.placed c.in_ok-push_rule.ensures c.loop-line.invariant.known c.loop-line.invariant.said;
+          more c.in_ok-placed.ensures.placed c.in_ok-push_rule.ensures.rules c.loop-line.invariant.known c.loop-line.invariant.said;
     }
 
 pub returns-clause-few : goal.returns-clause-few
@@ -27,4 +28,4 @@ returns-clause-few c = λ none.
     let same : length c.loop-line.rules ≡ length whole =
     ap length (c.loop-line.invariant.said ∙ ap (λ rows. map (rule_without c.args.ignore.now) (rules_said c.args.kind (option_copied c.args.aliases) rows)) all)
     ∙ length-map whole (rule_without c.args.ignore.now) in
-    subst (λ n. n ≤ 200000) (sym same) (rules-few c.args.kind (option_copied c.args.aliases) c.args.rows.now none)
+    subst (λ n. n ≤ rule_limit) (sym same) (rules-few c.args.kind (option_copied c.args.aliases) c.args.rows.now none)
