@@ -266,7 +266,7 @@ step kind aliases rows line classes covers = of-class (class_of kind line) refl
 
 -- all lines
 
-abbrev rules_each : FlagKind → Option (List (List Flag)) → List Kept → Kept → List Rule
+abbrev pub rules_each : FlagKind → Option (List (List Flag)) → List Kept → Kept → List Rule
 rules_each kind aliases before line = placed_rules kind aliases line (placed_after kind before line)
 
 abbrev counts_each : FlagKind → List Kept → Kept → List ℕ
@@ -293,11 +293,11 @@ rules-announced kind aliases rows = omega (arith, bound kind aliases [] rows [] 
 
 -- the limit
 
-first-none : {A : Type 0} (xs ys : List A) → xs ++ ys ≡ [] → xs ≡ []
+pub first-none : {A : Type 0} (xs ys : List A) → xs ++ ys ≡ [] → xs ≡ []
 first-none [] ys h = refl
 first-none (x ∷ xs) ys h = absurd cc
 
-second-none : {A : Type 0} (xs ys : List A) → xs ++ ys ≡ [] → ys ≡ []
+pub second-none : {A : Type 0} (xs ys : List A) → xs ++ ys ≡ [] → ys ≡ []
 second-none [] ys h = h
 second-none (x ∷ xs) ys h = absurd cc
 

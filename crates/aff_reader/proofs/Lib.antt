@@ -3,4 +3,5 @@ mod TurnLemmas
 mod TableLemmas
 mod BoundLemmas
 mod MemberLemmas
+mod CountLemmas
 mod PassLemmas

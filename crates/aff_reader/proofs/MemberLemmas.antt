@@ -1,8 +1,8 @@
 -- The rules of a class are the next lines of the class behind its header.
-use Rattle.std.proofs.Common.{◌≡◌, ℕ, suc, ◌+◌, ◌-◌, ◌≤◌, ◌==◌, Bool, true, false, cond, filter, filter_map, is_some, unwrap_or, List, [], ◌∷◌, ◌++◌, length, take, Option, Some, None, Result, Ok, Err, refl, sym, ap, ◌∙◌, append_assoc, arith}
+use Rattle.std.proofs.Common.{◌≡◌, ℕ, suc, ◌+◌, ◌-◌, ◌==◌, Bool, true, false, cond, filter, filter_map, unwrap_or, List, [], ◌∷◌, ◌++◌, length, take, Option, Some, None, Result, Ok, Err, refl, sym, ap, ◌∙◌, arith}
 use Rattle.std.specs.List.{cons_option}
 use Rattle.std.specs.Option.{option_map, option_to_list}
-use Rattle.std.specs.Result.{result_ok, result_err}
+use Rattle.std.specs.Result.{result_ok}
 use Rattle.std.proofs.Math.Seq.{take-nil}
 use Rattle.std.proofs.lemmas.Bool.Decides.{nat_tests}
 use Rattle.std.proofs.lemmas.List.{length-append}
@@ -20,6 +20,7 @@ use Rattle.aff_reader.specs.ClassLines.{class_of, is_same_class, is_that_class, 
 use Rattle.aff_reader.specs.ClassRules.{rule_with, rule_from, rule_of}
 use Rattle.aff_reader.specs.Classes.{role_rules, placed_rules, rules_said}
 use Rattle.aff_reader.specs.ClassMembers.{is_rule_of, rules_in}
+use Rattle.aff_reader.proofs.BoundLemmas.{rules_each}
 use Rattle.aff_reader.proofs.ClassLemmas.{same-class, lines-other, lines-own}
 
 -- a rule is of the class whose line says it, and of no other
@@ -72,7 +73,7 @@ other-role kind aliases of class line Unplaced apart = refl
 
 -- the rule of a line, behind these
 
-abbrev role_in : FlagKind → Class → List Kept → Role
+abbrev pub role_in : FlagKind → Class → List Kept → Role
 role_in kind class before = role_after (standing_of (lines_in kind class before))
 
 own-found : (kind : FlagKind) (aliases : Option (List (List Flag))) (class : Class) (before : List Kept) (line : Kept) (found : Option Class)
@@ -89,9 +90,6 @@ other-found : (kind : FlagKind) (aliases : Option (List (List Flag))) (class : C
     → filter (is_rule_of class) (placed_rules kind aliases line (option_map (placed_in kind before) found)) ≡ []
 other-found kind aliases class before line None apart = refl
 other-found kind aliases class before line (Some other) apart = other-role kind aliases class other line (role_in kind other before) apart
-
-abbrev rules_each : FlagKind → Option (List (List Flag)) → List Kept → Kept → List Rule
-rules_each kind aliases before line = placed_rules kind aliases line (placed_after kind before line)
 
 own-line : (kind : FlagKind) (aliases : Option (List (List Flag))) (class : Class) (before : List Kept) (line : Kept)
     → is_that_class class (class_of kind line) ≡ true
@@ -122,14 +120,14 @@ pub lines-later : (kind : FlagKind) (class : Class) (line : Kept) (more : List K
 unfolding lines_in
 lines-later kind class line more apart = ap (λ b. cond b (line ∷ lines_in kind class more) (lines_in kind class more)) apart
 
-no-lines : (kind : FlagKind) (class : Class) → lines_in kind class [] ≡ []
+pub lines-none : (kind : FlagKind) (class : Class) → lines_in kind class [] ≡ []
 unfolding lines_in
-no-lines kind class = refl
+lines-none kind class = refl
 
 members : (kind : FlagKind) (aliases : Option (List (List Flag))) (class : Class) (before rows : List Kept)
     → filter (is_rule_of class) (each_after (rules_each kind aliases) before rows)
     ≡ rules_behind kind aliases class (lines_in kind class before) (lines_in kind class rows)
-members kind aliases class before [] = sym (ap (rules_behind kind aliases class (lines_in kind class before)) (no-lines kind class))
+members kind aliases class before [] = sym (ap (rules_behind kind aliases class (lines_in kind class before)) (lines-none kind class))
 members kind aliases class before (line ∷ more) =
     let rest = each_after (rules_each kind aliases) (before ++ line ∷ []) more in
     filter-append (is_rule_of class) (rules_each kind aliases before line) rest
@@ -150,20 +148,20 @@ members kind aliases class before (line ∷ more) =
 
 -- so many of the lines behind the header as it announces are its rules
 
-abbrev said_by : FlagKind → Option (List (List Flag)) → Class → Bool → Kept → Option Rule
+abbrev pub said_by : FlagKind → Option (List (List Flag)) → Class → Bool → Kept → Option Rule
 said_by kind aliases class crossed line = result_ok (rule_of kind aliases class crossed line)
 
 one-more : {A : Type 0} (found : Option A) (xs : List A) → option_to_list found ++ xs ≡ cons_option found xs
 one-more None xs = refl
 one-more (Some x) xs = refl
 
-none-left : (count behind : ℕ) → (count - behind == 0) ≡ true → count - behind ≡ 0
+pub none-left : (count behind : ℕ) → (count - behind == 0) ≡ true → count - behind ≡ 0
 none-left count behind h = grind (arith, nat_tests)
 
 none-later : (count behind : ℕ) → (count - behind == 0) ≡ true → count - (behind + 1) ≡ 0
 none-later count behind h = grind (arith, nat_tests)
 
-one-left : (count behind : ℕ) → (count - behind == 0) ≡ false → count - behind ≡ suc (count - (behind + 1))
+pub one-left : (count behind : ℕ) → (count - behind == 0) ≡ false → count - behind ≡ suc (count - (behind + 1))
 one-left count behind h = grind (arith, nat_tests)
 
 nothing-left : (behind : ℕ) → 0 - behind ≡ 0
@@ -218,5 +216,5 @@ pub class-rules : (kind : FlagKind) (aliases : Option (List (List Flag))) (class
 unfolding rules_said
 class-rules kind aliases class rows =
     members kind aliases class [] rows
-    ∙ ap (λ own. rules_behind kind aliases class own (lines_in kind class rows)) (no-lines kind class)
+    ∙ ap (λ own. rules_behind kind aliases class own (lines_in kind class rows)) (lines-none kind class)
     ∙ from-header kind aliases class (lines_in kind class rows)

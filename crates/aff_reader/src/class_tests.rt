@@ -1,5 +1,5 @@
 //! What no clause says of affix classes: that the rules are those of the definitions, and that calls succeed.
-use crate::classes::{class_fault, many_fault, read_rules};
+use crate::classes::{class_fault, classes_have_their_rules, many_fault, read_rules};
 use aff_lines::{AffWhy, Fault, Kept};
 use flag_sets::read_flags;
 use lists::{Items, NoMemory};
@@ -319,6 +319,7 @@ fn adds_announced_rules(rt: HostRuntime) -> Result<(), Fail> {
     ] {
         assert_many(&rt, rt.alloc(), limit, text, line)?;
     }
+    classes_have_their_rules();
     Ok(())
 }
 

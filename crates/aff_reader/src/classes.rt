@@ -1,6 +1,6 @@
 //! The affix classes of an .aff file: their faults, and their rules.
 
-ghost use Rattle.std.specs.Prelude.{◌≡◌, ◌++◌, ◌<◌, ◌≤◌, ◌^◌, List, [], length, filter, map, All, Option, None, OnOk, IfOk, IfSome};
+ghost use Rattle.std.specs.Prelude.{◌≡◌, ◌++◌, ◌∷◌, ◌<◌, ◌≤◌, ◌^◌, List, [], length, filter, map, All, Option, None, Some, OnOk, IfOk, IfSome};
 ghost use Rattle.std.specs.Option.{option_copied};
 ghost use Rattle.spell_types.specs.declared.flags.Flag.{Flag};
 ghost use Rattle.spell_types.specs.declared.flags.FlagKind.{FlagKind};
@@ -9,7 +9,7 @@ ghost use Rattle.spell_types.specs.Sanity.{IsOrdinaryRule};
 ghost use Rattle.aff_lines.specs.declared.rows.Kept.{Kept};
 ghost use Rattle.aff_lines.specs.Faults.{least_of};
 ghost use Rattle.aff_reader.specs.declared.class_lines.Class.{Class};
-ghost use Rattle.aff_reader.specs.ClassLines.{side_of, lines_in, standing_of, each_after, Knows};
+ghost use Rattle.aff_reader.specs.ClassLines.{side_of, lines_in, count_of, standing_of, each_after, Knows};
 ghost use Rattle.aff_reader.specs.ClassMembers.{is_rule_of, rules_in};
 ghost use Rattle.aff_reader.specs.ClassRules.{rule_without};
 ghost use Rattle.aff_reader.specs.Classes.{says_cross, has_rules, header_faults, role_faults, side_faults, line_faults, heads, announced_by, total_faults, many_faults, rule_limit, class_faults, placed_rules, rules_said};
@@ -67,10 +67,14 @@ pub(crate) fn read_rules(
 }
 
 /// The rules of a class among those that the lines of all classes say are those that its own lines say: as many of them
-/// as the header announces, the next behind it. This holds for lines with faults, too.
+/// as the header announces, the next behind it. This holds for lines with faults, too. Where no line has a fault they are
+/// exactly so many.
 pub fn classes_have_their_rules()
-    ensures { (kind : FlagKind) (aliases : Option (List (List Flag))) (class : Class) (rows : List Kept)
+    ensures members { (kind : FlagKind) (aliases : Option (List (List Flag))) (class : Class) (rows : List Kept)
         → filter (is_rule_of class) (rules_said kind aliases rows) ≡ rules_in kind aliases class (lines_in kind class rows) }
+    ensures count { (kind : FlagKind) (aliases : Option (List (List Flag))) (class : Class) (rows : List Kept) (header : Kept) (behind : List Kept)
+        → class_faults kind aliases rows ≡ [] → lines_in kind class rows ≡ header ∷ behind
+        → count_of header ≡ Some (length (filter (is_rule_of class) (rules_said kind aliases rows))) }
 {}
 
 /// What the lines say of each class.

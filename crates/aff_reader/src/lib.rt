@@ -13,13 +13,12 @@ use aff_lines::{
     AffFault, Directive, Directives, FOURTH, Fault, Kept, find_fault, first_faults_are_least,
     flag_said, is_said, read_directives, sooner, value_said,
 };
+pub use classes::classes_have_their_rules;
 use classes::{class_fault, read_rules};
 use lists::{Items, NoMemory};
 use spell_types::{Affixes, Chars, FlagKind, FlagSet, Options, Signs, chars_of};
 use std::alloc::Global;
 use tables::{read_breaks, read_conversions};
-
-pub use classes::classes_have_their_rules;
 
 mod anchored_texts;
 mod class_lines;

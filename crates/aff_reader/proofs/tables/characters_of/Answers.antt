@@ -1,5 +1,4 @@
 -- A text that is not empty has a character.
-use Rattle.std.proofs.Common.{List, ℕ}
 use Rattle.std.specs.Str.{chars}
 use Rattle.aff_reader.proofs.TableLemmas.{chars-some, made-some}
 use Rattle.aff_reader.proofs.tables.characters_of.Goals as goal
