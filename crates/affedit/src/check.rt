@@ -12,7 +12,7 @@ use crate::report::{Report, make_report};
 use crate::stop::Stop;
 use aff_lines::AffFault;
 use aff_reader::read_aff;
-use dic_reader::faults::DicFault;
+use dic_reader::DicFault;
 use dic_reader::read_dic;
 use outside::{FileFault, Files};
 use spell_types::{Affixes, Entries};

@@ -6,7 +6,7 @@ ghost use Rattle.affedit.specs.declared.stop.Stop.TheVariants.{NoMemory as OutOf
 ghost use Rattle.affedit.specs.Stops.{status_of, fault_line, last_line};
 
 use aff_lines::AffWhy;
-use dic_reader::faults::DicWhy;
+use dic_reader::DicWhy;
 use lists::NoMemory;
 use std::alloc::AllocError;
 

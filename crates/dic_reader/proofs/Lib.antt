@@ -1,2 +1,4 @@
 pub mod CuttingLemmas
 pub mod EntryLemmas
+pub mod FaultLemmas
+pub mod FileLemmas

@@ -1,6 +1,7 @@
--- What a .dic file says, or its first fault.
-use Rattle.std.specs.Prelude.{◌≡◌, ℕ, ◌+◌, ◌==◌, List, [], ◌∷◌, length, map, take, slice_get, codes, Option, None, Some, Result, Ok, Err, if◌then◌else◌}
-use Rattle.std.specs.Option.{option_map, option_or}
+-- Which faults a .dic file has, which of them is told, and what a file without faults says.
+use Rattle.std.specs.Prelude.{◌≡◌, ℕ, zero, suc, ◌==◌, ◌||◌, ◌&&◌, ◌⊎◌, nat_lt, Bool, false, List, [], ◌∷◌, ◌++◌, length, map, drop, slice_get, codes, Option, None, Some, Result, Ok, Err, if◌then◌else◌}
+use Rattle.std.specs.List.{flat_map}
+use Rattle.std.specs.Option.{option_or}
 use Rattle.text_lines.specs.declared.found.Line.{Line}
 use Rattle.text_lines.specs.Lines.{text_of, good_lines, bad_line}
 use Rattle.spell_types.specs.declared.Affixes.{Affixes}
@@ -13,6 +14,15 @@ use Rattle.dic_reader.specs.declared.faults.DicFault.TheVariants.{At, NoMemory}
 use Rattle.dic_reader.specs.declared.faults.DicWhy.{DicWhy}
 use Rattle.dic_reader.specs.declared.faults.DicWhy.TheVariants.{NotUtf8, BadCount, EmptyWord, BadFlag, BadAlias, TooMany}
 use Rattle.dic_reader.specs.Entries.{Listed, listed, is_count, word_of, flags_of}
+
+-- the place of a cause among all causes, from 1
+unfoldable pub cause_number : DicWhy → ℕ
+cause_number NotUtf8 = 1
+cause_number BadCount = 2
+cause_number EmptyWord = 3
+cause_number BadFlag = 4
+cause_number BadAlias = 5
+cause_number TooMany = 6
 
 -- the cause as it is printed
 unfoldable pub why_name : DicWhy → List ℕ
@@ -31,50 +41,90 @@ pub record Fault : Type 0 where
 abbrev pub fault_at : ℕ → DicWhy → Fault
 fault_at line why = record { line = line; why = why }
 
+-- ---- which faults there are
+
+-- A line that is not UTF-8 is a fault, and only the first such line is asked for.
+abbrev pub bad_faults : Option ℕ → List Fault
+bad_faults None = []
+bad_faults (Some line) = fault_at line NotUtf8 ∷ []
+
+-- A file has to have a first line, and that has to count.
+abbrev pub count_faults : List ℕ → List Line → List Fault
+count_faults bytes [] = fault_at 1 BadCount ∷ []
+count_faults bytes (first ∷ later) = if is_count (text_of bytes first) then [] else fault_at first.number BadCount ∷ []
+
+-- An entry has to have a word, also when the characters to ignore are left out.
+abbrev pub word_faults : Affixes → Listed → List Fault
+word_faults affixes entry = if length (word_of affixes entry.text) == 0 then fault_at entry.number EmptyWord ∷ [] else []
+
 -- what is wrong with the flags of an entry
-abbrev pub flags_why : Result (List Flag) FlagFault → Option DicWhy
-flags_why (Ok set) = None
-flags_why (Err NoAlias) = Some BadAlias
-flags_why (Err _) = Some BadFlag
+abbrev pub flag_whys : Result (List Flag) FlagFault → List DicWhy
+flag_whys (Ok set) = []
+flag_whys (Err NoAlias) = BadAlias ∷ []
+flag_whys (Err _) = BadFlag ∷ []
 
--- what is wrong with an entry; a word of which nothing is left goes before its flags
-abbrev pub entry_why : Affixes → List ℕ → Option DicWhy
-entry_why affixes entry = if length (word_of affixes entry) == 0 then Some EmptyWord else flags_why (flags_of affixes entry)
+-- Its flags have to be right, whatever its word is.
+abbrev pub flag_faults : Affixes → Listed → List Fault
+flag_faults affixes entry = map (fault_at entry.number) (flag_whys (flags_of affixes entry.text))
 
-abbrev pub entry_fault : Affixes → Listed → Option Fault
-entry_fault affixes entry = option_map (fault_at entry.number) (entry_why affixes entry.text)
-
--- the fault of the first of these entries that has one
-abbrev pub first_ill : Affixes → List Listed → Option Fault
-first_ill affixes [] = None
-first_ill affixes (entry ∷ more) = option_or (entry_fault affixes entry) (first_ill affixes more)
-
--- an entry that is one too many
-abbrev pub one_too_many : Listed → Fault
-one_too_many entry = fault_at entry.number TooMany
-
--- The first fault of entries of which so many are allowed. Where the first that is one too many has a fault of its
--- own, that goes first.
-abbrev pub entries_fault : Affixes → ℕ → List Listed → Option Fault
-entries_fault affixes limit entries =
-    option_or (first_ill affixes (take (limit + 1) entries)) (option_map one_too_many (slice_get entries limit))
+abbrev pub entry_faults : Affixes → Listed → List Fault
+entry_faults affixes entry = word_faults affixes entry ++ flag_faults affixes entry
 
 -- how many entries a .dic file may have
 abbrev pub entry_limit : ℕ
 entry_limit = 1000000
 
--- the first fault of the lines that are UTF-8: the first line has to count, and the others have the entries
-abbrev pub lines_fault : Affixes → List ℕ → List Line → Option Fault
-lines_fault affixes bytes [] = Some (fault_at 1 BadCount)
-lines_fault affixes bytes (count ∷ later) =
-    if is_count (text_of bytes count) then entries_fault affixes entry_limit (listed bytes later) else Some (fault_at 1 BadCount)
+abbrev pub too_many : Option Listed → List Fault
+too_many None = []
+too_many (Some entry) = fault_at entry.number TooMany ∷ []
 
-abbrev pub bad_fault : ℕ → Fault
-bad_fault line = fault_at line NotUtf8
+-- Of more entries than are allowed, the first that is one too many is a fault, and those behind it are not.
+abbrev pub many_faults : ℕ → List Listed → List Fault
+many_faults limit entries = too_many (slice_get entries limit)
 
--- the fault of a file: a line that is not UTF-8 goes before all others, and then the first line with a fault
-unfoldable pub dic_fault : Affixes → List ℕ → Option Fault
-dic_fault affixes bytes = option_or (option_map bad_fault (bad_line bytes)) (lines_fault affixes bytes (good_lines bytes))
+-- the faults of entries of which so many are allowed: each entry is asked, also those that are too many
+abbrev pub entries_faults : Affixes → ℕ → List Listed → List Fault
+entries_faults affixes limit entries = flat_map (entry_faults affixes) entries ++ many_faults limit entries
+
+-- the entries of a file with these lines: all lines behind the first are asked
+abbrev pub entries_behind : List ℕ → List Line → List Listed
+entries_behind bytes lines = listed bytes (drop 1 lines)
+
+-- the faults of the lines that are UTF-8
+abbrev pub lines_faults : Affixes → List ℕ → List Line → List Fault
+lines_faults affixes bytes lines = count_faults bytes lines ++ entries_faults affixes entry_limit (entries_behind bytes lines)
+
+-- the faults of a file in two passes: that of a line that is not UTF-8, and all others
+abbrev pub dic_passes : Affixes → List ℕ → List (List Fault)
+dic_passes affixes bytes = bad_faults (bad_line bytes) ∷ lines_faults affixes bytes (good_lines bytes) ∷ []
+
+-- ---- which of them is told
+
+-- whether a fault goes before another: it is at a lower line, or at the same line with a lower cause
+abbrev pub is_before : Fault → Fault → Bool
+is_before fault other =
+    nat_lt fault.line other.line || (fault.line == other.line && nat_lt (cause_number fault.why) (cause_number other.why))
+
+abbrev pub IsAmong : List Fault → Fault → Type 0
+IsAmong [] fault = ⊥
+IsAmong (first ∷ more) fault = (first ≡ fault) ⊎ IsAmong more fault
+
+-- the fault is one of the pass with this number, from 0; a pass counts only where the passes before it have no fault
+abbrev pub IsFault : List (List Fault) → ℕ → Fault → Type 0
+IsFault [] pass fault = ⊥
+IsFault (faults ∷ later) zero fault = IsAmong faults fault
+IsFault (faults ∷ later) (suc pass) fault = (faults ≡ []) × IsFault later pass fault
+
+-- the file has this fault in the pass with this number
+abbrev pub DicBad : Affixes → List ℕ → ℕ → Fault → Type 0
+DicBad affixes bytes pass fault = IsFault (dic_passes affixes bytes) pass fault
+
+-- the fault is one of the bad ones, and none of them goes before it
+pub record IsLeast (bad : Fault → Type 0) (fault : Fault) : Type 0 where
+  pub among : bad fault
+  pub first : (other : Fault) → bad other → is_before other fault ≡ false
+
+-- ---- what is read
 
 abbrev or_none : Result (List Flag) FlagFault → List Flag
 or_none (Ok set) = set
@@ -83,40 +133,64 @@ or_none (Err _) = []
 abbrev pub entry_said : Affixes → Listed → Entry
 entry_said affixes entry = record { word = word_of affixes entry.text; flags = or_none (flags_of affixes entry.text) }
 
--- the entries of the lines behind the first
+-- what a file with these lines says, if it has no fault
 abbrev pub entries_said : Affixes → List ℕ → List Line → List Entry
-entries_said affixes bytes [] = []
-entries_said affixes bytes (count ∷ later) = map (entry_said affixes) (listed bytes later)
+entries_said affixes bytes lines = map (entry_said affixes) (entries_behind bytes lines)
+
+-- the file has no fault, and these are its entries
+pub record DicReads (affixes : Affixes) (bytes : List ℕ) (entries : List Entry) : Type 0 where
+  pub no_fault : (pass : ℕ) (fault : Fault) → ¬ DicBad affixes bytes pass fault
+  pub says : entries ≡ entries_said affixes bytes (good_lines bytes)
+
+-- the fault is the first of the file: of the first pass that has one, at the lowest line, and there of the lowest cause
+abbrev pub DicRefuses : Affixes → List ℕ → DicFault → Type 0
+DicRefuses affixes bytes (At line why) = (pass : ℕ) × IsLeast (DicBad affixes bytes pass) (fault_at line why)
+DicRefuses affixes bytes NoMemory = Unit {0}
+
+-- ---- the same as a value
+
+-- the earlier of two faults
+abbrev pub sooner : Option Fault → Option Fault → Option Fault
+sooner None other = other
+sooner (Some first) None = Some first
+sooner (Some first) (Some other) = if is_before other first then Some other else Some first
+
+-- the earliest of these faults
+abbrev pub least_of : List Fault → Option Fault
+least_of [] = None
+least_of (fault ∷ more) = sooner (Some fault) (least_of more)
+
+-- the earliest fault of the first pass that has one
+abbrev pub first_fault : List (List Fault) → Option Fault
+first_fault [] = None
+first_fault (faults ∷ later) = option_or (least_of faults) (first_fault later)
 
 abbrev pub unless_fault : {A : Type 0} → Option Fault → A → Result A Fault
 unless_fault None read = Ok read
 unless_fault (Some fault) read = Err fault
 
--- what is read of an entry, or its fault
+-- what is read of an entry, or its first fault
 abbrev pub entry_read : Affixes → Listed → Result Entry Fault
-entry_read affixes entry = unless_fault (entry_fault affixes entry) (entry_said affixes entry)
+entry_read affixes entry = unless_fault (least_of (entry_faults affixes entry)) (entry_said affixes entry)
 
 -- what is read of entries of which so many are allowed, or their first fault
 unfoldable pub entries_read : Affixes → ℕ → List Listed → Result (List Entry) Fault
-entries_read affixes limit entries = unless_fault (entries_fault affixes limit entries) (map (entry_said affixes) entries)
+entries_read affixes limit entries = unless_fault (least_of (entries_faults affixes limit entries)) (map (entry_said affixes) entries)
 
 -- what is read of the lines that are UTF-8, or their first fault
-abbrev pub lines_read : Affixes → List ℕ → List Line → Result (List Entry) Fault
-lines_read affixes bytes lines = unless_fault (lines_fault affixes bytes lines) (entries_said affixes bytes lines)
+unfoldable pub lines_read : Affixes → List ℕ → List Line → Result (List Entry) Fault
+lines_read affixes bytes lines = unless_fault (least_of (lines_faults affixes bytes lines)) (entries_said affixes bytes lines)
 
--- what is read of a file, or its fault
+-- what is read of a file, or its first fault
 unfoldable pub dic_read : Affixes → List ℕ → Result (List Entry) Fault
-dic_read affixes bytes = unless_fault (dic_fault affixes bytes) (entries_said affixes bytes (good_lines bytes))
+dic_read affixes bytes = unless_fault (first_fault (dic_passes affixes bytes)) (entries_said affixes bytes (good_lines bytes))
 
 -- the fault is the one that was told in place of what is read
 abbrev pub IsTold : {A : Type 0} → Result A Fault → DicFault → Type 0
 IsTold read (At line why) = read ≡ Err (fault_at line why)
 IsTold read NoMemory = Unit {0}
 
--- the file has no fault, and these are its entries
-abbrev pub DicReads : Affixes → List ℕ → List Entry → Type 0
-DicReads affixes bytes entries = dic_read affixes bytes ≡ Ok entries
-
--- the fault is that of the file
-abbrev pub DicRefuses : Affixes → List ℕ → DicFault → Type 0
-DicRefuses affixes bytes fault = IsTold (dic_read affixes bytes) fault
+-- the reader gives this, or has no memory
+abbrev pub IsRead : {A : Type 0} → Result A Fault → Result A DicFault → Type 0
+IsRead read (Ok made) = read ≡ Ok made
+IsRead read (Err fault) = IsTold read fault

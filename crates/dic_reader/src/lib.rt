@@ -7,14 +7,15 @@
 //! characters to ignore are left out of words.
 #![tactic(auto)]
 
-ghost use Rattle.std.specs.Prelude.{◌≡◌, ◌<◌, ◌^◌, All, Ok, IfOk, IfErr};
+ghost use Rattle.std.specs.Prelude.{◌≡◌, ℕ, ◌<◌, ◌≤◌, ◌^◌, List, length, map, All, Some, None, Ok, IfOk, IfErr};
+ghost use Rattle.std.specs.List.{range_with_len, AllPairs};
 ghost use Rattle.text_lines.specs.Lines.{IsInside};
+ghost use Rattle.spell_types.specs.declared.Affixes.{Affixes};
 ghost use Rattle.spell_types.specs.Sanity.{AreSaneEntries};
 ghost use Rattle.dic_reader.specs.Entries.{listed};
-ghost use Rattle.dic_reader.specs.Faults.{entries_read, lines_read, IsTold, DicReads, DicRefuses};
+ghost use Rattle.dic_reader.specs.Faults.{Fault, entry_limit, dic_passes, first_fault, entries_read, lines_read, dic_read, DicBad, IsLeast, IsTold, IsRead, DicReads, DicRefuses};
 
 use crate::cutting::{entry_of, is_count, is_passed_over};
-use crate::faults::{DicFault, DicWhy};
 use crate::words::read_entry;
 use lists::Items;
 use spell_types::{Affixes, Entries};
@@ -23,21 +24,48 @@ use text_lines::found::Line;
 use text_lines::{line_text, lines};
 
 mod cutting;
-pub mod faults;
+mod faults;
 #[cfg(test)]
 mod tests;
 mod words;
+
+pub use faults::{DicFault, DicWhy};
 
 /// How many entries a file may have.
 const ENTRY_LIMIT: usize = 1_000_000;
 
 /// The entries of a .dic file in their order, or its first fault. `affixes` says how its flags are written. A
-/// line that is not UTF-8 is told before all other faults. A file without lines lacks its count at line 1.
-#[tactic(auto, unfolding(crate::specs::Faults::dic_read, crate::specs::Faults::dic_fault))]
+/// line that is not UTF-8 is told before all other faults; of those the one at the lowest line is told, and at
+/// one line the one whose cause stands first in `DicWhy`. A file without lines lacks its count at line 1.
 pub fn read_dic(alloc: Global, affixes: &Affixes, bytes: &[u8]) -> Result<Entries, DicFault>
     ensures read { IfOk result (DicReads affixes.now bytes.now) }
     ensures refused { IfErr result (DicRefuses affixes.now bytes.now) }
     ensures sane { IfOk result AreSaneEntries }
+    ensures few { IfOk result (λ entries. length entries ≤ entry_limit) }
+
+    // The same as one value, so that a caller can go on with it.
+    ensures value { IsRead (dic_read affixes.now bytes.now) result }
+{
+    first_fault_is_least();
+    read_file(alloc, affixes, bytes)
+}
+
+/// The fault that is told of a file is the least of those that the first pass with a fault has, and a file of
+/// which none is told has none.
+pub fn first_fault_is_least()
+    ensures none { (affixes : Affixes) (bytes : List ℕ) → first_fault (dic_passes affixes bytes) ≡ None
+        → (pass : ℕ) (fault : Fault) → ¬ DicBad affixes bytes pass fault }
+    ensures least { (affixes : Affixes) (bytes : List ℕ) (fault : Fault)
+        → first_fault (dic_passes affixes bytes) ≡ Some fault
+        → (pass : ℕ) × IsLeast (DicBad affixes bytes pass) fault }
+{}
+
+/// The entries of a file, or its first fault.
+fn read_file(alloc: Global, affixes: &Affixes, bytes: &[u8]) -> Result<Entries, DicFault>
+    ensures read { IfOk result (λ entries. dic_read affixes.now bytes.now ≡ Ok entries) }
+    ensures refused { IfErr result (IsTold (dic_read affixes.now bytes.now)) }
+    ensures sane { IfOk result AreSaneEntries }
+    ensures few { IfOk result (λ entries. length entries ≤ entry_limit) }
 {
     let found = lines(alloc, bytes)?;
     if let Some(line) = found.bad {
@@ -50,17 +78,18 @@ pub fn read_dic(alloc: Global, affixes: &Affixes, bytes: &[u8]) -> Result<Entrie
 }
 
 /// The entries of lines of which the first has to count.
-#[tactic(auto, unfolding(crate::specs::Faults::entries_read))]
 fn read_lines(
     alloc: Global,
     affixes: &Affixes,
     bytes: &[u8],
     lines: &[Line],
 ) -> Result<Entries, DicFault>
-    requires { All (IsInside bytes.now) lines.now }
+    requires inside { All (IsInside bytes.now) lines.now }
+    requires numbered { map (λ line. line.number) lines.now ≡ range_with_len 1 (length lines.now) }
     ensures read { IfOk result (λ entries. lines_read affixes.now bytes.now lines.now ≡ Ok entries) }
     ensures refused { IfErr result (IsTold (lines_read affixes.now bytes.now lines.now)) }
     ensures sane { IfOk result AreSaneEntries }
+    ensures few { IfOk result (λ entries. length entries ≤ entry_limit) }
 {
     match lines.split_first() {
         Some((count, later)) if is_count(line_text(bytes, count)) => {
@@ -82,11 +111,13 @@ fn read_entries(
     limit: usize,
 ) -> Result<Entries, DicFault>
     requires inside { All (IsInside bytes.now) lines.now }
+    requires rising { AllPairs (λ line later. line.number < later.number) lines.now }
     requires few { limit < 2 ^ 32 }
     ensures read { IfOk result
         (λ entries. entries_read affixes.now limit (listed bytes.now lines.now) ≡ Ok entries) }
     ensures refused { IfErr result (IsTold (entries_read affixes.now limit (listed bytes.now lines.now))) }
     ensures sane { IfOk result AreSaneEntries }
+    ensures few { IfOk result (λ entries. length entries ≤ limit) }
 {
     let mut entries = Items::new(alloc);
     for line in lines {

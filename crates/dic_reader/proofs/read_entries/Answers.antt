@@ -22,14 +22,14 @@ loop-line-preserved-then-is_passed_over c =
 pub returns-in_err-entry-clause-refused : goal.returns-in_err-entry-clause-refused
 returns-in_err-entry-clause-refused c =
     let told = told-own c.args.affixes.now c.args.limit c.args.bytes.now c.args.lines.now c.loop-line.line-index no-line c.loop-line.entries c.in_err-entry.field-0.0
-    c.line_text-text.result.now c.entry_of.result.now
+    c.line_text-text.result.now c.entry_of.result.now c.requires.rising
     c.loop-line-test.true c.line_text-text.ensures (sym c.if-is_passed_over.ensures) c.entry_of.ensures c.loop-line.invariant c.in_err-entry.ensures.refused in
     handed _ c.from_residual.result c.in_err-entry.field-0.0 c.from_residual.ensures.1 told
 
 pub returns-then-as_slice-limit-clause-refused : goal.returns-then-as_slice-limit-clause-refused
 returns-then-as_slice-limit-clause-refused c =
     told-many c.args.affixes.now c.args.limit c.args.bytes.now c.args.lines.now c.loop-line.line-index no-line c.loop-line.entries c.in_ok-entry.entry
-    c.line_text-text.result.now c.entry_of.result.now
+    c.line_text-text.result.now c.entry_of.result.now c.requires.rising
     c.loop-line-test.true c.line_text-text.ensures (sym c.if-is_passed_over.ensures) c.entry_of.ensures c.loop-line.invariant c.in_ok-entry.ensures.read
     (omega (arith, ap length c.as_slice.ensures, c.if-as_slice-limit.true))
 
