@@ -1,6 +1,5 @@
 -- The lines of a file, of which the first has to count, and what is read of the file.
-use Rattle.std.proofs.Common.{◌≡◌, ℕ, ◌<◌, true, false, cond, List, [], ◌∷◌, ◌++◌, length, map, Option, Some, None, Result, Ok, Err, IfOk, IfErr, suc, refl, sym, ap, ◌∙◌, subst, arith}
-use Rattle.std.specs.List.{flat_map, range_with_len, AllPairs}
+use Rattle.std.proofs.Common.{◌≡◌, ℕ, true, false, cond, List, [], ◌∷◌, ◌++◌, length, map, Option, Some, None, Result, Ok, Err, IfOk, IfErr, suc, refl, sym, ap, ◌∙◌, subst, arith}
 use Rattle.std.specs.Option.{option_or}
 use Rattle.text_lines.specs.declared.found.Line.{Line}
 use Rattle.text_lines.specs.Lines.{text_of, good_lines, bad_line}
@@ -9,17 +8,14 @@ use Rattle.spell_types.specs.declared.Entry.{Entry}
 use Rattle.dic_reader.specs.declared.faults.DicFault.{DicFault}
 use Rattle.dic_reader.specs.declared.faults.DicWhy.TheVariants.{NotUtf8, BadCount}
 use Rattle.dic_reader.specs.Entries.{listed, is_count}
-use Rattle.dic_reader.specs.Faults.{Fault, fault_at, bad_faults, is_before, least_of, first_fault, many_faults, entry_limit, entries_faults, lines_faults, entry_said, entries_said, unless_fault, entries_read, lines_read, dic_read, IsTold}
+use Rattle.dic_reader.specs.Faults.{Fault, fault_at, bad_faults, is_before, least_of, first_fault, entry_limit, entries_faults, lines_faults, entry_said, entries_said, unless_fault, entries_read, lines_read, dic_read, IsTold}
 use Rattle.dic_reader.proofs.FaultLemmas.{NoneBefore, higher-line, none-before-stays}
-use Rattle.dic_reader.proofs.EntryLemmas.{AreBehind, own_faults, rising, first-behind, first-number, entries-behind-stay}
+use Rattle.dic_reader.proofs.OrderLemmas.{AreBehind, AreNumbered, AreRising, rising, first-behind, first-number, entries-behind-stay}
 
 -- ---- the first line and those behind it
 
-abbrev AreNumbered : List Line → Type 0
-AreNumbered lines = map (λ (line : Line). line.number) lines ≡ range_with_len 1 (length lines)
-
 pub rising-behind : (lines later : List Line) (count : Line) → lines ≡ count ∷ later → AreNumbered lines
-    → AllPairs (λ (line other : Line). line.number < other.number) later
+    → AreRising later
 rising-behind lines later count is numbered =
     let all = rising lines (count ∷ later) (sym is) numbered in
     λ i j d lower within. all (suc i) (suc j) d (omega (arith, lower)) (omega (arith, within))

@@ -2,3 +2,5 @@ pub mod CuttingLemmas
 pub mod EntryLemmas
 pub mod FaultLemmas
 pub mod FileLemmas
+pub mod OrderLemmas
+pub mod TurnLemmas

@@ -43,7 +43,7 @@ fault_at line why = record { line = line; why = why }
 
 -- ---- which faults there are
 
--- A line that is not UTF-8 is a fault, and only the first such line is asked for.
+-- The first line that is not UTF-8 is a fault.
 abbrev pub bad_faults : Option ℕ → List Fault
 bad_faults None = []
 bad_faults (Some line) = fault_at line NotUtf8 ∷ []
@@ -53,17 +53,17 @@ abbrev pub count_faults : List ℕ → List Line → List Fault
 count_faults bytes [] = fault_at 1 BadCount ∷ []
 count_faults bytes (first ∷ later) = if is_count (text_of bytes first) then [] else fault_at first.number BadCount ∷ []
 
--- An entry has to have a word, also when the characters to ignore are left out.
+-- An entry has to have a word, also without the characters to ignore.
 abbrev pub word_faults : Affixes → Listed → List Fault
 word_faults affixes entry = if length (word_of affixes entry.text) == 0 then fault_at entry.number EmptyWord ∷ [] else []
 
--- what is wrong with the flags of an entry
+-- what is wrong with flags
 abbrev pub flag_whys : Result (List Flag) FlagFault → List DicWhy
 flag_whys (Ok set) = []
 flag_whys (Err NoAlias) = BadAlias ∷ []
 flag_whys (Err _) = BadFlag ∷ []
 
--- Its flags have to be right, whatever its word is.
+-- An entry's flags have to be right, whatever its word is.
 abbrev pub flag_faults : Affixes → Listed → List Fault
 flag_faults affixes entry = map (fault_at entry.number) (flag_whys (flags_of affixes entry.text))
 
@@ -78,15 +78,15 @@ abbrev pub too_many : Option Listed → List Fault
 too_many None = []
 too_many (Some entry) = fault_at entry.number TooMany ∷ []
 
--- Of more entries than are allowed, the first that is one too many is a fault, and those behind it are not.
+-- Where there are more entries than so many, the first that is one too many is a fault, and those behind it are none.
 abbrev pub many_faults : ℕ → List Listed → List Fault
 many_faults limit entries = too_many (slice_get entries limit)
 
--- the faults of entries of which so many are allowed: each entry is asked, also those that are too many
+-- the faults of entries of which so many are allowed: every entry is asked, also those that are too many
 abbrev pub entries_faults : Affixes → ℕ → List Listed → List Fault
 entries_faults affixes limit entries = flat_map (entry_faults affixes) entries ++ many_faults limit entries
 
--- the entries of a file with these lines: all lines behind the first are asked
+-- the entries of all lines behind the first
 abbrev pub entries_behind : List ℕ → List Line → List Listed
 entries_behind bytes lines = listed bytes (drop 1 lines)
 
@@ -94,7 +94,7 @@ entries_behind bytes lines = listed bytes (drop 1 lines)
 abbrev pub lines_faults : Affixes → List ℕ → List Line → List Fault
 lines_faults affixes bytes lines = count_faults bytes lines ++ entries_faults affixes entry_limit (entries_behind bytes lines)
 
--- the faults of a file in two passes: that of a line that is not UTF-8, and all others
+-- the faults of a file in two passes: that of a line that is not UTF-8, and then all others
 abbrev pub dic_passes : Affixes → List ℕ → List (List Fault)
 dic_passes affixes bytes = bad_faults (bad_line bytes) ∷ lines_faults affixes bytes (good_lines bytes) ∷ []
 

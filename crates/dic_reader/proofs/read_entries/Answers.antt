@@ -3,7 +3,7 @@ use Rattle.std.proofs.Common.{◌≡◌, ◌∙◌, sym, ap, subst, length, Resu
 use Rattle.std.specs.Result.{IsErrAnd, IfErr}
 use Rattle.text_lines.specs.declared.found.Line.{Line}
 use Rattle.dic_reader.specs.declared.faults.DicFault.{DicFault}
-use Rattle.dic_reader.proofs.EntryLemmas.{read-past, read-more, told-own, told-many, read-all}
+use Rattle.dic_reader.proofs.TurnLemmas.{read-past, read-more, told-own, told-many, read-all}
 use Rattle.dic_reader.proofs.read_entries.Goals as goal
 
 -- a fault that is handed on

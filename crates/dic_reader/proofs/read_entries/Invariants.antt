@@ -1,7 +1,7 @@
 -- So far the entries are those of the lines before the loop's place, and none of them has a fault.
 use Rattle.std.proofs.Common.{take}
 use Rattle.dic_reader.specs.Entries.{listed}
-use Rattle.dic_reader.proofs.EntryLemmas.{AreRead}
+use Rattle.dic_reader.proofs.TurnLemmas.{AreRead}
 use Rattle.dic_reader.proofs.read_entries.Given as goal
 
 abbrev pub invariant-loop-line : goal.invariant-loop-line

@@ -1,5 +1,5 @@
 -- The lines that were found have rising numbers.
-use Rattle.dic_reader.proofs.EntryLemmas.{rising}
+use Rattle.dic_reader.proofs.OrderLemmas.{rising}
 use Rattle.dic_reader.proofs.tests.assert_limited.Goals as goal
 
 pub read_entries-read-requires-clause-rising : goal.read_entries-read-requires-clause-rising

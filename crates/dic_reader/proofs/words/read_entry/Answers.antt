@@ -1,5 +1,5 @@
 -- An entry without a word, whatever its flags are.
-use Rattle.std.proofs.Common.{◌≡◌, ◌∙◌, ◌++◌, sym, ap, length, ◌==◌, true}
+use Rattle.std.proofs.Common.{◌≡◌, ◌∙◌, ◌++◌, sym, ap, length, ◌==◌}
 use Rattle.dic_reader.specs.Entries.{whole_word, word_of}
 use Rattle.dic_reader.proofs.EntryLemmas.{no-word}
 use Rattle.dic_reader.proofs.words.read_entry.Goals as goal
