@@ -1,4 +1,5 @@
 pub mod FaultLemmas
+mod NameLemmas
 mod RowLemmas
 mod ReadLemmas
 mod PassLemmas

@@ -1,6 +1,6 @@
 -- The loops over the rows of a table, over directives, and over aliases.
-use Rattle.std.proofs.Common.{◌≡◌, ℕ, zero, suc, ◌+◌, ◌-◌, ◌<◌, ◌==◌, false, cond, List, [], ◌∷◌, ◌++◌, length, map, take, drop, Option, Some, None, refl, sym, ap, ◌∙◌, get_or, append_assoc, arith}
-use Rattle.std.specs.List.{flat_map}
+use Rattle.std.proofs.Common.{◌≡◌, ℕ, zero, suc, ◌+◌, ◌-◌, ◌<◌, ◌==◌, Bool, true, false, cond, List, [], ◌∷◌, ◌++◌, length, map, take, drop, Option, Some, None, refl, sym, ap, ◌∙◌, get_or, append_assoc, arith}
+use Rattle.std.specs.List.{filter, flat_map}
 use Rattle.std.specs.Option.{option_or}
 use Rattle.std.proofs.lemmas.List.{take_more, append-nil}
 use Rattle.std.proofs.lemmas.Bool.Decides.{nat_tests}
@@ -11,12 +11,14 @@ use Rattle.aff_lines.specs.declared.faults.AffWhy.TheVariants.{Twice}
 use Rattle.aff_lines.specs.declared.faults.Fault.{Fault}
 use Rattle.aff_lines.specs.declared.names.Directive.{Directive}
 use Rattle.aff_lines.specs.declared.names.Directive.TheVariants.{FlagType}
-use Rattle.aff_lines.specs.declared.names.TheConstants.{FIRST, SECOND, THIRD}
+use Rattle.aff_lines.specs.declared.names.Pass.{Pass}
+use Rattle.aff_lines.specs.declared.names.Pass.TheVariants.{First, Second, Third}
 use Rattle.aff_lines.specs.declared.names.Row.{Row}
 use Rattle.aff_lines.specs.declared.rows.Kept.{Kept}
 use Rattle.aff_lines.specs.Faults.{sooner, least_of, first_fault}
 use Rattle.aff_lines.specs.Grammar.{at, row_faults, past_faults, rows_faults, place_faults}
-use Rattle.aff_lines.specs.Passes.{directive_faults, pass_faults, set_in, kind_said, bad_faults, passes_of}
+use Rattle.aff_lines.specs.Names.{is_of, all_directives, directives_in}
+use Rattle.aff_lines.specs.Passes.{directive_faults, pass_faults, faults_in, set_in, kind_said, bad_faults, passes_of}
 use Rattle.aff_lines.specs.Rows.{lines_of}
 use Rattle.aff_lines.proofs.FaultLemmas.{found_more, least_append}
 
@@ -45,24 +47,48 @@ rows_turn kind row found here now total left next own more line merged told less
     ∙ found_more found total (place_faults kind row left line) (rows_faults kind row next more) (rows_faults kind row left own)
     (ap (rows_faults kind row left) is ∙ rows-step kind row left next line more less) so_far
 
--- a turn of the loop over the directives of a pass
-pub pass_turn : (kind : FlagKind) (rows : List Kept) (directives : List Directive) (place : ℕ) (d : Directive) (found here now : Option Fault)
+-- a turn of the loop over the directives
+pub pass_turn : (kind : FlagKind) (rows : List Kept) (pass : Pass) (directives : List Directive) (place : ℕ) (d : Directive) (found here now : Option Fault)
     → place < length directives → now ≡ sooner found here
-    → here ≡ least_of (directive_faults kind rows (get_or directives place d))
-    → found ≡ least_of (pass_faults kind rows (take place directives))
-    → now ≡ least_of (pass_faults kind rows (take (place + 1) directives))
-pass_turn kind rows directives place d found here now within merged told so_far =
+    → here ≡ least_of (faults_in kind rows pass (get_or directives place d))
+    → found ≡ least_of (flat_map (faults_in kind rows pass) (take place directives))
+    → now ≡ least_of (flat_map (faults_in kind rows pass) (take (place + 1) directives))
+pass_turn kind rows pass directives place d found here now within merged told so_far =
     let directive = get_or directives place d in
-    let own = directive_faults kind rows directive in
-    let earlier = pass_faults kind rows (take place directives) in
-    let whole : pass_faults kind rows (take (place + 1) directives) ≡ earlier ++ own =
-    ap (pass_faults kind rows) (take_more directives place d within)
-    ∙ flat_map-append (directive_faults kind rows) (take place directives) (directive ∷ [])
+    let own = faults_in kind rows pass directive in
+    let earlier = flat_map (faults_in kind rows pass) (take place directives) in
+    let whole : flat_map (faults_in kind rows pass) (take (place + 1) directives) ≡ earlier ++ own =
+    ap (flat_map (faults_in kind rows pass)) (take_more directives place d within)
+    ∙ flat_map-append (faults_in kind rows pass) (take place directives) (directive ∷ [])
     ∙ ap (λ faults. earlier ++ faults) (append-nil own) in
     merged
     ∙ ap (λ f. sooner f here) so_far
     ∙ ap (sooner (least_of earlier)) told
     ∙ sym (ap least_of whole ∙ least_append earlier own)
+
+-- the faults of directives that are of a pass
+faults-of-pass : (kind : FlagKind) (rows : List Kept) (pass : Pass) (directives : List Directive)
+    → flat_map (faults_in kind rows pass) directives ≡ flat_map (directive_faults kind rows) (filter (is_of pass) directives)
+faults-of-pass kind rows pass [] = refl
+faults-of-pass kind rows pass (directive ∷ directives) =
+    ap (λ faults. faults_in kind rows pass directive ++ faults) (faults-of-pass kind rows pass directives)
+    ∙ by-test (is_of pass directive)
+  where
+    by-test : (b : Bool)
+        → cond b (directive_faults kind rows directive) [] ++ flat_map (directive_faults kind rows) (filter (is_of pass) directives)
+        ≡ flat_map (directive_faults kind rows) (cond b (directive ∷ filter (is_of pass) directives) (filter (is_of pass) directives))
+    by-test true = refl
+    by-test false = refl
+
+-- the end of the loop over the directives
+pub pass_all : (kind : FlagKind) (rows : List Kept) (pass : Pass) (directives : List Directive) (found : Option Fault)
+    → directives ≡ all_directives → found ≡ least_of (flat_map (faults_in kind rows pass) directives)
+    → found ≡ least_of (pass_faults kind rows pass)
+unfolding directives_in
+pass_all kind rows pass directives found is told =
+    told
+    ∙ ap (λ ds. least_of (flat_map (faults_in kind rows pass) ds)) is
+    ∙ ap least_of (faults-of-pass kind rows pass all_directives)
 
 -- a turn of the loop over the rows of AF
 pub sets_turn : (kind : FlagKind) (sets pushed total : List (List Flag)) (set : List Flag) (left : ℕ) (own more : List Kept) (line : Kept)
@@ -92,9 +118,9 @@ first_of_three first second third a b c is_a is_b is_c =
 
 pub first_of_early : (bad : Option ℕ) (rows : List Kept) (kind : FlagKind) (a b c : Option Fault)
     → kind ≡ kind_said (lines_of FlagType rows)
-    → a ≡ least_of (pass_faults kind rows FIRST ++ bad_faults bad)
-    → b ≡ least_of (pass_faults kind rows SECOND) → c ≡ least_of (pass_faults kind rows THIRD)
+    → a ≡ least_of (pass_faults kind rows First ++ bad_faults bad)
+    → b ≡ least_of (pass_faults kind rows Second) → c ≡ least_of (pass_faults kind rows Third)
     → option_or a (option_or b c) ≡ first_fault (passes_of bad rows)
 first_of_early bad rows kind a b c same is_a is_b is_c =
-    first_of_three (pass_faults kind rows FIRST ++ bad_faults bad) (pass_faults kind rows SECOND) (pass_faults kind rows THIRD) a b c is_a is_b is_c
-    ∙ ap (λ k. first_fault ((pass_faults k rows FIRST ++ bad_faults bad) ∷ pass_faults k rows SECOND ∷ pass_faults k rows THIRD ∷ [])) same
+    first_of_three (pass_faults kind rows First ++ bad_faults bad) (pass_faults kind rows Second) (pass_faults kind rows Third) a b c is_a is_b is_c
+    ∙ ap (λ k. first_fault ((pass_faults k rows First ++ bad_faults bad) ∷ pass_faults k rows Second ∷ pass_faults k rows Third ∷ [])) same

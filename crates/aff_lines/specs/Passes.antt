@@ -1,5 +1,5 @@
 -- The faults of the passes, and what the first three of them say.
-use Rattle.std.specs.Prelude.{◌≡◌, ℕ, ◌==◌, Bool, not, length, List, [], ◌∷◌, ◌++◌, map, take, unwrap_or, Option, None, Some, option_and_then, Result, Ok, Err}
+use Rattle.std.specs.Prelude.{◌≡◌, ℕ, ◌==◌, Bool, not, length, List, [], ◌∷◌, ◌++◌, map, take, unwrap_or, Option, None, Some, option_and_then, Result, Ok, Err, if◌then◌else◌}
 use Rattle.std.specs.Borrow.{Bor}
 use Rattle.std.specs.List.{flat_map}
 use Rattle.text_lines.specs.Lines.{bad_line}
@@ -17,13 +17,14 @@ use Rattle.aff_lines.specs.declared.names.Directive.{Directive}
 use Rattle.aff_lines.specs.declared.names.Directive.TheVariants.{Set, FlagType, FlagAliases}
 use Rattle.aff_lines.specs.declared.names.Form.{Form}
 use Rattle.aff_lines.specs.declared.names.Form.TheVariants.{Encoding, Kind, Text, Flag as FlagForm, Number, Switch, Table, Class, LeftOut}
-use Rattle.aff_lines.specs.declared.names.TheConstants.{FIRST, SECOND, THIRD, FOURTH}
+use Rattle.aff_lines.specs.declared.names.Pass.{Pass}
+use Rattle.aff_lines.specs.declared.names.Pass.TheVariants.{First, Second, Third, Fourth}
 use Rattle.aff_lines.specs.declared.rows.Kept.{Kept}
 use Rattle.aff_lines.specs.Causes.{number_at, number_in, kind_named}
 use Rattle.aff_lines.specs.Faults.{first_fault, IsFault}
 use Rattle.aff_lines.specs.Grammar.{once_faults, table_faults, all_left_out}
 use Rattle.aff_lines.specs.Rows.{rows_of, rows_with, lines_of, value_of}
-use Rattle.aff_lines.specs.Names.{form_of}
+use Rattle.aff_lines.specs.Names.{form_of, is_of, directives_in}
 
 -- The faults of a directive of this form that has these lines. A switch has none, and those of affix classes are asked
 -- of the lines of both sides together, not here.
@@ -41,9 +42,13 @@ form_faults kind LeftOut own = all_left_out own
 abbrev pub directive_faults : FlagKind → List Kept → Directive → List Fault
 directive_faults kind rows directive = form_faults kind (form_of directive) (lines_of directive rows)
 
--- the faults of a pass over these directives
-abbrev pub pass_faults : FlagKind → List Kept → List Directive → List Fault
-pass_faults kind rows directives = flat_map (directive_faults kind rows) directives
+-- the faults of a pass
+abbrev pub pass_faults : FlagKind → List Kept → Pass → List Fault
+pass_faults kind rows pass = flat_map (directive_faults kind rows) (directives_in pass)
+
+-- the faults of a directive, if it is one of the pass
+abbrev pub faults_in : FlagKind → List Kept → Pass → Directive → List Fault
+faults_in kind rows pass directive = if is_of pass directive then directive_faults kind rows directive else []
 
 -- the value of the first line, if it is there
 abbrev pub value_said : List Kept → Option (List ℕ)
@@ -101,7 +106,7 @@ bad_faults (Some line) = record { line = line; why = NotUtf8 } ∷ []
 abbrev pub passes_of : Option ℕ → List Kept → List (List Fault)
 passes_of bad rows =
     let kind = kind_said (lines_of FlagType rows) in
-    (pass_faults kind rows FIRST ++ bad_faults bad) ∷ pass_faults kind rows SECOND ∷ pass_faults kind rows THIRD ∷ []
+    (pass_faults kind rows First ++ bad_faults bad) ∷ pass_faults kind rows Second ∷ pass_faults kind rows Third ∷ []
 
 -- some rows have the same lines of the first three passes as others
 pub record SameEarly (rows others : List Kept) : Type 0 where
@@ -117,7 +122,7 @@ early_passes bytes = passes_of (bad_line bytes) (rows_of bytes)
 pub record Says (bytes : List ℕ) (found : Directives) : Type 0 where
   pub kind : found.kind ≡ kind_said (lines_of FlagType (rows_of bytes))
   pub aliases : found.aliases ≡ aliases_said found.kind (lines_of FlagAliases (rows_of bytes))
-  pub kept : found.kept ≡ rows_with FOURTH (rows_of bytes)
+  pub kept : found.kept ≡ rows_with (directives_in Fourth) (rows_of bytes)
 
 -- the file has no fault in the first three passes, and this is what they say
 pub record Reads (bytes : List ℕ) (found : Directives) : Type 0 where

@@ -11,9 +11,10 @@ ghost use Rattle.spell_types.specs.Flags.{AreOrdinary};
 ghost use Rattle.aff_lines.specs.declared.faults.Fault.{Fault};
 ghost use Rattle.aff_lines.specs.Faults.{first_fault, least_of, IsFault, IsLeast, Refuses};
 ghost use Rattle.aff_lines.specs.Passes.{early_passes, passes_of, Says, Reads, IsFirst, SameEarly, bad_faults, pass_faults};
-ghost use Rattle.aff_lines.specs.Rows.{row_in};
+ghost use Rattle.aff_lines.specs.declared.names.Pass.{Pass};
+ghost use Rattle.aff_lines.specs.Names.{directives_in};
+ghost use Rattle.aff_lines.specs.Rows.{row_in, rows_with};
 
-use crate::names::{EARLY, FIRST, SECOND, THIRD};
 use crate::rows::read_rows;
 use crate::values::{kind_said, read_aliases};
 use lists::{Items, NoMemory};
@@ -33,7 +34,9 @@ mod values;
 
 pub use causes::{line_why, number_at, number_in, unless};
 pub use faults::{AffFault, AffWhy, Fault, sooner};
-pub use names::{Directive, FOURTH, Form, Row, form_of, is_among, is_named};
+pub use names::{
+    Directive, Form, Pass, Row, every_directive_is_in_one_pass, form_of, is_named, pass_of,
+};
 pub use passes::{directive_fault, fault_at, find_fault};
 pub use rows::{Kept, next_of, value_of};
 pub use values::{flag_said, is_said, number_said, table_of, value_said};
@@ -79,7 +82,7 @@ fn read_early(alloc: Global, bytes: &[u8]) -> Result<Directives, AffFault>
     }
     let kind = kind_said(rows.as_slice());
     let aliases = read_aliases(alloc, kind, rows.as_slice())?;
-    let kept = read_rows(alloc, bytes, found.good.as_slice(), &FOURTH)?;
+    let kept = late_rows(alloc, bytes, found.good.as_slice())?;
     Ok(Directives {
         kind,
         aliases,
@@ -92,7 +95,17 @@ fn early_rows(alloc: Global, bytes: &[u8], lines: &[Line]) -> Result<Items<Kept>
     requires { All (IsInside bytes.now) lines.now }
     ensures { IfOk result (λ rows. SameEarly rows (filter_map (row_in bytes.now) lines.now)) }
 {
-    let rows = read_rows(alloc, bytes, lines, &EARLY)?;
+    let early = [Pass::First, Pass::Second, Pass::Third];
+    let rows = read_rows(alloc, bytes, lines, &early)?;
+    Ok(rows)
+}
+
+/// The rows of the fourth pass.
+fn late_rows(alloc: Global, bytes: &[u8], lines: &[Line]) -> Result<Items<Kept>, NoMemory>
+    requires { All (IsInside bytes.now) lines.now }
+    ensures { IfOk result (λ rows. rows ≡ rows_with (directives_in Pass.Fourth) (filter_map (row_in bytes.now) lines.now)) }
+{
+    let rows = read_rows(alloc, bytes, lines, &[Pass::Fourth])?;
     Ok(rows)
 }
 
@@ -102,17 +115,17 @@ fn early_fault(bad: Option<u64>, rows: &[Kept]) -> Option<Fault>
 {
     let kind = kind_said(rows);
     let first = first_fault(kind, bad, rows);
-    let second = find_fault(kind, rows, &SECOND);
-    let third = find_fault(kind, rows, &THIRD);
+    let second = find_fault(kind, rows, Pass::Second);
+    let third = find_fault(kind, rows, Pass::Third);
     first.or(second.or(third))
 }
 
 /// The earliest fault of the first pass.
 #[tactic(auto, using(crate::proofs::FaultLemmas::least_append))]
 fn first_fault(kind: FlagKind, bad: Option<u64>, rows: &[Kept]) -> Option<Fault>
-    ensures { result ≡ least_of (pass_faults kind rows.now FIRST ++ bad_faults bad) }
+    ensures { result ≡ least_of (pass_faults kind rows.now Pass.First ++ bad_faults bad) }
 {
-    sooner(find_fault(kind, rows, &FIRST), bad_fault(bad))
+    sooner(find_fault(kind, rows, Pass::First), bad_fault(bad))
 }
 
 /// The fault of the first line that is not UTF-8.

@@ -1,8 +1,11 @@
-//! The options of .aff files: their names and their forms.
+//! The options of .aff files: their names, their forms and their passes.
 
-ghost use Rattle.std.specs.Prelude.{◌≡◌};
+ghost use Rattle.std.specs.Prelude.{◌≡◌, ◌≢◌, ◌↔◌, ◌&&◌, AllPairs, Contains};
+ghost use Rattle.std.specs.List.{list_any};
 ghost use Rattle.std.specs.Option.{option_copied};
-ghost use Rattle.aff_lines.specs.Names.{first_name, second_name, has_second, is_named, is_among, form_of};
+ghost use Rattle.aff_lines.specs.declared.names.Directive.{Directive};
+ghost use Rattle.aff_lines.specs.declared.names.Pass.{Pass};
+ghost use Rattle.aff_lines.specs.Names.{first_name, second_name, has_second, is_named, is_among, form_of, pass_of, is_of, is_same_pass, all_directives, directives_in, is_of_one, directives_of_passes};
 
 /// An option of hunspell(5) that an .aff file is read for, or refused for. A line that begins with another
 /// name is passed over.
@@ -83,20 +86,24 @@ pub enum Row {
     TwoTexts,
 }
 
-/// The directives that the first pass looks at.
-pub const FIRST: [Directive; 1] = [Directive::Set];
+/// A pass over the lines of a file.
+#[derive(Clone, Copy)]
+pub enum Pass {
+    /// The encoding, with lines that are not UTF-8.
+    First,
+    /// The type of flags.
+    Second,
+    /// The flag aliases.
+    Third,
+    /// All other options.
+    Fourth,
+}
 
-/// The directives that the second pass looks at.
-pub const SECOND: [Directive; 1] = [Directive::FlagType];
-
-/// The directives that the third pass looks at.
-pub const THIRD: [Directive; 1] = [Directive::FlagAliases];
-
-/// The directives of the first three passes.
-pub const EARLY: [Directive; 3] = [Directive::Set, Directive::FlagType, Directive::FlagAliases];
-
-/// The directives that the fourth pass looks at: all others.
-pub const FOURTH: [Directive; 36] = [
+/// All directives, in the order of the enum.
+const DIRECTIVES: [Directive; 39] = [
+    Directive::Set,
+    Directive::FlagType,
+    Directive::FlagAliases,
     Directive::WordCharacters,
     Directive::Ignore,
     Directive::NeedAffix,
@@ -134,6 +141,14 @@ pub const FOURTH: [Directive; 36] = [
     Directive::CheckSharps,
     Directive::SimplifiedTriple,
 ];
+
+/// All directives.
+#[tactic(auto, unfolding(crate::specs::Names::all_directives))]
+pub(crate) fn directives() -> &'static [Directive]
+    ensures { result.now ≡ all_directives }
+{
+    &DIRECTIVES
+}
 
 /// The first name of a directive.
 #[tactic(auto, unfolding(crate::specs::Names::first_name))]
@@ -211,13 +226,45 @@ fn has_second(second: Option<&str>, name: &str) -> bool
     }
 }
 
-/// Whether a name is one of these directives'.
-pub fn is_among(directives: &[Directive], name: &str) -> bool
-    ensures { result ≡ is_among directives.now name.now }
+/// Whether a name is one of a directive's of one of these passes.
+pub(crate) fn is_among(passes: &[Pass], name: &str) -> bool
+    ensures { result ≡ is_among (directives_of_passes passes.now) name.now }
 {
-    directives
-        .iter()
-        .any(|directive| is_named(*directive, name))
+    is_name_of(passes, directives(), name)
+}
+
+/// Whether one of these directives is of one of the passes and has this name.
+fn is_name_of(passes: &[Pass], directives: &[Directive], name: &str) -> bool
+    ensures { result ≡ list_any (λ directive. is_of_one passes.now directive && is_named directive name.now) directives.now }
+{
+    directives.iter().any(|directive| is_of_one(passes, *directive) && is_named(*directive, name))
+}
+
+/// Whether a directive is one of these passes'.
+fn is_of_one(passes: &[Pass], directive: Directive) -> bool
+    ensures { result ≡ is_of_one passes.now directive }
+{
+    passes.iter().any(|pass| is_of(*pass, directive))
+}
+
+/// Whether a directive is one of the pass.
+pub(crate) fn is_of(pass: Pass, directive: Directive) -> bool
+    ensures { result ≡ is_of pass directive }
+{
+    is_same_pass(pass_of(directive), pass)
+}
+
+/// Whether the passes are the same.
+fn is_same_pass(pass: Pass, other: Pass) -> bool
+    ensures { result ≡ is_same_pass pass other }
+{
+    matches!(
+        (pass, other),
+        (Pass::First, Pass::First)
+            | (Pass::Second, Pass::Second)
+            | (Pass::Third, Pass::Third)
+            | (Pass::Fourth, Pass::Fourth)
+    )
 }
 
 /// The form of a directive's lines.
@@ -236,14 +283,88 @@ pub fn form_of(directive: Directive) -> Form
         Directive::ForbiddenWord => Form::Flag,
         Directive::KeepCase => Form::Flag,
         Directive::Warn => Form::Flag,
+        Directive::CompoundFlag => Form::LeftOut,
+        Directive::CompoundBegin => Form::LeftOut,
+        Directive::CompoundMiddle => Form::LeftOut,
+        Directive::CompoundLast => Form::LeftOut,
+        Directive::CompoundPermitFlag => Form::LeftOut,
+        Directive::CompoundForbidFlag => Form::LeftOut,
         Directive::OnlyInCompound => Form::Flag,
+        Directive::ForceUpperCase => Form::LeftOut,
+        Directive::CompoundMinimum => Form::LeftOut,
+        Directive::CompoundWordMaximum => Form::LeftOut,
         Directive::FullStrip => Form::Switch,
         Directive::ForbidWarn => Form::Switch,
+        Directive::CompoundMoreSuffixes => Form::LeftOut,
+        Directive::CheckCompoundDuplicates => Form::LeftOut,
+        Directive::CheckCompoundCase => Form::LeftOut,
+        Directive::CheckCompoundTriple => Form::LeftOut,
+        Directive::CheckCompoundReplacements => Form::LeftOut,
         Directive::InputConversion => Form::Table(Row::TwoTexts),
         Directive::Replacement => Form::Table(Row::TwoTexts),
         Directive::Break => Form::Table(Row::OneText),
+        Directive::CompoundRule => Form::LeftOut,
+        Directive::CheckCompoundPattern => Form::LeftOut,
         Directive::Prefix => Form::Class,
         Directive::Suffix => Form::Class,
-        _ => Form::LeftOut,
+        Directive::ComplexPrefixes => Form::LeftOut,
+        Directive::CompoundSyllable => Form::LeftOut,
+        Directive::SyllableNumber => Form::LeftOut,
+        Directive::CheckSharps => Form::LeftOut,
+        Directive::SimplifiedTriple => Form::LeftOut,
     }
 }
+
+/// The pass that looks at a directive's lines.
+#[tactic(auto, unfolding(crate::specs::Names::pass_of))]
+pub fn pass_of(directive: Directive) -> Pass
+    ensures { result ≡ pass_of directive }
+{
+    match directive {
+        Directive::Set => Pass::First,
+        Directive::FlagType => Pass::Second,
+        Directive::FlagAliases => Pass::Third,
+        Directive::WordCharacters => Pass::Fourth,
+        Directive::Ignore => Pass::Fourth,
+        Directive::NeedAffix => Pass::Fourth,
+        Directive::Circumfix => Pass::Fourth,
+        Directive::ForbiddenWord => Pass::Fourth,
+        Directive::KeepCase => Pass::Fourth,
+        Directive::Warn => Pass::Fourth,
+        Directive::CompoundFlag => Pass::Fourth,
+        Directive::CompoundBegin => Pass::Fourth,
+        Directive::CompoundMiddle => Pass::Fourth,
+        Directive::CompoundLast => Pass::Fourth,
+        Directive::CompoundPermitFlag => Pass::Fourth,
+        Directive::CompoundForbidFlag => Pass::Fourth,
+        Directive::OnlyInCompound => Pass::Fourth,
+        Directive::ForceUpperCase => Pass::Fourth,
+        Directive::CompoundMinimum => Pass::Fourth,
+        Directive::CompoundWordMaximum => Pass::Fourth,
+        Directive::FullStrip => Pass::Fourth,
+        Directive::ForbidWarn => Pass::Fourth,
+        Directive::CompoundMoreSuffixes => Pass::Fourth,
+        Directive::CheckCompoundDuplicates => Pass::Fourth,
+        Directive::CheckCompoundCase => Pass::Fourth,
+        Directive::CheckCompoundTriple => Pass::Fourth,
+        Directive::CheckCompoundReplacements => Pass::Fourth,
+        Directive::InputConversion => Pass::Fourth,
+        Directive::Replacement => Pass::Fourth,
+        Directive::Break => Pass::Fourth,
+        Directive::CompoundRule => Pass::Fourth,
+        Directive::CheckCompoundPattern => Pass::Fourth,
+        Directive::Prefix => Pass::Fourth,
+        Directive::Suffix => Pass::Fourth,
+        Directive::ComplexPrefixes => Pass::Fourth,
+        Directive::CompoundSyllable => Pass::Fourth,
+        Directive::SyllableNumber => Pass::Fourth,
+        Directive::CheckSharps => Pass::Fourth,
+        Directive::SimplifiedTriple => Pass::Fourth,
+    }
+}
+
+/// No directive is forgotten: each is among those of its pass, of no other pass, and stands there once.
+pub fn every_directive_is_in_one_pass()
+    ensures members { (pass : Pass) (directive : Directive) → Contains (directives_in pass) directive ↔ (pass_of directive ≡ pass) }
+    ensures once { (pass : Pass) → AllPairs (λ first other. first ≢ other) (directives_in pass) }
+{}

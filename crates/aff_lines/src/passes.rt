@@ -1,31 +1,49 @@
 //! The earliest fault of a directive, and of a pass. Finding one takes no memory.
 
-ghost use Rattle.std.specs.Prelude.{◌≡◌, Some};
+ghost use Rattle.std.specs.Prelude.{◌≡◌, Some, flat_map};
 ghost use Rattle.std.specs.Option.{option_copied};
 ghost use Rattle.aff_lines.specs.Faults.{least_of};
 ghost use Rattle.aff_lines.specs.Causes.{number_at};
 ghost use Rattle.aff_lines.specs.Grammar.{faults_at, once_faults, later_faults, rows_faults, place_faults, counted_faults, table_faults, all_left_out};
-ghost use Rattle.aff_lines.specs.Passes.{form_faults, directive_faults, pass_faults};
+ghost use Rattle.aff_lines.specs.Passes.{form_faults, directive_faults, pass_faults, faults_in};
 ghost use Rattle.aff_lines.specs.Rows.{lines_of};
 
 use crate::causes::{line_why, number_at, row_why, unless};
 use crate::faults::{AffWhy, Fault, sooner};
-use crate::names::{Directive, Form, Row, form_of};
+use crate::names::{Directive, Form, Pass, Row, directives, form_of, is_of};
 use crate::rows::{Kept, count_of, next_of};
 use spell_types::FlagKind;
 
 /// How many rows a table may have.
 const MOST_ROWS: u64 = 65000;
 
-/// The earliest fault of these directives among the rows.
-pub fn find_fault(kind: FlagKind, rows: &[Kept], directives: &[Directive]) -> Option<Fault>
-    ensures { result ≡ least_of (pass_faults kind rows.now directives.now) }
+/// The earliest fault of a pass over the rows.
+pub fn find_fault(kind: FlagKind, rows: &[Kept], pass: Pass) -> Option<Fault>
+    ensures { result ≡ least_of (pass_faults kind rows.now pass) }
+{
+    fault_among(kind, rows, pass, directives())
+}
+
+/// The earliest fault of those of these directives that are of the pass.
+fn fault_among(kind: FlagKind, rows: &[Kept], pass: Pass, directives: &[Directive]) -> Option<Fault>
+    ensures { result ≡ least_of (flat_map (faults_in kind rows.now pass) directives.now) }
 {
     let mut found = None;
     for directive in directives {
-        found = sooner(found, directive_fault(kind, rows, *directive));
+        found = sooner(found, fault_in(kind, rows, pass, *directive));
     }
     found
+}
+
+/// The earliest fault of a directive among the rows, if it is one of the pass.
+fn fault_in(kind: FlagKind, rows: &[Kept], pass: Pass, directive: Directive) -> Option<Fault>
+    ensures { result ≡ least_of (faults_in kind rows.now pass directive) }
+{
+    if is_of(pass, directive) {
+        directive_fault(kind, rows, directive)
+    } else {
+        None
+    }
 }
 
 /// The earliest fault of a directive among the rows.

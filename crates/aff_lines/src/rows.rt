@@ -3,10 +3,11 @@
 ghost use Rattle.std.specs.Prelude.{◌≡◌, ◌++◌, All, IfOk, OnOk, filter, filter_map, length};
 ghost use Rattle.std.specs.Option.{option_copied, option_to_list};
 ghost use Rattle.text_lines.specs.Lines.{IsInside};
+ghost use Rattle.aff_lines.specs.Names.{directives_of_passes};
 ghost use Rattle.aff_lines.specs.Rows.{row_of, row_in, rows_with, lines_of, value_of, IsNext, is_comment};
 
-use crate::names::{Directive, is_among, is_named};
-use lists::{Items, NoMemory};
+use crate::names::{Directive, Pass, is_among, is_named};
+use lists::{Copied, Items, NoMemory};
 use std::alloc::Global;
 use text_lines::found::Line;
 use text_lines::{Text, field, line_text};
@@ -22,22 +23,32 @@ pub struct Kept {
     pub text: Text,
 }
 
-/// The lines that begin with a name of one of these directives.
+impl Copied for Kept {
+    fn copy(&self, alloc: Global) -> Result<Kept, NoMemory> {
+        Ok(Kept {
+            number: self.number,
+            name: self.name.copy(alloc)?,
+            text: self.text.copy(alloc)?,
+        })
+    }
+}
+
+/// The lines that begin with a name of a directive of one of these passes.
 pub(crate) fn read_rows(
     alloc: Global,
     bytes: &[u8],
     lines: &[Line],
-    directives: &[Directive],
+    passes: &[Pass],
 ) -> Result<Items<Kept>, NoMemory>
     requires { All (IsInside bytes.now) lines.now }
-    ensures { IfOk result (λ rows. rows ≡ rows_with directives.now (filter_map (row_in bytes.now) lines.now)) }
+    ensures { IfOk result (λ rows. rows ≡ rows_with (directives_of_passes passes.now) (filter_map (row_in bytes.now) lines.now)) }
 {
     let mut rows = Items::new(alloc);
     for line in lines {
         push_row(
             alloc,
             &mut rows,
-            directives,
+            passes,
             line.number,
             line_text(bytes, line),
         )?;
@@ -45,20 +56,20 @@ pub(crate) fn read_rows(
     Ok(rows)
 }
 
-/// Adds the row of a line, if it has one and it begins with a name of one of the directives.
+/// Adds the row of a line, if it has one and it begins with a name of a directive of one of these passes.
 fn push_row(
     alloc: Global,
     rows: &mut Items<Kept>,
-    directives: &[Directive],
+    passes: &[Pass],
     number: u64,
     text: &str,
 ) -> Result<(), NoMemory>
-    ensures { OnOk result (rows.new ≡ rows.old ++ rows_with directives.now (option_to_list (row_of number text.now))) }
+    ensures { OnOk result (rows.new ≡ rows.old ++ rows_with (directives_of_passes passes.now) (option_to_list (row_of number text.now))) }
 {
     let Some(name) = field(text, 0) else {
         return Ok(());
     };
-    if is_comment(name) || !is_among(directives, name) {
+    if is_comment(name) || !is_among(passes, name) {
         return Ok(());
     }
     rows.push(Kept {

@@ -232,7 +232,7 @@ fn finds_faults_of_a_pass(rt: HostRuntime) -> Result<(), Fail> {
     ];
     for (texts, want) in table {
         let rows = rows_of(rt.alloc(), texts)?;
-        let found = find_fault(FlagKind::Single, rows.as_slice(), &FOURTH);
+        let found = find_fault(FlagKind::Single, rows.as_slice(), Pass::Fourth);
         let want = want.map(|(line, why)| Fault { line, why });
         assert_eq!(rt; found, want, "in {texts:?}");
     }
@@ -270,5 +270,6 @@ fn reads_values(rt: HostRuntime) -> Result<(), Fail> {
         (6, Some("A"), 0)
     );
     first_faults_are_least();
+    every_directive_is_in_one_pass();
     Ok(())
 }

@@ -10,9 +10,10 @@ use Rattle.aff_lines.specs.declared.faults.AffFault.{AffFault}
 use Rattle.aff_lines.specs.declared.faults.AffFault.TheVariants.{At, NoMemory}
 use Rattle.aff_lines.specs.declared.faults.Fault.{Fault}
 use Rattle.aff_lines.specs.declared.names.Directive.TheVariants.{FlagType, FlagAliases, WordCharacters, Ignore, NeedAffix, Circumfix, ForbiddenWord, KeepCase, Warn, OnlyInCompound, FullStrip, ForbidWarn, InputConversion, Break}
-use Rattle.aff_lines.specs.declared.names.TheConstants.{FOURTH}
+use Rattle.aff_lines.specs.declared.names.Pass.TheVariants.{Fourth}
 use Rattle.aff_lines.specs.declared.rows.Kept.{Kept}
 use Rattle.aff_lines.specs.Faults.{first_fault, IsFault, Refuses}
+use Rattle.aff_lines.specs.Names.{directives_in}
 use Rattle.aff_lines.specs.Passes.{early_passes, pass_faults, kind_said, aliases_said, flag_said, is_said, value_said}
 use Rattle.aff_lines.specs.Rows.{rows_of, rows_with, lines_of}
 use Rattle.aff_reader.specs.ClassRules.{rule_without}
@@ -25,7 +26,7 @@ kind_of bytes = kind_said (lines_of FlagType (rows_of bytes))
 
 -- the rows of the fourth pass
 abbrev pub kept_of : List ℕ → List Kept
-kept_of bytes = rows_with FOURTH (rows_of bytes)
+kept_of bytes = rows_with (directives_in Fourth) (rows_of bytes)
 
 -- the flag aliases of a file, if it has any
 abbrev pub aliases_of : List ℕ → Option (List (List Flag))
@@ -33,7 +34,7 @@ aliases_of bytes = aliases_said (kind_of bytes) (lines_of FlagAliases (rows_of b
 
 -- the faults of the fourth pass: those of each option, and those of affix classes
 abbrev pub late_faults : FlagKind → Option (List (List Flag)) → List Kept → List Fault
-late_faults kind aliases rows = pass_faults kind rows FOURTH ++ class_faults kind aliases rows
+late_faults kind aliases rows = pass_faults kind rows Fourth ++ class_faults kind aliases rows
 
 -- the faults of a file, pass by pass
 abbrev pub aff_passes : List ℕ → List (List Fault)

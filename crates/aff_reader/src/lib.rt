@@ -10,7 +10,7 @@ ghost use Rattle.aff_reader.specs.Classes.{rule_limit, class_faults};
 ghost use Rattle.aff_reader.specs.Grammar.{AffReads, AffRefuses, IsRead, aff_read, late_faults, affixes_said, signs_said, options_said, characters_said};
 
 use aff_lines::{
-    AffFault, Directive, Directives, FOURTH, Fault, Kept, find_fault, first_faults_are_least,
+    AffFault, Directive, Directives, Fault, Kept, Pass, find_fault, first_faults_are_least,
     flag_said, is_said, read_directives, sooner, value_said,
 };
 pub use classes::classes_have_their_rules;
@@ -81,7 +81,7 @@ fn late_fault(
     ensures classes { IfOk result (λ fault. fault ≡ None → least_of (class_faults kind (option_copied aliases.entry) rows.now) ≡ None) }
 {
     let fault = class_fault(alloc, kind, aliases, rows)?;
-    Ok(sooner(find_fault(kind, rows, &FOURTH), fault))
+    Ok(sooner(find_fault(kind, rows, Pass::Fourth), fault))
 }
 
 /// The sets that ordinals stand for, if the file has aliases.

@@ -156,6 +156,39 @@ fn refuses_in_the_fourth_pass(rt: HostRuntime) -> Result<(), Fail> {
     Ok(())
 }
 
+/// The options that are left out.
+const LEFT_OUT: &str = "COMPOUNDFLAG
+COMPOUNDBEGIN
+COMPOUNDMIDDLE
+COMPOUNDLAST
+COMPOUNDEND
+COMPOUNDPERMITFLAG
+COMPOUNDFORBIDFLAG
+FORCEUCASE
+COMPOUNDMIN
+COMPOUNDWORDMAX
+COMPOUNDMORESUFFIXES
+CHECKCOMPOUNDDUP
+CHECKCOMPOUNDCASE
+CHECKCOMPOUNDTRIPLE
+CHECKCOMPOUNDREP
+COMPOUNDRULE
+CHECKCOMPOUNDPATTERN
+COMPLEXPREFIXES
+COMPOUNDSYLLABLE
+SYLLABLENUM
+CHECKSHARPS
+SIMPLIFIEDTRIPLE";
+
+#[test]
+fn refuses_what_is_left_out(rt: HostRuntime) -> Result<(), Fail> {
+    for name in LEFT_OUT.split('\n') {
+        let text = format!(in rt.alloc(); "SET UTF-8\n{name}\n")?;
+        assert_refused(&rt, rt.alloc(), text.as_bytes(), 2, AffWhy::LeftOut)?;
+    }
+    Ok(())
+}
+
 #[test]
 fn refuses_what_is_ignored_converted_and_broken(rt: HostRuntime) -> Result<(), Fail> {
     let table: [(&[u8], u64, AffWhy); 12] = [

@@ -1,8 +1,6 @@
--- A directive adds its faults.
-use Rattle.aff_lines.proofs.PassLemmas.{pass_turn}
+-- The directives that are of the pass are those that it looks at.
+use Rattle.aff_lines.proofs.PassLemmas.{pass_all}
 use Rattle.aff_lines.proofs.passes.find_fault.Goals as goal
 
-pub loop-directive-preserved : goal.loop-directive-preserved
-loop-directive-preserved c =
-    pass_turn c.args.kind c.args.rows.now c.args.directives.now c.loop-directive.directive-index _ c.loop-directive.found c.directive_fault.result c.sooner-found.result
-    c.loop-directive-test.true c.sooner-found.ensures c.directive_fault.ensures c.loop-directive.invariant
+pub returns : goal.returns
+returns c = pass_all c.args.kind c.args.rows.now c.args.pass c.directives.result.now c.fault_among.result c.directives.ensures c.fault_among.ensures
