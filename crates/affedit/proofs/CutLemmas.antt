@@ -3,6 +3,7 @@ use Rattle.std.proofs.Common.{◌≡◌, ℕ, ◌+◌, ◌≤◌, Bool, true, fa
 use Rattle.std.specs.List.{list_any, filter_map, cons_option, slice_split, All, AllByRecursion}
 use Rattle.std.specs.Char.{len_utf8}
 use Rattle.std.proofs.lemmas.List.{map-append, append-nil}
+use Rattle.std.proofs.lemmas.Bool.Decides.{nat_tests}
 use Rattle.std.proofs.lemmas.List.Splits.{slice_split_at, slice_split_none}
 use Rattle.std.proofs.lemmas.List.Elements.{All-from_recursion}
 use Rattle.std.proofs.lemmas.Str.{encodes-append, length-encode}
@@ -124,3 +125,45 @@ pub spans-finished : (wordchars text : List ℕ) (spans : List Span) (run : Opti
     → spans ++ closed run at ≡ map span_of (words_of wordchars text)
 spans-finished wordchars text spans run at before place past cut =
     ap (λ rest. spans ++ spans_from wordchars run at before rest) (sym (drop_of_length-le text past)) ∙ cut ∙ spans_from-words wordchars text
+
+-- there are no more words than characters, and no more characters than bytes
+
+abbrev held : Option Run → ℕ
+held None = 0
+held (Some run) = 1
+
+one-or-none : (span : Span) (is_word : Bool) → length (cond is_word (span ∷ []) []) ≤ 1
+one-or-none span true = omega arith
+one-or-none span false = omega arith
+
+closed-few : (run : Option Run) (at : ℕ) → length (closed run at) ≤ held run
+closed-few None at = omega arith
+closed-few (Some run) at = one-or-none (record { from = run.from; to = at }) run.is_word
+
+longer : (one other : List Span) (belongs : Bool) (n : ℕ) → length one ≤ n → length other ≤ n → length (cond belongs one other) ≤ n
+longer one other true n first second = first
+longer one other false n first second = second
+
+spans-few : (wordchars : List ℕ) (run : Option Run) (at before : ℕ) (text : List ℕ) → length (spans_from wordchars run at before text) ≤ length text + held run
+spans-few wordchars run at before [] = let few = closed-few run at in omega arith
+spans-few wordchars run at before (c ∷ text) =
+    let more = spans-few wordchars (Some (extended run at c)) (at + len_utf8 c) c text in
+    let behind = spans-few wordchars None (at + len_utf8 c) c text in
+    let own = closed-few run at in
+    let both = length-append (closed run at) (spans_from wordchars None (at + len_utf8 c) c text) in
+    longer (spans_from wordchars (Some (extended run at c)) (at + len_utf8 c) c text) (closed run at ++ spans_from wordchars None (at + len_utf8 c) c text)
+    (belongs wordchars before c (first_of text)) (length (c ∷ text) + held run) (omega arith) (omega arith)
+
+some-bytes : (c : ℕ) → 1 ≤ len_utf8 c
+some-bytes c = grind (arith, nat_tests)
+
+characters-few : (text : List ℕ) → length text ≤ byte_count text
+characters-few [] = omega arith
+characters-few (c ∷ text) = let rest = characters-few text in let one = byte_count-cons c text in let some = some-bytes c in omega arith
+
+pub words-few : (wordchars text : List ℕ) → length (map span_of (words_of wordchars text)) ≤ byte_count text
+words-few wordchars text =
+    let same : length (spans_from wordchars None 0 line_feed text) ≡ length (map span_of (words_of wordchars text)) = ap length (spans_from-words wordchars text) in
+    let few : length (spans_from wordchars None 0 line_feed text) ≤ length text + 0 = spans-few wordchars None 0 line_feed text in
+    let characters = characters-few text in
+    omega arith

@@ -1,14 +1,15 @@
 -- What is put is an answer to what is due.
-use Rattle.std.proofs.Common.{◌≡◌, ℕ, List, [], ◌∷◌, ◌++◌, inl, inr, Option, Some, None, Result, Ok, Err, IfSome, refl, sym, ap, subst}
+use Rattle.std.proofs.Common.{◌≡◌, ℕ, List, [], ◌∷◌, ◌++◌, inl, inr, ◌⊎◌, Option, Some, None, Result, Ok, Err, IfSome, refl, sym, ap, subst}
 use Rattle.std.specs.Result.{IsErrOf}
-use Rattle.outside.specs.Sink.{Appends}
+use Rattle.outside.specs.Files.{Folder}
 use Rattle.affedit.specs.declared.stop.Stop.{Stop}
 use Rattle.affedit.specs.declared.stop.Stop.TheVariants.{Words, Aff, Dic, Document, Missing, Files, NoMemory, Limit}
 use Rattle.affedit.specs.declared.report.Report.{Report}
+use Rattle.affedit.specs.Due.{Found, FileNames, NamedFileFailed, due, found_in, told_or}
 use Rattle.affedit.specs.Given.{printed_by}
 use Rattle.affedit.specs.Reports.{Printed}
 use Rattle.affedit.specs.Stops.{status_of, last_line, StopsAs, Gives}
-use Rattle.affedit.specs.Endings.{status_due, text_due, IsAnswer, Ends, Puts, PutsLine}
+use Rattle.affedit.specs.Endings.{status_due, text_due, lines_before, IsDue, IsWantOfMemory, IsAnswer, IsReported, Ends, Puts, PutsLine}
 
 ends-put : {files_failed sink_failed : Type 0} (due : Result Printed Stop) (meant status : ℕ) (text : List ℕ) (before now : Option (List ℕ))
     → IsAnswer due files_failed meant text → Puts meant text sink_failed before now status → Ends due files_failed sink_failed before now status
@@ -20,7 +21,7 @@ due-answer : (due : Result Printed Stop) (files_failed : Type 0) (given : Result
 due-answer due files_failed given is = inl (ap status_due (sym is), ap text_due (sym is))
 
 memory-answer : (due : Result Printed Stop) (files_failed : Type 0) → IsAnswer due files_failed (status_of NoMemory) (last_line NoMemory)
-memory-answer due files_failed = inr (inr (refl, [], record { rest = text_due due; begins = refl; whole = refl }, refl))
+memory-answer due files_failed = inr (inr (refl, [], record { rest = lines_before due; begins = refl; whole = refl }, refl))
 
 stop-answer : (due : Result Printed Stop) (files_failed : Type 0) (stop : Stop) → StopsAs due stop → (stop ≡ Files → files_failed)
     → IsAnswer due files_failed (status_of stop) (last_line stop)
@@ -49,26 +50,32 @@ ends-line {files_failed} due stop status before now is failed (inl puts) =
 ends-line {files_failed} due stop status before now is failed (inr puts) =
     ends-put due (status_of NoMemory) status (last_line NoMemory) before now (memory-answer due files_failed) puts
 
--- what holds of what is told, if it is told
-pub told-map : {A : Type 0} (P Q : A → Type 0) (told : Option A) → ((x : A) → P x → Q x) → IfSome told P → IfSome told Q
-told-map P Q None step holds = holds
-told-map P Q (Some x) step holds = step x holds
+-- a file that the words name failed only if one failed
+pub failed-file : (names : Option FileNames) (files_failed : Type 0) → NamedFileFailed names files_failed → files_failed
+failed-file None files_failed failed = absurd failed
+failed-file (Some names) files_failed failed = failed
 
--- two texts behind one are equal only if they are
-same-back : (front one other : List ℕ) → front ++ one ≡ front ++ other → one ≡ other
-same-back [] one other is = is
-same-back (c ∷ front) one other is = same-back front one other cc
+-- a report that is due, where nothing failed
+answer-reports : (printed : Printed) (files_failed : Type 0) (status : ℕ) (text : List ℕ) → (files_failed → ⊥) → IsAnswer (Ok printed) files_failed status text
+    → IsDue (Ok printed) status text ⊎ IsWantOfMemory (Ok printed) status text
+answer-reports printed files_failed status text fine (inl is) = inl is
+answer-reports printed files_failed status text fine (inr (inl fault)) = absurd (fine fault.0)
+answer-reports printed files_failed status text fine (inr (inr want)) = inr want
 
--- the lines for missing and for failed files differ
-pub not-missing : (written : List ℕ) (before now : Option (List ℕ)) → before ≡ Some written → now ≡ Some (written ++ last_line Files)
-    → Appends before now (last_line Missing) → ⊥
-unfolding last_line
-not-missing written before now was is appends =
-    let told : Appends (Some written) (Some (written ++ last_line Files)) (last_line Missing) =
-    subst (λ (o : Option (List ℕ)). Appends o (Some (written ++ last_line Files)) (last_line Missing)) was
-    (subst (λ (o : Option (List ℕ)). Appends before o (last_line Missing)) is appends) in
-    let same = same-back written (last_line Files) (last_line Missing) told in
-    cc
+ends-reported : (printed : Printed) (files_failed sink_failed : Type 0) (before now : Option (List ℕ)) (status : ℕ) → (files_failed → ⊥) → (sink_failed → ⊥)
+    → Ends (Ok printed) files_failed sink_failed before now status → IsReported printed before now status
+ends-reported printed files_failed sink_failed before now status fine taken (inl (text, is, appends)) =
+    (text, answer-reports printed files_failed status text fine is, appends)
+ends-reported printed files_failed sink_failed before now status fine taken (inr cut) = absurd (taken cut.0)
+
+-- the files that are told have no fault, and nothing failed
+pub reported : (told : Option Folder) (folder : Folder) (found : Found) (words : List (List ℕ)) (printed : Printed) (files_failed sink_failed : Type 0)
+    (before now : Option (List ℕ)) (status : ℕ) → told ≡ Some folder → due (found_in folder) words ≡ Ok printed → (files_failed → ⊥) → (sink_failed → ⊥)
+    → Ends (due (told_or told found) words) files_failed sink_failed before now status → IsReported printed before now status
+reported told folder found words printed files_failed sink_failed before now status is fine no_file no_sink ends =
+    ends-reported printed files_failed sink_failed before now status no_file no_sink
+    (subst (λ (due : Result Printed Stop). Ends due files_failed sink_failed before now status) fine
+    (subst (λ (folders : Option Folder). Ends (due (told_or folders found) words) files_failed sink_failed before now status) is ends))
 
 pub gives-words : (outcome : Result Report Stop) → IsErrOf outcome Words → Gives printed_by (Err Words) outcome
 gives-words outcome is = subst (λ (o : Result Report Stop). Gives printed_by (Err Words) o) (sym is) refl

@@ -2,3 +2,4 @@ pub mod CutLemmas
 pub mod CheckLemmas
 pub mod ReportLemmas
 pub mod EndingLemmas
+pub mod DueLemmas

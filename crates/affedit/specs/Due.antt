@@ -1,4 +1,4 @@
--- What is due: what the program is to print where the folder tells its files.
+-- What is due: what the program is to print for its words and for what there is of its files.
 use Rattle.std.specs.Prelude.{ℕ, List, [], ◌∷◌, length, nat_le, codes, Option, Some, None, Result, Ok, Err, if◌then◌else◌}
 use Rattle.std.specs.Str.{bytes_eq}
 use Rattle.outside.specs.Files.{Folder}
@@ -26,8 +26,14 @@ abbrev pub bytes_due : ℕ → Option (List ℕ) → Result (List ℕ) Stop
 bytes_due limit None = Err Missing
 bytes_due limit (Some bytes) = if nat_le (length bytes) limit then Ok bytes else Err (Limit limit)
 
-unfoldable pub file_due : Folder → List ℕ → ℕ → Result (List ℕ) Stop
-file_due folder name limit = bytes_due limit (folder name)
+unfoldable pub file_due : ℕ → Option (List ℕ) → Result (List ℕ) Stop
+file_due limit file = bytes_due limit file
+
+-- what there is of the three files that `check` reads: the bytes of each, if it is there
+pub record Found : Type 0 where
+  pub aff : Option (List ℕ)
+  pub dic : Option (List ℕ)
+  pub document : Option (List ℕ)
 
 -- a fault of a file stops the call
 abbrev pub stopping : {A F : Type 0} → (F → Stop) → Result A F → Result A Stop
@@ -54,21 +60,21 @@ affixes_step bytes = stopping at_aff (aff_read bytes)
 unfoldable pub entries_step : Affixes → List ℕ → Result (List Entry) Stop
 entries_step affixes bytes = stopping at_dic (dic_read affixes bytes)
 
+-- what there is of the files of `check`: the first thing that stops it, or the report on the document
+unfoldable pub check_due : Found → Result Printed Stop
+check_due found = do
+  aff ← file_due dictionary_limit found.aff
+  affixes ← affixes_step aff
+  dic ← file_due dictionary_limit found.dic
+  entries ← entries_step affixes dic
+  document ← file_due document_limit found.document
+  document_due (record { affixes = affixes; entries = entries }) document
+
 -- the files that the words of `check` name
 pub record FileNames : Type 0 where
   pub aff : List ℕ
   pub dic : List ℕ
   pub document : List ℕ
-
--- `check AFF DIC FILE`: the first thing that stops it, or the report on the document
-unfoldable pub check_due : Folder → FileNames → Result Printed Stop
-check_due folder names = do
-  aff ← file_due folder names.aff dictionary_limit
-  affixes ← affixes_step aff
-  dic ← file_due folder names.dic dictionary_limit
-  entries ← entries_step affixes dic
-  document ← file_due folder names.document document_limit
-  document_due (record { affixes = affixes; entries = entries }) document
 
 -- the files that these words name, if they are of the form `check AFF DIC FILE`
 abbrev pub names_in : List (List ℕ) → Option FileNames
@@ -76,10 +82,24 @@ names_in (command ∷ aff ∷ dic ∷ document ∷ []) =
     if bytes_eq command (codes "check") then Some (record { aff = aff; dic = dic; document = document }) else None
 names_in _ = None
 
-abbrev pub named_due : Folder → Option FileNames → Result Printed Stop
-named_due folder None = Err Words
-named_due folder (Some names) = check_due folder names
+-- what a folder has of these names
+abbrev pub found_in : Folder → FileNames → Found
+found_in folder names = record { aff = folder names.aff; dic = folder names.dic; document = folder names.document }
 
--- what the words ask for
-abbrev pub due : Folder → List (List ℕ) → Result Printed Stop
-due folder words = named_due folder (names_in words)
+-- What there is of these names: where a folder is told, what it has of them. Where none is told, it is this.
+abbrev pub told_or : Option Folder → Found → FileNames → Found
+told_or None found names = found
+told_or (Some folder) found names = found_in folder names
+
+abbrev pub named_due : (FileNames → Found) → Option FileNames → Result Printed Stop
+named_due files None = Err Words
+named_due files (Some names) = check_due (files names)
+
+-- what the words ask for, where this is what there is of the files that they name
+abbrev pub due : (FileNames → Found) → List (List ℕ) → Result Printed Stop
+due files words = named_due files (names_in words)
+
+-- a file that the words name failed: words of no form name none
+abbrev pub NamedFileFailed : Option FileNames → Type 0 → Type 0
+NamedFileFailed None files_failed = ⊥
+NamedFileFailed (Some names) files_failed = files_failed

@@ -35,15 +35,26 @@ IsDue due status text = (status ≡ status_due due) × (text ≡ text_due due)
 abbrev pub IsFileFault : Type 0 → ℕ → List ℕ → Type 0
 IsFileFault files_failed status text = files_failed × (status ≡ status_of Files) × (text ≡ last_line Files)
 
--- memory was wanting behind whole first lines of what is due
+-- the lines that may stand before it is told that memory is wanting: those of the report. A refusal is one line and none
+-- of it.
+abbrev pub lines_before : Result Printed Stop → List ℕ
+lines_before (Ok printed) = printed.text
+lines_before (Err stop) = []
+
+-- memory was wanting behind whole first lines of the report
 abbrev pub IsWantOfMemory : Result Printed Stop → ℕ → List ℕ → Type 0
 IsWantOfMemory due status text =
-    (status ≡ status_of NoMemory) × (front : List ℕ) × AreFirstLines (text_due due) front × (text ≡ front ++ last_line NoMemory)
+    (status ≡ status_of NoMemory) × (front : List ℕ) × AreFirstLines (lines_before due) front × (text ≡ front ++ last_line NoMemory)
 
 -- a status and a text that the call may answer
 abbrev pub IsAnswer : Result Printed Stop → Type 0 → ℕ → List ℕ → Type 0
 IsAnswer due files_failed status text =
     IsDue due status text ⊎ (IsFileFault files_failed status text ⊎ IsWantOfMemory due status text)
+
+-- the report was written whole, or memory was wanting behind whole first lines of it
+abbrev pub IsReported : Printed → Option (List ℕ) → Option (List ℕ) → ℕ → Type 0
+IsReported printed before now status =
+    (text : List ℕ) × (IsDue (Ok printed) status text ⊎ IsWantOfMemory (Ok printed) status text) × Appends before now text
 
 -- the exit status where the sink failed
 abbrev pub sink_status : ℕ

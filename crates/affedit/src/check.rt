@@ -1,10 +1,10 @@
 //! What `check` is to print, as far as the files let it.
 
-ghost use Rattle.std.specs.Prelude.{◌≡◌, ◌<◌, ◌≤◌, ◌^◌, length, map, IfSome, OnOk, IsErrOf, IfOk};
+ghost use Rattle.std.specs.Prelude.{◌≡◌, ◌<◌, ◌≤◌, ◌^◌, ℕ, List, Option, length, map, IfSome, OnOk, IsErrOf, IfOk};
 ghost use Rattle.std.specs.Option.{option_map};
 ghost use Rattle.std.specs.String.{string_bytes};
 ghost use Rattle.spell_types.specs.Sanity.{AreSaneAffixes, AreSaneEntries};
-ghost use Rattle.affedit.specs.Due.{file_due, affixes_step, entries_step, document_due, check_due, names_in};
+ghost use Rattle.affedit.specs.Due.{Found, file_due, affixes_step, entries_step, document_due, check_due, names_in, found_in};
 ghost use Rattle.affedit.specs.Given.{printed_by, names_by};
 ghost use Rattle.affedit.specs.Stops.{Gives};
 
@@ -52,7 +52,10 @@ pub fn names_of(words: &[String]) -> Option<Names<'_>>
 /// file its bytes come before its lines.
 #[tactic(auto, unfolding(crate::specs::Due::check_due))]
 pub fn check<F: Files>(alloc: Global, names: Names<'_>, files: &mut F) -> Result<Report, Stop>
-    ensures due { IfSome (F.told files.old) (λ folder. Gives printed_by (check_due folder (names_by names.entry)) result) }
+    // It is what is due of some files, which are those that are told, where some are.
+    ensures found { (found : Found) × Gives printed_by (check_due found) result }
+    ensures told { IfSome (F.told files.old) (λ folder. Gives printed_by (check_due (found_in folder (names_by names.entry))) result) }
+    ensures same { F.told files.new ≡ F.told files.old }
     ensures files { IsErrOf result Stop.Files → F.faults files.old < F.faults files.new }
     ensures count { F.faults files.old ≤ F.faults files.new }
     ensures words { ¬ (IsErrOf result Stop.Words) }
@@ -68,7 +71,8 @@ pub fn check<F: Files>(alloc: Global, names: Names<'_>, files: &mut F) -> Result
 /// The bytes of the file.
 #[tactic(auto, unfolding(crate::specs::Due::file_due))]
 fn load<F: Files>(alloc: Global, files: &mut F, name: &str, limit: u64) -> Result<Vec<u8>, Stop>
-    ensures due { IfSome (F.told files.old) (λ folder. Gives (λ bytes. bytes.items) (file_due folder name.now limit) result) }
+    ensures found { (file : Option (List ℕ)) × Gives (λ bytes. bytes.items) (file_due limit file) result }
+    ensures told { IfSome (F.told files.old) (λ folder. Gives (λ bytes. bytes.items) (file_due limit (folder name.now)) result) }
     ensures bounded { IfOk result (λ bytes. length bytes.items ≤ limit) }
     ensures same { F.told files.new ≡ F.told files.old }
     ensures files { IsErrOf result Stop.Files → F.faults files.old < F.faults files.new }

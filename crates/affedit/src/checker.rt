@@ -1,6 +1,6 @@
 //! Finds the marks of a paragraph.
 
-ghost use Rattle.std.specs.Prelude.{◌≡◌, ◌<◌, ◌^◌, [], ◌∷◌, ◌++◌, All, IfOk, OnOk, map, length};
+ghost use Rattle.std.specs.Prelude.{◌≡◌, ◌+◌, ◌<◌, ◌≤◌, ◌^◌, [], ◌∷◌, ◌++◌, All, IfOk, OnOk, map, length};
 ghost use Rattle.std.specs.List.{flat_map};
 ghost use Rattle.std.specs.Str.{chars};
 ghost use Rattle.spell_types.specs.Yields.{yields};
@@ -28,6 +28,8 @@ pub fn check_paragraph<J: Judge>(alloc: Global, judge: &J, text: &str) -> Result
     requires { length text.now < 2 ^ 32 }
     ensures marks { IfOk result (λ checked. checked.marks ≡ map mark_of (marks_of (J.lexicon judge.now) (chars text.now ∷ []))) }
     ensures words { IfOk result (λ checked. checked.words ≡ length (words_of (J.lexicon judge.now).affixes.wordchars (chars text.now))) }
+    ensures few { IfOk result (λ checked. checked.words ≤ length text.now) }
+    ensures fewer { IfOk result (λ checked. length checked.marks ≤ checked.words) }
 {
     words_stand_in_their_text();
     marks_are_local();
@@ -46,7 +48,8 @@ fn marks_of_spans<J: Judge>(
     spans: &[Span],
 ) -> Result<Marks, NoMemory>
     requires { All (MayBeCut text.now) spans.now }
-    ensures { IfOk result (λ marks. marks ≡ flat_map (marks_at (J.lexicon judge.now) text.now) spans.now) }
+    ensures marks { IfOk result (λ marks. marks ≡ flat_map (marks_at (J.lexicon judge.now) text.now) spans.now) }
+    ensures few { IfOk result (λ marks. length marks ≤ length spans.now) }
 {
     let mut marks = Items::new(alloc);
     for span in spans {
@@ -64,7 +67,8 @@ fn push_mark<J: Judge>(
     span: Span,
 ) -> Result<(), NoMemory>
     requires { MayBeCut text.now span }
-    ensures { OnOk result (marks.new ≡ marks.old ++ marks_at (J.lexicon judge.now) text.now span) }
+    ensures marks { OnOk result (marks.new ≡ marks.old ++ marks_at (J.lexicon judge.now) text.now span) }
+    ensures few { OnOk result (length marks.new ≤ length marks.old + 1) }
 {
     let word = &text[span.from as usize..span.to as usize];
     if is_known(alloc, judge, word)? {

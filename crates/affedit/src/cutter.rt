@@ -27,7 +27,8 @@ struct Run {
 /// the project's own rule.
 pub fn cut(alloc: Global, text: &str, wordchars: &[char]) -> Result<Vec<Span>, NoMemory>
     requires { length text.now < 2 ^ 32 }
-    ensures { IfOk result (λ spans. spans.items ≡ map span_of (words_of wordchars.now (chars text.now))) }
+    ensures words { IfOk result (λ spans. spans.items ≡ map span_of (words_of wordchars.now (chars text.now))) }
+    ensures few { IfOk result (λ spans. length spans.items ≤ length text.now) }
 {
     let characters: Vec<char> = text.chars().collect(alloc)?;
     cut_characters(alloc, characters.as_slice(), wordchars)
@@ -35,7 +36,8 @@ pub fn cut(alloc: Global, text: &str, wordchars: &[char]) -> Result<Vec<Span>, N
 
 fn cut_characters(alloc: Global, text: &[char], wordchars: &[char]) -> Result<Vec<Span>, NoMemory>
     requires { byte_count text.now < 2 ^ 32 }
-    ensures { IfOk result (λ spans. spans.items ≡ map span_of (words_of wordchars.now text.now)) }
+    ensures words { IfOk result (λ spans. spans.items ≡ map span_of (words_of wordchars.now text.now)) }
+    ensures few { IfOk result (λ spans. length spans.items ≤ byte_count text.now) }
 {
     let mut spans = Vec::new(alloc);
     let mut run = None;

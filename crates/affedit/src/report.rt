@@ -1,6 +1,6 @@
 //! Prints the marks of a document.
 
-ghost use Rattle.std.specs.Prelude.{◌≡◌, ◌+◌, ◌<◌, ◌^◌, [], ◌∷◌, ◌++◌, All, IfOk, OnOk, length};
+ghost use Rattle.std.specs.Prelude.{◌≡◌, ◌+◌, ◌<◌, ◌≤◌, ◌^◌, [], ◌∷◌, ◌++◌, All, IfOk, OnOk, length};
 ghost use Rattle.std.specs.List.{flat_map};
 ghost use Rattle.std.specs.Str.{chars};
 ghost use Rattle.std.specs.String.{string_bytes};
@@ -34,6 +34,7 @@ pub fn make_report<J: Judge>(
 ) -> Result<Report, NoMemory>
     requires small { length document.now < 2 ^ 32 }
     requires lines { All (IsInside document.now) lines.now }
+    requires few { length lines.now ≤ length document.now }
     ensures text { IfOk result (λ report. string_bytes report.text ≡ (report_of (J.lexicon judge.now) (paragraphs_of document.now lines.now)).text) }
     ensures marks { IfOk result (λ report. report.marks ≡ (report_of (J.lexicon judge.now) (paragraphs_of document.now lines.now)).marks) }
 {
@@ -50,6 +51,7 @@ fn report_of_paragraphs<J: Judge>(
 ) -> Result<Report, NoMemory>
     requires small { length document.now < 2 ^ 32 }
     requires lines { All (IsInside document.now) lines.now }
+    requires few { length lines.now ≤ length document.now }
     ensures text { IfOk result (λ report. string_bytes report.text
         ≡ flat_map line_of (marks_of (J.lexicon judge.now) (paragraphs_of document.now lines.now))) }
     ensures marks { IfOk result (λ report. report.marks ≡ length (marks_of (J.lexicon judge.now) (paragraphs_of document.now lines.now))) }
@@ -77,25 +79,22 @@ impl Report {
         number: u64,
         text: &str,
     ) -> Result<(), NoMemory>
-        requires { length text.now < 2 ^ 32 }
+        requires small { length text.now < 2 ^ 32 }
+        requires room { self.old.words + 2 ^ 32 ≤ 2 ^ 64 }
+        requires fewer { self.old.marks ≤ self.old.words }
         ensures text { OnOk result (string_bytes self.new.text ≡ string_bytes self.old.text ++ paragraph_lines (J.lexicon judge.now) number (chars text.now)) }
         ensures marks { OnOk result (self.new.marks ≡ self.old.marks + length (marks_of (J.lexicon judge.now) (chars text.now ∷ []))) }
         ensures words { OnOk result (self.new.words ≡ self.old.words + length (words_of (J.lexicon judge.now).affixes.wordchars (chars text.now))) }
+        ensures grown { OnOk result (self.new.words ≤ self.old.words + length text.now) }
+        ensures fewer { OnOk result (self.new.marks ≤ self.new.words) }
     {
         let checked = check_paragraph(alloc, judge, text)?;
         let marks = checked.marks.as_slice();
         push_mark_lines(&mut self.text, number, marks)?;
-        self.marks = sum(self.marks, marks.len())?;
-        self.words = sum(self.words, checked.words)?;
+        self.marks += marks.len() as u64;
+        self.words += checked.words as u64;
         Ok(())
     }
-}
-
-/// The sum, where it is a number of 64 bits; one that is not could not be counted up in memory.
-fn sum(so_far: u64, more: usize) -> Result<u64, NoMemory>
-    ensures { IfOk result (λ sum. sum ≡ so_far + more) }
-{
-    so_far.checked_add(more as u64).ok_or(NoMemory)
 }
 
 fn push_mark_lines(text: &mut String, number: u64, marks: &[Mark]) -> Result<(), AllocError>

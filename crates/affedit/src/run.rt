@@ -1,10 +1,11 @@
 //! The top call: what the program does, from its words to its exit status.
 
-ghost use Rattle.std.specs.Prelude.{◌≡◌, ℕ, ◌++◌, ◌<◌, ◌≤◌, ◌⊎◌, ◌↔◌, List, map, IfSome, IsErrOf, Option, Some, None, Ok, Err, Result};
+ghost use Rattle.std.specs.Prelude.{◌≡◌, ℕ, ◌<◌, ◌≤◌, ◌⊎◌, ◌↔◌, map, IsErrOf, Option, Some, None, Ok, Result};
 ghost use Rattle.std.specs.String.{string_bytes};
+ghost use Rattle.outside.specs.Files.{Folder};
 ghost use Rattle.outside.specs.Sink.{Appends};
-ghost use Rattle.affedit.specs.Due.{due, names_in};
-ghost use Rattle.affedit.specs.Endings.{status_due, Puts, PutsLine, Ends};
+ghost use Rattle.affedit.specs.Due.{Found, FileNames, NamedFileFailed, due, found_in, told_or, names_in};
+ghost use Rattle.affedit.specs.Endings.{status_due, Puts, PutsLine, Ends, IsReported};
 ghost use Rattle.affedit.specs.Given.{printed_by};
 ghost use Rattle.affedit.specs.Reports.{Printed};
 ghost use Rattle.affedit.specs.Stops.{Gives, last_line};
@@ -32,7 +33,7 @@ pub fn run<R, F, S, K, G>(
     alloc: Global,
     words: &[String],
     files: &mut F,
-    _input: &mut S,
+    input: &mut S,
     out: &mut K,
     _gate: &G,
 ) -> Ended
@@ -42,17 +43,29 @@ where
     S: Source + Send,
     K: Sink + Send,
     G: Gate + Sync,
-    // Where the files tell their bytes: what was written and the status are those that are due.
-    ensures due { IfSome (F.told files.old) (λ folder. Ends (due folder (map string_bytes words.now))
-        (F.Files.faults files.old < F.Files.faults files.new) (K.Sink.faults out.old < K.Sink.faults out.new) (K.written out.old) (K.written out.new) result.status) }
+    // What was written and the status are those that are due of some files, which are those that are told, where some are.
+    ensures due { (found : Found) × Ends (due (told_or (F.told files.old) found) (map string_bytes words.now))
+        (NamedFileFailed (names_in (map string_bytes words.now)) (F.Files.faults files.old < F.Files.faults files.new))
+        (K.Sink.faults out.old < K.Sink.faults out.new) (K.written out.old) (K.written out.new) result.status }
 
-    // Whatever the files tell: words in no form, files that failed and a sink that failed have these statuses.
-    ensures words { names_in (map string_bytes words.now) ≡ None → Ends (Err Stop.Words)
-        (F.Files.faults files.old < F.Files.faults files.new) (K.Sink.faults out.old < K.Sink.faults out.new) (K.written out.old) (K.written out.new) result.status }
+    // A dictionary and a document that are told and have no fault are reported, if nothing fails and memory is to be had.
+    ensures complete { (folder : Folder) (printed : Printed) → F.told files.old ≡ Some folder
+        → due (found_in folder) (map string_bytes words.now) ≡ Ok printed
+        → F.Files.faults files.new ≡ F.Files.faults files.old → K.Sink.faults out.new ≡ K.Sink.faults out.old
+        → IsReported printed (K.written out.old) (K.written out.new) result.status }
+
+    // What a reader may take from these alone, whatever is told.
     ensures no_form { result.status ≡ 2 → names_in (map string_bytes words.now) ≡ None }
-    ensures files { result.status ≡ 5 → (written : List ℕ) → K.written out.old ≡ Some written → K.written out.new ≡ Some (written ++ last_line Stop.Files)
-        → F.Files.faults files.old < F.Files.faults files.new }
+    ensures files { result.status ≡ 5 → (F.Files.faults files.old < F.Files.faults files.new)
+        ⊎ Appends (K.written out.old) (K.written out.new) (last_line Stop.Missing) }
     ensures sink { result.status ≡ 6 → K.Sink.faults out.old < K.Sink.faults out.new }
+
+    // What stays. No command that is built reads the input.
+    ensures same { F.told files.new ≡ F.told files.old }
+    ensures left { S.left input.new ≡ S.left input.old }
+    ensures input_count { S.Source.faults input.new ≡ S.Source.faults input.old }
+    ensures files_count { F.Files.faults files.old ≤ F.Files.faults files.new }
+    ensures sink_count { K.Sink.faults out.old ≤ K.Sink.faults out.new }
 {
     Ended {
         status: run_check(rt, alloc, words, files, out),
@@ -71,17 +84,27 @@ where
     R: Threads + Sync,
     F: Files,
     K: Sink,
-    // Where the files tell their bytes: what was written and the status are those that are due.
-    ensures due { IfSome (F.told files.old) (λ folder. Ends (due folder (map string_bytes words.now))
-        (F.faults files.old < F.faults files.new) (K.faults out.old < K.faults out.new) (K.written out.old) (K.written out.new) result) }
+    // What was written and the status are those that are due of some files, which are those that are told, where some are.
+    ensures due { (found : Found) × Ends (due (told_or (F.told files.old) found) (map string_bytes words.now))
+        (NamedFileFailed (names_in (map string_bytes words.now)) (F.faults files.old < F.faults files.new))
+        (K.faults out.old < K.faults out.new) (K.written out.old) (K.written out.new) result }
 
-    // Whatever the files tell: words in no form, files that failed and a sink that failed have these statuses.
-    ensures words { names_in (map string_bytes words.now) ≡ None → Ends (Err Stop.Words)
-        (F.faults files.old < F.faults files.new) (K.faults out.old < K.faults out.new) (K.written out.old) (K.written out.new) result }
+    // A dictionary and a document that are told and have no fault are reported, if nothing fails and memory is to be had.
+    ensures complete { (folder : Folder) (printed : Printed) → F.told files.old ≡ Some folder
+        → due (found_in folder) (map string_bytes words.now) ≡ Ok printed
+        → F.faults files.new ≡ F.faults files.old → K.faults out.new ≡ K.faults out.old
+        → IsReported printed (K.written out.old) (K.written out.new) result }
+
+    // What a reader may take from these alone, whatever is told.
     ensures no_form { result ≡ 2 → names_in (map string_bytes words.now) ≡ None }
-    ensures files { result ≡ 5 → (written : List ℕ) → K.written out.old ≡ Some written → K.written out.new ≡ Some (written ++ last_line Stop.Files)
-        → F.faults files.old < F.faults files.new }
+    ensures files { result ≡ 5 → (F.faults files.old < F.faults files.new)
+        ⊎ Appends (K.written out.old) (K.written out.new) (last_line Stop.Missing) }
     ensures sink { result ≡ 6 → K.faults out.old < K.faults out.new }
+
+    // What stays.
+    ensures same { F.told files.new ≡ F.told files.old }
+    ensures files_count { F.faults files.old ≤ F.faults files.new }
+    ensures sink_count { K.faults out.old ≤ K.faults out.new }
 {
     let outcome = outcome_of(alloc, words, files);
     answer(alloc, out, outcome)
@@ -89,9 +112,11 @@ where
 
 /// The report, or why there is none.
 fn outcome_of<F: Files>(alloc: Global, words: &[String], files: &mut F) -> Result<Report, Stop>
-    ensures due { IfSome (F.told files.old) (λ folder. Gives printed_by (due folder (map string_bytes words.now)) result) }
+    ensures due { (found : Found) × Gives printed_by (due (told_or (F.told files.old) found) (map string_bytes words.now)) result }
     ensures words { IsErrOf result Stop.Words ↔ (names_in (map string_bytes words.now) ≡ None) }
-    ensures files { IsErrOf result Stop.Files → F.faults files.old < F.faults files.new }
+    ensures files { IsErrOf result Stop.Files
+        → NamedFileFailed (names_in (map string_bytes words.now)) (F.faults files.old < F.faults files.new) }
+    ensures same { F.told files.new ≡ F.told files.old }
     ensures count { F.faults files.old ≤ F.faults files.new }
 {
     match names_of(words) {
@@ -102,12 +127,14 @@ fn outcome_of<F: Files>(alloc: Global, words: &[String], files: &mut F) -> Resul
 
 /// Writes the report, or the last line that is due in its place.
 fn answer<K: Sink>(alloc: Global, out: &mut K, outcome: Result<Report, Stop>) -> u8
-    ensures ends { (due : Result Printed Stop) (files_before files_after : ℕ) → Gives printed_by due outcome
-        → (IsErrOf outcome Stop.Files → files_before < files_after)
-        → Ends due (files_before < files_after) (K.faults out.old < K.faults out.new) (K.written out.old) (K.written out.new) result }
+    ensures ends { (due : Result Printed Stop) (names : Option FileNames) (files_before files_after : ℕ) → Gives printed_by due outcome
+        → (IsErrOf outcome Stop.Files → NamedFileFailed names (files_before < files_after))
+        → Ends due (NamedFileFailed names (files_before < files_after)) (K.faults out.old < K.faults out.new)
+        (K.written out.old) (K.written out.new) result }
     ensures no_form { result ≡ 2 → IsErrOf outcome Stop.Words }
     ensures files { result ≡ 5 → IsErrOf outcome Stop.Files ⊎ Appends (K.written out.old) (K.written out.new) (last_line Stop.Missing) }
     ensures sink { result ≡ 6 → K.faults out.old < K.faults out.new }
+    ensures count { K.faults out.old ≤ K.faults out.new }
 {
     match outcome {
         Ok(report) => put_report(out, &report),
@@ -116,8 +143,9 @@ fn answer<K: Sink>(alloc: Global, out: &mut K, outcome: Result<Report, Stop>) ->
 }
 
 fn put_report<K: Sink>(out: &mut K, report: &Report) -> u8
-    ensures { Puts (status_due (Ok (printed_by report.now))) (string_bytes report.now.text)
+    ensures puts { Puts (status_due (Ok (printed_by report.now))) (string_bytes report.now.text)
         (K.faults out.old < K.faults out.new) (K.written out.old) (K.written out.new) result }
+    ensures count { K.faults out.old ≤ K.faults out.new }
 {
     let status = if report.marks == 0 { 0 } else { 1 };
     put(out, report.text.as_bytes(), status)
@@ -126,7 +154,8 @@ fn put_report<K: Sink>(out: &mut K, report: &Report) -> u8
 /// Writes the last line of a call that stopped; or that memory is wanting, if there is none for the line.
 #[tactic(auto, unfolding(crate::specs::Stops::last_line))]
 pub fn put_line<K: Sink>(alloc: Global, out: &mut K, stop: Stop) -> u8
-    ensures { PutsLine stop (K.faults out.old < K.faults out.new) (K.written out.old) (K.written out.new) result }
+    ensures puts { PutsLine stop (K.faults out.old < K.faults out.new) (K.written out.old) (K.written out.new) result }
+    ensures count { K.faults out.old ≤ K.faults out.new }
 {
     let mut line = String::new(alloc);
     if stop.push_line(&mut line).is_err() {
@@ -137,7 +166,8 @@ pub fn put_line<K: Sink>(alloc: Global, out: &mut K, stop: Stop) -> u8
 
 /// Writes a text, and gives the status or that of a sink that failed.
 fn put<K: Sink>(out: &mut K, text: &[u8], status: u8) -> u8
-    ensures { Puts status text.now (K.faults out.old < K.faults out.new) (K.written out.old) (K.written out.new) result }
+    ensures puts { Puts status text.now (K.faults out.old < K.faults out.new) (K.written out.old) (K.written out.new) result }
+    ensures count { K.faults out.old ≤ K.faults out.new }
 {
     match out.put(text) {
         Ok(()) => status,

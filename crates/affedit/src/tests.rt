@@ -254,6 +254,25 @@ fn refuses_other_words(rt: HostRuntime) -> Result<(), Fail> {
     Ok(())
 }
 
+// The words decide before any file is loaded, so that no file can fail.
+#[test]
+fn refuses_other_words_whatever_files_do(rt: HostRuntime) -> Result<(), Fail> {
+    let faults = Faults {
+        loads: &[1, 2, 3],
+        ..NO_FAULTS
+    };
+    for words in [["edit", "a", "b"], ["check", "a", "b"]] {
+        let seen = run_words(&rt, rt.alloc(), &words, &[("a", AFF), ("b", DIC)], faults)?;
+        assert_eq!(rt;
+            seen.written.as_slice(),
+            b"affedit: words\n".as_slice(),
+            "at {words:?}"
+        );
+        assert_eq!(rt; seen.status, 2, "at {words:?}");
+    }
+    Ok(())
+}
+
 #[test]
 fn stops_in_order(rt: HostRuntime) -> Result<(), Fail> {
     let alloc = rt.alloc();

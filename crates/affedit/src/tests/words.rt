@@ -210,7 +210,7 @@ fn checks_by_affix_rules(rt: HostRuntime) -> Result<(), Fail> {
 #[test]
 fn checks_words_as_they_are_written(rt: HostRuntime) -> Result<(), Fail> {
     let dashes: &[u8] = b"foo-bar -foo foo- foo--bar foo-baz";
-    let cases: [(&[u8], &[u8], &[u8], &str, u8); 13] = [
+    let cases: [(&[u8], &[u8], &[u8], &str, u8); 14] = [
         (
             b"WORDCHARS -\n",
             b"2\nfoo\nbar\n",
@@ -286,6 +286,14 @@ fn checks_words_as_they_are_written(rt: HostRuntime) -> Result<(), Fail> {
             b"2\nbar/S\nbars/Z\n",
             b"bar bars Bars BARS",
             "1 4 8 bars\n1 9 13 Bars\n1 14 18 BARS\n3 of 4\n",
+            1,
+        ),
+        // A forbidden word is forbidden as it is written; in another case it is broken where its pieces are words.
+        (
+            b"FORBIDDENWORD Z\nWORDCHARS -\n",
+            b"3\nfoo\nbar\nfoo-bar/Z\n",
+            b"foo-bar FOO-BAR Foo-bar",
+            "1 0 7 foo-bar\n1 of 3\n",
             1,
         ),
         (

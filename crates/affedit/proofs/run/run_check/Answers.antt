@@ -1,23 +1,33 @@
 -- The outcome is what is due, and what is written answers it.
-use Rattle.std.proofs.Common.{Err, ⊎_elim}
-use Rattle.affedit.specs.declared.stop.Stop.TheVariants.{Words}
-use Rattle.affedit.proofs.EndingLemmas.{told-map, not-missing, gives-words}
+use Rattle.std.proofs.Common.{◌<◌, map, ⊎_elim, inl, inr, subst, arith}
+use Rattle.std.specs.String.{string_bytes}
+use Rattle.affedit.specs.Due.{NamedFileFailed, due, told_or, names_in}
+use Rattle.affedit.proofs.EndingLemmas.{failed-file, reported}
 use Rattle.affedit.proofs.run.run_check.Goals as goal
 
 pub returns-clause-due : goal.returns-clause-due
 returns-clause-due g c =
-    told-map _ _ (g.F.Files.told c.args.files.now)
-    (λ folder gives. c.answer.ensures.ends _ (g.F.Files.faults c.args.files.now) (g.F.Files.faults c.outcome_of-outcome.new.files) gives c.outcome_of-outcome.ensures.files)
-    c.outcome_of-outcome.ensures.due
-
-pub returns-clause-words : goal.returns-clause-words
-returns-clause-words g c = λ no_form.
+    let words = map string_bytes c.args.words.now in
     let outcome = c.outcome_of-outcome in
-    c.answer.ensures.ends (Err Words) (g.F.Files.faults c.args.files.now) (g.F.Files.faults outcome.new.files)
-    (gives-words outcome.result (outcome.ensures.words.1 no_form)) outcome.ensures.files
+    let found = outcome.ensures.due.0 in (
+      found,
+      c.answer.ensures.ends (due (told_or (g.F.Files.told c.args.files.now) found) words) (names_in words)
+          (g.F.Files.faults c.args.files.now) (g.F.Files.faults outcome.new.files) outcome.ensures.due.1 outcome.ensures.files,
+    )
+
+pub returns-clause-complete : goal.returns-clause-complete
+returns-clause-complete g c = λ folder printed told is files_same sink_same.
+    let words = map string_bytes c.args.words.now in
+    let outcome = c.outcome_of-outcome in
+    let found = outcome.ensures.due.0 in
+    reported (g.F.Files.told c.args.files.now) folder found words printed _ _ _ _ _ told is
+    (λ failed. let rose = failed-file (names_in words) (g.F.Files.faults c.args.files.now < g.F.Files.faults outcome.new.files) failed in absurd (omega (arith, rose, files_same)))
+    (λ failed. absurd (omega (arith, failed, sink_same)))
+    (c.answer.ensures.ends (due (told_or (g.F.Files.told c.args.files.now) found) words) (names_in words)
+    (g.F.Files.faults c.args.files.now) (g.F.Files.faults outcome.new.files) outcome.ensures.due.1 outcome.ensures.files)
 
 pub returns-clause-files : goal.returns-clause-files
-returns-clause-files g c = λ five written before now.
-    ⊎_elim (λ failed. c.outcome_of-outcome.ensures.files failed)
-    (λ missing. absurd (not-missing written (g.K.Sink.written c.args.out.now) (g.K.Sink.written c.answer.new.out) before now missing))
+returns-clause-files g c = λ five.
+    ⊎_elim (λ failed. inl (failed-file (names_in (map string_bytes c.args.words.now)) _ (c.outcome_of-outcome.ensures.files failed)))
+    (λ missing. inr missing)
     (c.answer.ensures.files five)

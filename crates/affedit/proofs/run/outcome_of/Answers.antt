@@ -1,0 +1,6 @@
+-- Words of no form ask for no file, so any files explain the call.
+use Rattle.std.proofs.Common.{rules, None}
+use Rattle.affedit.proofs.run.outcome_of.Goals as goal
+
+pub returns-in-None-clause-due : goal.returns-in-None-clause-due
+returns-in-None-clause-due g c = (record { aff = None; dic = None; document = None }, search rules)
