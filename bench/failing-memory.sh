@@ -1,6 +1,8 @@
 #!/usr/bin/env bash
-# Makes each allocation of `check` on the sample fail in turn, until a run has none that fails, and prints what each run
-# ended with and how often. Needs gcc.
+# Makes each allocation of `check` fail in turn, until a run has none that fails: on the sample's dictionary, on one with
+# aliases, classes and a twofold suffix, on one with ICONV, IGNORE and BREAK, and on one that is refused in its last line.
+# Prints what the runs ended with and how often, and ends with status 1 if one of them ended otherwise than with `memory`
+# alone and status 7 or as the run without a failing allocation. Needs gcc.
 set -euo pipefail
 top=$(cd "$(dirname "$0")/.." && pwd)
 work=$(mktemp -d)
@@ -53,19 +55,75 @@ int posix_memalign(void **out, size_t align, size_t size) {
 }
 C
 gcc -shared -fPIC -O1 -o "$work/fail.so" "$work/fail.c" -ldl 2>/dev/null
-data=$top/crates/affedit/data
-printf 'hello 2nd wrld' > "$work/text"
-"$top/affedit" check "$data/a.aff" "$data/a.dic" "$data/text" > /dev/null
+# The folders have the files a.aff, a.dic and text.
+mkdir "$work/sample" "$work/affixes" "$work/conversions" "$work/refused"
+cp "$top/crates/affedit/data/a.aff" "$top/crates/affedit/data/a.dic" "$work/sample"
+printf 'hello 2nd wrld' > "$work/sample/text"
+
+cat > "$work/affixes/a.aff" <<'AFF'
+SET UTF-8
+AF 2
+AF S
+AF RP
+PFX P Y 1
+PFX P 0 un .
+SFX S Y 1
+SFX S 0 s .
+SFX R Y 1
+SFX R 0 able/1 [^y]
+AFF
+printf '2\ndrink/2\nwork\n' > "$work/affixes/a.dic"
+printf 'undrinkables drink\ndrinks' > "$work/affixes/text"
+
+cat > "$work/conversions/a.aff" <<'AFF'
+SET UTF-8
+WORDCHARS -/
+ICONV 1
+ICONV ’ '
+IGNORE -
+BREAK 1
+BREAK /
+AFF
+printf "3\ndon't\nco-op\nbar\n" > "$work/conversions/a.dic"
+printf 'don’t co-op coop/bar bar/foo' > "$work/conversions/text"
+
+cat > "$work/refused/a.aff" <<'AFF'
+SET UTF-8
+SFX S Y 1
+SFX S 0 s .
+NEEDAFFIX N
+COMPLEXPREFIXES
+AFF
+printf '1\nwork/S\n' > "$work/refused/a.dic"
+printf 'works' > "$work/refused/text"
+
+# The launcher builds the program where it is missing. The sample with this text has one mark, which is status 1.
+"$top/affedit" check "$work/sample/a.aff" "$work/sample/a.dic" "$work/sample/text" > /dev/null || [ $? -eq 1 ]
 program=$top/crates/affedit/out/affedit
 
-for which in $(seq 1 10000); do
-    status=0
-    FAIL_ALLOCATION=$which LD_PRELOAD=$work/fail.so "$program" check "$data/a.aff" "$data/a.dic" "$work/text" > "$work/out" 2> "$work/told" || status=$?
-    printf '%s' "status $status: $(tr '\n' '|' < "$work/out")" >> "$work/seen"
-    echo >> "$work/seen"
-    if ! grep -q failed "$work/told"; then
-        echo "$((which - 1)) allocations failed in turn; then a run without a failing one"
-        break
+# What a run in a folder ended with, as one line.
+ending() {
+    local status=0
+    LD_PRELOAD=$work/fail.so "$program" check "$1/a.aff" "$1/a.dic" "$1/text" > "$work/out" 2> "$work/told" || status=$?
+    echo "status $status: $(tr '\n' '|' < "$work/out")"
+}
+
+wrong=0
+for name in sample affixes conversions refused; do
+    : > "$work/seen"
+    whole=$(FAIL_ALLOCATION=0 ending "$work/$name")
+    for which in $(seq 1 100000); do
+        ended=$(FAIL_ALLOCATION=$which ending "$work/$name")
+        if ! grep -q failed "$work/told"; then
+            echo "$name: $((which - 1)) allocations failed in turn; without a failing one: $whole"
+            break
+        fi
+        echo "$ended" >> "$work/seen"
+    done
+    sort "$work/seen" | uniq -c
+    if grep -vxF -e "$whole" -e 'status 7: memory|' "$work/seen" > /dev/null; then
+        echo "$name: a run ended in another way"
+        wrong=1
     fi
 done
-sort "$work/seen" | uniq -c
+exit "$wrong"
