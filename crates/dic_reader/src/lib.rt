@@ -11,7 +11,7 @@ ghost use Rattle.std.specs.Prelude.{◌≡◌, ℕ, ◌<◌, ◌≤◌, ◌^◌,
 ghost use Rattle.std.specs.List.{range_with_len, AllPairs};
 ghost use Rattle.text_lines.specs.Lines.{IsInside};
 ghost use Rattle.spell_types.specs.declared.Affixes.{Affixes};
-ghost use Rattle.spell_types.specs.Sanity.{AreSaneEntries};
+ghost use Rattle.spell_types.specs.Sanity.{AreSaneEntries, HasOrdinaryFlags, HaveOrdinaryFlags};
 ghost use Rattle.dic_reader.specs.Entries.{listed};
 ghost use Rattle.dic_reader.specs.Faults.{Fault, entry_limit, dic_passes, first_fault, entries_read, lines_read, dic_read, DicBad, IsLeast, IsTold, IsRead, DicReads, DicRefuses};
 
@@ -42,6 +42,7 @@ pub fn read_dic(alloc: Global, affixes: &Affixes, bytes: &[u8]) -> Result<Entrie
     ensures refused { IfErr result (DicRefuses affixes.now bytes.now) }
     ensures sane { IfOk result AreSaneEntries }
     ensures few { IfOk result (λ entries. length entries ≤ entry_limit) }
+    ensures ordinary { HasOrdinaryFlags affixes.now → IfOk result HaveOrdinaryFlags }
 
     // The same as one value, so that a caller can go on with it.
     ensures value { IsRead (dic_read affixes.now bytes.now) result }
@@ -66,6 +67,7 @@ fn read_file(alloc: Global, affixes: &Affixes, bytes: &[u8]) -> Result<Entries, 
     ensures refused { IfErr result (IsTold (dic_read affixes.now bytes.now)) }
     ensures sane { IfOk result AreSaneEntries }
     ensures few { IfOk result (λ entries. length entries ≤ entry_limit) }
+    ensures ordinary { HasOrdinaryFlags affixes.now → IfOk result HaveOrdinaryFlags }
 {
     let found = lines(alloc, bytes)?;
     if let Some(line) = found.bad {
@@ -90,6 +92,7 @@ fn read_lines(
     ensures refused { IfErr result (IsTold (lines_read affixes.now bytes.now lines.now)) }
     ensures sane { IfOk result AreSaneEntries }
     ensures few { IfOk result (λ entries. length entries ≤ entry_limit) }
+    ensures ordinary { HasOrdinaryFlags affixes.now → IfOk result HaveOrdinaryFlags }
 {
     match lines.split_first() {
         Some((count, later)) if is_count(line_text(bytes, count)) => {
@@ -118,6 +121,7 @@ fn read_entries(
     ensures refused { IfErr result (IsTold (entries_read affixes.now limit (listed bytes.now lines.now))) }
     ensures sane { IfOk result AreSaneEntries }
     ensures few { IfOk result (λ entries. length entries ≤ limit) }
+    ensures ordinary { HasOrdinaryFlags affixes.now → IfOk result HaveOrdinaryFlags }
 {
     let mut entries = Items::new(alloc);
     for line in lines {

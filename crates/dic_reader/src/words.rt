@@ -2,6 +2,8 @@
 
 ghost use Rattle.std.specs.Prelude.{◌≡◌, ◌++◌, ◌<◌, length, Ok, OnOk, IfOk, IfErr};
 ghost use Rattle.std.specs.Option.{option_copied};
+ghost use Rattle.spell_types.specs.Flags.{AreOrdinary};
+ghost use Rattle.spell_types.specs.Sanity.{HasOrdinaryFlags};
 ghost use Rattle.dic_reader.specs.Entries.{entry_at, flag_text, whole_word};
 ghost use Rattle.dic_reader.specs.Faults.{entry_read, IsTold};
 
@@ -22,6 +24,7 @@ pub(crate) fn read_entry(
     ensures read { IfOk result (λ made. entry_read affixes.now (entry_at number text.now) ≡ Ok made) }
     ensures refused { IfErr result (IsTold (entry_read affixes.now (entry_at number text.now))) }
     ensures word { IfOk result (λ made. 0 < length made.word) }
+    ensures ordinary { HasOrdinaryFlags affixes.now → IfOk result (λ made. AreOrdinary made.flags) }
 {
     let mut whole = Items::new(alloc);
     let flags = push_word(alloc, &mut whole, text)?;
