@@ -1,7 +1,7 @@
 -- The outcome is what is due, and what is written answers it.
-use Rattle.std.proofs.Common.{◌<◌, map, ⊎_elim, inl, inr, subst, arith}
+use Rattle.std.proofs.Common.{◌<◌, map, ⊎_elim, inl, inr, arith}
 use Rattle.std.specs.String.{string_bytes}
-use Rattle.affedit.specs.Due.{NamedFileFailed, due, told_or, names_in}
+use Rattle.affedit.specs.Due.{due, told_or, names_in}
 use Rattle.affedit.proofs.EndingLemmas.{failed-file, reported}
 use Rattle.affedit.proofs.run.run_check.Goals as goal
 
