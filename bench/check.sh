@@ -15,13 +15,15 @@ text() {
     awk -v lines="$1" "$words"' BEGIN { for (l = 0; l < lines; l++) { for (k = 0; k < 10; k++) { i = (l * 7 + k * 13) % 100; if (k == 9) i += 100; printf "%s%s", word(i), k == 9 ? "\n" : " " } } }'
 }
 
-"$top/affedit" check "$work/a.aff" "$work/a.dic" "$work/a.aff" > /dev/null || true
+# The launcher builds the program where it is missing; the program itself is timed.
+"$top/affedit" check "$work/a.aff" "$work/a.dic" "$work/a.dic" > /dev/null || [ $? -eq 1 ]
+program=$top/crates/affedit/out/affedit
 for lines in 15000 30000 60000; do
     text "$lines" > "$work/text"
     best=
     for _ in 1 2 3; do
         start=$(date +%s%N)
-        "$top/affedit" check "$work/a.aff" "$work/a.dic" "$work/text" > "$work/out" || true
+        "$program" check "$work/a.aff" "$work/a.dic" "$work/text" > "$work/out" || [ $? -eq 1 ]
         took=$((($(date +%s%N) - start) / 1000000))
         if [ -z "$best" ] || [ "$took" -lt "$best" ]; then
             best=$took
