@@ -1,5 +1,6 @@
 //! Whole runs over objects in memory.
 
+mod tables;
 mod words;
 
 use crate::run::run;
@@ -85,56 +86,6 @@ fn run_check_of<R: Threads + Wait + Sync>(
     run_words(rt, alloc, &words, &files, faults)
 }
 
-#[test]
-fn marks_the_words_of_a_text(rt: HostRuntime) -> Result<(), Fail> {
-    let cases: [(&[u8], &str, u8); 14] = [
-        (b"hello 2nd wrld", "1 10 14 wrld\n1 of 3\n", 1),
-        (b"hello\nwrld hello", "2 0 4 wrld\n1 of 3\n", 1),
-        (b"", "0 of 0\n", 0),
-        (b"hello 2nd\n", "0 of 2\n", 0),
-        (
-            b"\xef\xbb\xbfhello\r\n\r\nwrld\r\n",
-            "3 0 4 wrld\n1 of 2\n",
-            1,
-        ),
-        (b"\n\nhello\rwrld", "3 6 10 wrld\n1 of 2\n", 1),
-        (
-            b"don't 'hello' o''o 'tis",
-            "1 0 5 don't\n1 14 15 o\n1 17 18 o\n1 20 23 tis\n4 of 5\n",
-            1,
-        ),
-        (
-            "a\u{2019}b \u{2019}hello\u{2019} c\u{2019}".as_bytes(),
-            "1 0 5 a\u{2019}b\n1 18 19 c\n2 of 3\n",
-            1,
-        ),
-        (
-            "he\u{301}llo \u{301} \u{301}x".as_bytes(),
-            "1 0 7 he\u{301}llo\n1 11 14 \u{301}x\n2 of 2\n",
-            1,
-        ),
-        (
-            "\u{10400}\u{1d7d8} \u{43f}\u{440}\u{438}".as_bytes(),
-            "1 0 4 \u{10400}\n1 9 15 \u{43f}\u{440}\u{438}\n2 of 2\n",
-            1,
-        ),
-        (b"12 3a4", "1 3 6 3a4\n1 of 2\n", 1),
-        (
-            b"a-b c_d",
-            "1 0 1 a\n1 2 3 b\n1 4 5 c\n1 6 7 d\n4 of 4\n",
-            1,
-        ),
-        (b"hello'", "0 of 1\n", 0),
-        (b"2nd'2nd", "1 0 7 2nd'2nd\n1 of 1\n", 1),
-    ];
-    for (text, want, status) in cases {
-        let seen = run_check_of(&rt, rt.alloc(), AFF, DIC, text, NO_FAULTS)?;
-        assert_eq!(rt; seen.written.as_slice(), want.as_bytes(), "in {text:?}");
-        assert_eq!(rt; seen.status, status, "in {text:?}");
-    }
-    Ok(())
-}
-
 fn assert_checked<R: Threads + Wait + Sync + Abort>(
     rt: &R,
     alloc: Global,
@@ -154,69 +105,32 @@ fn assert_checked<R: Threads + Wait + Sync + Abort>(
     Ok(())
 }
 
+// Lines that end with a carriage return, a byte order mark, and bytes that are no text.
 #[test]
-fn refuses_dictionaries_with_the_first_fault(rt: HostRuntime) -> Result<(), Fail> {
-    let cases: [(&[u8], &[u8], &str); 40] = [
-        (b"SET UTF-8\nCOMPLEXPREFIXES\n", DIC, "aff 2 LeftOut\n"),
-        (b"COMPLEXPREFIXES\n", DIC, "aff 1 LeftOut\n"),
-        (b"SET ISO8859-1\n", DIC, "aff 1 OtherEncoding\n"),
-        (b"SET\n", DIC, "aff 1 MissingField\n"),
-        (b"SET UTF-8\n\nSET UTF-8\n", DIC, "aff 3 Twice\n"),
-        (b"WORDCHARS\n", DIC, "aff 1 MissingField\n"),
-        (b"WORDCHARS a\nWORDCHARS a\n", DIC, "aff 2 Twice\n"),
+fn reads_bytes_of_any_kind(rt: HostRuntime) -> Result<(), Fail> {
+    let alloc = rt.alloc();
+    let texts: [(&[u8], &str, u8); 3] = [
+        (b"hello 2nd\n", "0 of 2\n", 0),
+        (
+            b"\xef\xbb\xbfhello\r\n\r\nwrld\r\n",
+            "3 0 4 wrld\n1 of 2\n",
+            1,
+        ),
+        (b"\n\nhello\rwrld", "3 6 10 wrld\n1 of 2\n", 1),
+    ];
+    for (text, want, status) in texts {
+        assert_checked(&rt, alloc, AFF, DIC, text, want, status)?;
+    }
+    let refused: [(&[u8], &[u8], &str); 6] = [
         (b"# x\n\xff\nSFX A Y 0\n", DIC, "aff 2 NotUtf8\n"),
         (b"CHECKSHARPS\n\xff\n", DIC, "aff 2 NotUtf8\n"),
-        (b"NEEDAFFIX ab\nFLAG wide\n", DIC, "aff 2 OtherFlag\n"),
-        (b"NEEDAFFIX ab\n", DIC, "aff 1 BadFlag\n"),
-        (b"AF 2\nAF A\n", DIC, "aff 1 TableShort\n"),
-        (b"AF 65001\n", DIC, "aff 1 TooMany\n"),
-        (b"AF many\n", DIC, "aff 1 BadNumber\n"),
-        (b"FLAG\n", DIC, "aff 1 MissingField\n"),
-        (b"FLAG num\nFLAG num\n", DIC, "aff 2 Twice\n"),
-        (
-            b"SET UTF-8\nFLAG num\nPFX 65001 Y 0\n",
-            DIC,
-            "aff 3 BadFlag\n",
-        ),
-        (
-            b"SET UTF-8\nSFX A Y 3\nSFX A 0 s .\nSFX A 0 t .\n",
-            DIC,
-            "aff 2 TableShort\n",
-        ),
-        (b"SFX A Y 1\nSFX A 0 s [ab\n", DIC, "aff 2 BadCondition\n"),
-        (b"SFX S Y 4000000000\n", DIC, "aff 1 TooMany\n"),
-        (b"SFX S Y 99999999999\n", DIC, "aff 1 BadNumber\n"),
-        (
-            b"SFX S Y 2\nSFX S 0 s .\nSFX S 0 t .\nSFX S 0 u .\n",
-            DIC,
-            "aff 4 Twice\n",
-        ),
-        (b"SFX S X 0\n", DIC, "aff 1 BadCross\n"),
-        (
-            b"AF 2\nAF B\nAF AB\nSFX B Y 0\n",
-            b"3\nhello\ntry/1\nwork/3\n",
-            "dic 4 BadAlias\n",
-        ),
-        // A fault of the .aff file goes before those of the .dic file.
-        (b"WARN\n", b"", "aff 1 MissingField\n"),
-        (b"FLAG long\n", b"1\nfoo/abc\n", "dic 2 BadFlag\n"),
-        (b"FLAG num\n", b"1\nfoo/0\n", "dic 2 BadFlag\n"),
-        (b"AF 1\nAF X\n", b"1\nfoo/0\n", "dic 2 BadAlias\n"),
-        (b"AF 1\nAF X\n", b"1\nfoo/2\n", "dic 2 BadAlias\n"),
-        (b"AF 0\n", b"1\nfoo/X\n", "dic 2 BadAlias\n"),
-        (b"", b"1\n po:noun\n", "dic 2 EmptyWord\n"),
-        (b"IGNORE -\n", b"2\nfoo\n--\n", "dic 3 EmptyWord\n"),
-        (b"", b"1\nwork\n po:noun\n", "dic 3 EmptyWord\n"),
-        (b"", b"", "dic 1 BadCount\n"),
         (b"", b"\xef\xbb\xbf", "dic 1 BadCount\n"),
-        (b"", b"x\nwork\n", "dic 1 BadCount\n"),
-        (b"", b"\n1\n", "dic 1 BadCount\n"),
         (b"", b"\xff\n", "dic 1 NotUtf8\n"),
         (b"", b"x\n po:noun\n\xff\n", "dic 3 NotUtf8\n"),
         (b"", b"1\na/\n\xff\n", "dic 3 NotUtf8\n"),
     ];
-    for (aff, dic, want) in cases {
-        assert_checked(&rt, rt.alloc(), aff, dic, b"", want, 3)?;
+    for (aff, dic, want) in refused {
+        assert_checked(&rt, alloc, aff, dic, b"", want, 3)?;
     }
     Ok(())
 }
