@@ -86,27 +86,10 @@ fn entries_of(alloc: Global, rows: &str) -> Result<Entries, Fail> {
 }
 
 fn affixes_of(alloc: Global, full_strip: bool, rules: &str) -> Result<Affixes, Fail> {
-    Ok(Affixes {
-        kind: FlagKind::Single,
-        aliases: None,
-        rules: rules_of(alloc, rules)?,
-        signs: Signs {
-            need_affix: None,
-            circumfix: None,
-            forbidden: None,
-            keep_case: None,
-            warn: None,
-            only_inside: None,
-        },
-        options: Options {
-            full_strip,
-            forbid_warn: false,
-        },
-        ignore: Items::new(alloc),
-        wordchars: Items::new(alloc),
-        iconv: Items::new(alloc),
-        breaks: Items::new(alloc),
-    })
+    let mut affixes = Affixes::none(alloc, FlagKind::Single);
+    affixes.rules = rules_of(alloc, rules)?;
+    affixes.options.full_strip = full_strip;
+    Ok(affixes)
 }
 
 /// Whether a dictionary is one that the readers could give.

@@ -6,27 +6,9 @@ use std::test::Fail;
 
 /// What an .aff file says that has nothing but a type of flags and aliases.
 fn plain(alloc: Global, kind: FlagKind, aliases: Option<Items<FlagSet>>) -> Affixes {
-    Affixes {
-        kind,
-        aliases,
-        rules: Items::new(alloc),
-        signs: Signs {
-            need_affix: None,
-            circumfix: None,
-            forbidden: None,
-            keep_case: None,
-            warn: None,
-            only_inside: None,
-        },
-        options: Options {
-            full_strip: false,
-            forbid_warn: false,
-        },
-        ignore: Items::new(alloc),
-        wordchars: Items::new(alloc),
-        iconv: Items::new(alloc),
-        breaks: Items::new(alloc),
-    }
+    let mut affixes = Affixes::none(alloc, kind);
+    affixes.aliases = aliases;
+    affixes
 }
 
 /// Entries as `word: flag flag;` one after another, with the numbers of their flags, or a fault as its cause and

@@ -1,11 +1,18 @@
 //! The one list type of Affedit's values, and its one answer for want of memory.
 #![tactic(auto)]
 
-ghost use Rattle.std.specs.Prelude.{◌≡◌, [], ◌∷◌, ◌++◌, List, IfOk, OnOk, OnErr};
+ghost use Rattle.std.specs.Prelude.{◌≡◌, ◌==◌, ◌^◌, ◌<◌, [], ◌∷◌, ◌++◌, List, length, IfOk, OnOk, OnErr};
+ghost use Rattle.std.specs.Cmp.Lexicographic.{pointwise, lists_per, lists_equiv};
+ghost use Rattle.std.specs.Hash as fed;
+ghost use Rattle.std.specs.Hash.{items_Alike};
+ghost use Rattle.std.specs.Iterator.Runs.{EveryRun, ItemsMapTo};
+ghost use Rattle.std.specs.Slice.Iter.{iter_rest, iter_steps};
 
 use std::alloc::{AllocError, AllocFailed, Global};
 use std::default::MadeWith;
+use std::hash::{Hash, Hasher};
 use std::marker::Model;
+use std::slice;
 
 /// Memory for the answer could not be had. No other cause is ever merged with this one.
 #[derive(Clone, Copy, Debug, PartialEq, Eq)]
@@ -71,6 +78,65 @@ impl<T> Items<T> {
     {
         self.kept.as_slice()
     }
+
+    /// How many items there are.
+    pub fn len(&self) -> usize
+        ensures { result ≡ length self.now }
+    {
+        self.kept.len()
+    }
+
+    /// Whether there is no item.
+    pub fn is_empty(&self) -> bool
+        ensures { result ≡ (length self.now == 0) }
+    {
+        self.kept.is_empty()
+    }
+
+    /// The items, one after another.
+    pub fn iter(&self) -> slice::Iter<'_, T>
+        ensures items { iter_rest result ≡ self.now }
+        ensures runs { EveryRun (iter_steps {A = T}) (λ p. ItemsMapTo p (λ x. x.now) (iter_rest p.from)) }
+    {
+        self.as_slice().iter()
+    }
+}
+
+impl<'a, T> IntoIterator for &'a Items<T> {
+    type Item = &'a T;
+
+    type IntoIter = slice::Iter<'a, T>;
+
+    ghost into_iter_gives = { λ list it. (iter_rest it ≡ list.now)
+        × EveryRun (iter_steps {A = T}) (λ p. ItemsMapTo p (λ x. x.now) (iter_rest p.from)) };
+
+    fn into_iter(self) -> slice::Iter<'a, T> {
+        self.as_slice().iter()
+    }
+}
+
+impl<T: PartialEq> PartialEq for Items<T> {
+    ghost eq = { λ list other. pointwise T.eq list other };
+
+    ghost laws = { lists_per T.laws };
+
+    fn eq(&self, other: &Items<T>) -> bool {
+        self.as_slice() == other.as_slice()
+    }
+}
+
+impl<T: Eq> Eq for Items<T> {
+    ghost laws = { lists_equiv T.Eq.laws };
+}
+
+impl<T: Hash> Hash for Items<T> {
+    ghost hash_input = { λ list. fed.slice T.hash_input list };
+
+    ghost respects_eq = { (items_Alike (record { fed = T.respects_eq })).fed };
+
+    fn hash<H: Hasher>(&self, state: &mut H) {
+        self.as_slice().hash(state);
+    }
 }
 
 /// The empty list, for a collection that fills its unused places.
@@ -93,30 +159,73 @@ impl<T: Drop> Items<T> {
     }
 }
 
+impl<T: Copied + Drop> Items<T> {
+    /// Adds copies of these items at the end. Where memory is wanting the list stays.
+    pub fn extend_from_slice(&mut self, alloc: Global, items: &[T]) -> Result<(), NoMemory>
+        ensures ok { OnOk result (self.new ≡ self.old ++ items.now) }
+        ensures err { OnErr result (self.new ≡ self.old) }
+    {
+        let mut copies = copies_of(alloc, items)?;
+        self.kept.append(&mut copies)?;
+        Ok(())
+    }
+}
+
+/// Copies of these items.
+fn copies_of<T: Copied + Drop>(alloc: Global, items: &[T]) -> Result<Vec<T>, NoMemory>
+    ensures { IfOk result (λ copies. copies.items ≡ items.now) }
+{
+    let mut copies = Vec::new(alloc);
+    for item in items {
+        copies.push(item.copy(alloc)?)?;
+    }
+    Ok(copies)
+}
+
 impl<T: Copied + Drop> Copied for Items<T> {
     fn copy(&self, alloc: Global) -> Result<Items<T>, NoMemory> {
-        let mut made = Items::new(alloc);
-        for item in self.as_slice() {
-            made.push(item.copy(alloc)?)?;
-        }
-        Ok(made)
+        Ok(Items::from_vec(copies_of(alloc, self.as_slice())?))
     }
 }
 
 #[cfg(test)]
 mod tests {
     use super::*;
+    use std::collections::HashMap;
     use std::test::Fail;
 
     #[test]
-    fn pushes_and_copies(rt: HostRuntime) -> Result<(), Fail> {
-        let mut word = Items::new(rt.alloc());
+    fn pushes_copies_and_walks(rt: HostRuntime) -> Result<(), Fail> {
+        let alloc = rt.alloc();
+        let mut word = Items::new(alloc);
+        assert!(rt; word.is_empty());
         word.push('a')?;
-        word.push('\u{2019}')?;
-        let made = word.copy(rt.alloc())?;
-        let same = Items::from_vec(['a', '\u{2019}'].to_vec(rt.alloc())?);
-        assert_eq!(rt; same.as_slice(), made.as_slice());
-        assert_eq!(rt; made.as_slice(), ['a', '\u{2019}'].as_slice());
+        word.extend_from_slice(alloc, &['\u{2019}', 'b'])?;
+        let made = word.copy(alloc)?;
+        let same = Items::from_vec(['a', '\u{2019}', 'b'].to_vec(alloc)?);
+        assert!(rt; made == same);
+        assert_eq!(rt; made.len(), 3);
+        assert_eq!(rt; made.iter().copied().last(), Some('b'));
+        let mut count = 0;
+        for c in &made {
+            if *c != 'b' {
+                count += 1;
+            }
+        }
+        assert_eq!(rt; count, 2);
+        Ok(())
+    }
+
+    // A list is a key of maps by its items.
+    #[test]
+    fn is_found_by_its_items(rt: HostRuntime) -> Result<(), Fail> {
+        let alloc = rt.alloc();
+        let mut places = HashMap::new(alloc);
+        for (place, text) in [['a', 'b'], ['b', 'a']].iter().enumerate() {
+            places.insert(Items::from_vec(text.to_vec(alloc)?), place)?;
+        }
+        let key = Items::from_vec(['b', 'a'].to_vec(alloc)?);
+        assert_eq!(rt; places.get(&key).copied(), Some(1));
         Ok(())
     }
 }

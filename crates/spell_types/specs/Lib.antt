@@ -5,6 +5,7 @@ pub mod Cases
 pub mod Conditions
 pub mod Conversions
 pub mod Derivations
+pub mod Empty
 pub mod Flags
 pub mod Licences
 pub mod Numbers

@@ -1,6 +1,9 @@
 //! The types of a dictionary. Their meaning stands in `specs/`, one module for each idea.
 #![tactic(auto)]
 
+ghost use Rattle.std.specs.Prelude.{◌≡◌};
+ghost use Rattle.spell_types.specs.Empty.{no_affixes};
+
 mod attaching;
 mod breaks;
 mod conversions;
@@ -59,6 +62,26 @@ pub struct Affixes {
     pub iconv: Items<Conversion>,
     /// Where words may be broken: the option BREAK of hunspell(5).
     pub breaks: Items<Anchored>,
+}
+
+impl Affixes {
+    /// No rule, no sign, no option and no table, where flags are written so. The .aff file that says nothing has break
+    /// points beside.
+    pub fn none(alloc: Global, kind: FlagKind) -> Affixes
+        ensures { result ≡ no_affixes kind }
+    {
+        Affixes {
+            kind,
+            aliases: None,
+            rules: Items::new(alloc),
+            signs: Signs::none(),
+            options: Options::none(),
+            ignore: Items::new(alloc),
+            wordchars: Items::new(alloc),
+            iconv: Items::new(alloc),
+            breaks: Items::new(alloc),
+        }
+    }
 }
 
 /// A dictionary: what its two files say.

@@ -1,4 +1,8 @@
 //! The flags with a meaning of their own, and the switches of a dictionary.
+
+ghost use Rattle.std.specs.Prelude.{◌≡◌};
+ghost use Rattle.spell_types.specs.Empty.{no_signs, no_options};
+
 use crate::Flag;
 
 /// The flags that the options of hunspell(5) give a meaning; none where the .aff file has no such line.
@@ -18,6 +22,22 @@ pub struct Signs {
     pub only_inside: Option<Flag>,
 }
 
+impl Signs {
+    /// No flag has a meaning.
+    pub fn none() -> Signs
+        ensures { result ≡ no_signs }
+    {
+        Signs {
+            need_affix: None,
+            circumfix: None,
+            forbidden: None,
+            keep_case: None,
+            warn: None,
+            only_inside: None,
+        }
+    }
+}
+
 /// The switches of hunspell(5).
 #[derive(Clone, Copy, Debug, PartialEq, Eq)]
 pub struct Options {
@@ -25,4 +45,16 @@ pub struct Options {
     pub full_strip: bool,
     /// FORBIDWARN: rare words are refused.
     pub forbid_warn: bool,
+}
+
+impl Options {
+    /// No switch is set.
+    pub fn none() -> Options
+        ensures { result ≡ no_options }
+    {
+        Options {
+            full_strip: false,
+            forbid_warn: false,
+        }
+    }
 }

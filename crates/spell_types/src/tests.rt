@@ -87,27 +87,17 @@ fn lexicon_of(
     rules: &str,
     entries: &str,
 ) -> Result<Lexicon, Fail> {
-    let affixes = Affixes {
-        kind: FlagKind::Single,
-        aliases: None,
-        rules: rules_of(alloc, rules)?,
-        signs: Signs {
-            need_affix: Some(flag_of('n')),
-            circumfix: Some(flag_of('c')),
-            forbidden: Some(flag_of('f')),
-            keep_case: None,
-            warn: Some(flag_of('w')),
-            only_inside: Some(flag_of('o')),
-        },
-        options: Options {
-            full_strip: false,
-            forbid_warn,
-        },
-        ignore: Items::new(alloc),
-        wordchars: Items::new(alloc),
-        iconv: Items::new(alloc),
-        breaks: Items::new(alloc),
+    let mut affixes = Affixes::none(alloc, FlagKind::Single);
+    affixes.rules = rules_of(alloc, rules)?;
+    affixes.signs = Signs {
+        need_affix: Some(flag_of('n')),
+        circumfix: Some(flag_of('c')),
+        forbidden: Some(flag_of('f')),
+        warn: Some(flag_of('w')),
+        only_inside: Some(flag_of('o')),
+        ..Signs::none()
     };
+    affixes.options.forbid_warn = forbid_warn;
     Ok(Lexicon {
         affixes,
         entries: entries_of(alloc, entries)?,

@@ -79,27 +79,15 @@ fn breaks_of(alloc: Global) -> Result<Items<Anchored>, Fail> {
 }
 
 fn affixes_of(alloc: Global, wordchars: &str) -> Result<Affixes, Fail> {
-    Ok(Affixes {
-        kind: FlagKind::Single,
-        aliases: None,
-        rules: rules_of(alloc)?,
-        signs: Signs {
-            need_affix: None,
-            circumfix: None,
-            forbidden: Some(flag_of('Z')),
-            keep_case: Some(flag_of('K')),
-            warn: None,
-            only_inside: None,
-        },
-        options: Options {
-            full_strip: false,
-            forbid_warn: false,
-        },
-        ignore: chars_of(alloc, "*")?,
-        wordchars: chars_of(alloc, wordchars)?,
-        iconv: iconv_of(alloc)?,
-        breaks: breaks_of(alloc)?,
-    })
+    let mut affixes = Affixes::none(alloc, FlagKind::Single);
+    affixes.rules = rules_of(alloc)?;
+    affixes.signs.forbidden = Some(flag_of('Z'));
+    affixes.signs.keep_case = Some(flag_of('K'));
+    affixes.ignore = chars_of(alloc, "*")?;
+    affixes.wordchars = chars_of(alloc, wordchars)?;
+    affixes.iconv = iconv_of(alloc)?;
+    affixes.breaks = breaks_of(alloc)?;
+    Ok(affixes)
 }
 
 /// Whether a dictionary is one that the readers could give.
