@@ -72,11 +72,13 @@ meets_circumfix circumfix n =
 abbrev pub meets_signs : Signs → Named → Bool
 meets_signs signs n = is_allowed n && (meets_need signs.need_affix n && meets_circumfix signs.circumfix n)
 
+-- whether an affix carries the flag
+abbrev pub some_affix_carries : Option Flag → Named → Bool
+some_affix_carries flag n = has (carried_by n.prefix) flag || (has (carried_by n.first) flag || has (carried_by n.second) flag)
+
 -- whether the entry or an affix carries the flag
 abbrev pub some_carry : Option Flag → Named → Bool
-some_carry flag n =
-    has n.entry.flags flag
-    || (has (carried_by n.prefix) flag || (has (carried_by n.first) flag || has (carried_by n.second) flag))
+some_carry flag n = has n.entry.flags flag || some_affix_carries flag n
 
 -- The entry is no forbidden word, nothing stands in compounds only, and a rare word is not refused.
 abbrev pub may_stand_alone : Affixes → Named → Bool
@@ -88,6 +90,14 @@ may_stand_alone affixes n =
 abbrev pub holds_of : (Named → Bool) → Option Named → Bool
 holds_of holds None = false
 holds_of holds (Some n) = holds n
+
+-- whether the derivation's entry has the flag
+unfoldable pub has_entry_with : Option Flag → Lexicon → Derivation → Bool
+has_entry_with flag lexicon d = holds_of (λ n. has n.entry.flags flag) (named lexicon d)
+
+-- whether an affix of the derivation carries the flag
+unfoldable pub has_affix_with : Option Flag → Lexicon → Derivation → Bool
+has_affix_with flag lexicon d = holds_of (some_affix_carries flag) (named lexicon d)
 
 -- who allows which affix
 unfoldable pub is_licensed : Lexicon → Derivation → Bool
@@ -133,7 +143,3 @@ is_barred lexicon word = is_derived is_forbidden lexicon word
 
 abbrev pub IsBarred : Lexicon → List ℕ → Type 0
 IsBarred lexicon word = IsTrue (is_barred lexicon word)
-
--- whether the word is the form of a derivation that stands as a word
-unfoldable pub stands_alone : Lexicon → List ℕ → Bool
-stands_alone lexicon word = is_derived is_alone lexicon word

@@ -21,7 +21,9 @@ pub use breaks::Anchored;
 pub use conversions::Conversion;
 pub use derivations::{Derivation, form};
 pub use flags::{Flag, FlagKind, FlagSet, has, sets_have_their_flags};
-pub use licences::{alone, alone_in_case, forbidden, licensed, sound};
+pub use licences::{
+    alone, alone_in_case, forbidden, has_affix_with, has_entry_with, licensed, sound,
+};
 use lists::{Copied, Items, NoMemory};
 pub use rules::{Condition, Piece, Rule, Side};
 pub use signs::{Options, Signs};

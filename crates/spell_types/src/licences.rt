@@ -2,9 +2,9 @@
 
 ghost use Rattle.std.specs.Prelude.{◌≡◌};
 ghost use Rattle.std.specs.Option.{option_map};
-ghost use Rattle.spell_types.specs.Bases.{may_stand_in_case, is_alone_in_case};
+ghost use Rattle.spell_types.specs.Bases.{is_alone_in_case};
 ghost use Rattle.spell_types.specs.Flags.{has};
-ghost use Rattle.spell_types.specs.Licences.{carried_by, allows, crosses, is_affix_without, has_affix, meets_need, meets_circumfix, some_carry, is_first_allowed, is_second_allowed, is_prefix_allowed, is_crossing_right, is_allowed, meets_signs, may_stand_alone, is_licensed, is_sound, is_alone, is_forbidden};
+ghost use Rattle.spell_types.specs.Licences.{carried_by, allows, crosses, is_affix_without, has_affix, meets_need, meets_circumfix, some_affix_carries, some_carry, has_entry_with, has_affix_with, is_first_allowed, is_second_allowed, is_prefix_allowed, is_crossing_right, is_allowed, meets_signs, may_stand_alone, is_licensed, is_sound, is_alone, is_forbidden};
 
 use crate::derivations::{Named, named_by};
 use crate::{Affixes, Derivation, Flag, FlagSet, Lexicon, Rule, Signs, has};
@@ -43,15 +43,35 @@ pub fn alone(lexicon: &Lexicon, d: &Derivation) -> bool
     }
 }
 
-/// Whether a derivation stands as a word that may be written in another case, which `by_case` says: the option KEEPCASE
+/// Whether a derivation stands as a word for a word that is written so, where `spelling` is its form: the option KEEPCASE
 /// of hunspell(5).
 #[tactic(auto, unfolding(crate::specs::Bases::is_alone_in_case))]
-pub fn alone_in_case(by_case: bool, lexicon: &Lexicon, d: &Derivation) -> bool
-    ensures { result ≡ is_alone_in_case by_case lexicon.now d.now }
+pub fn alone_in_case(written: &[char], spelling: &[char], lexicon: &Lexicon, d: &Derivation) -> bool
+    ensures { result ≡ is_alone_in_case written.now spelling.now lexicon.now d.now }
+{
+    alone(lexicon, d)
+        && (spelling == written || !has_entry_with(lexicon.affixes.signs.keep_case, lexicon, d))
+}
+
+/// Whether a derivation's entry has the flag, if it is given.
+#[tactic(auto, unfolding(crate::specs::Licences::has_entry_with))]
+pub fn has_entry_with(flag: Option<Flag>, lexicon: &Lexicon, d: &Derivation) -> bool
+    ensures { result ≡ has_entry_with flag lexicon.now d.now }
 {
     match named_by(lexicon, d) {
         None => false,
-        Some(n) => may_stand_in_case(by_case, lexicon, &n),
+        Some(n) => has(&n.entry.flags, flag),
+    }
+}
+
+/// Whether an affix of a derivation carries the flag, if it is given.
+#[tactic(auto, unfolding(crate::specs::Licences::has_affix_with))]
+pub fn has_affix_with(flag: Option<Flag>, lexicon: &Lexicon, d: &Derivation) -> bool
+    ensures { result ≡ has_affix_with flag lexicon.now d.now }
+{
+    match named_by(lexicon, d) {
+        None => false,
+        Some(n) => some_affix_carries(flag, &n),
     }
 }
 
@@ -144,24 +164,18 @@ fn may_stand_alone(affixes: &Affixes, n: &Named) -> bool
         && !(affixes.options.forbid_warn && has(&n.entry.flags, affixes.signs.warn))
 }
 
-/// Whether nothing bars a derivation from standing as a word, which is written in another case or is not.
-fn may_stand_in_case(by_case: bool, lexicon: &Lexicon, n: &Named) -> bool
-    ensures { result ≡ may_stand_in_case by_case lexicon.now n.now }
-{
-    let signs = &lexicon.affixes.signs;
-    meets_signs(signs, n)
-        && may_stand_alone(&lexicon.affixes, n)
-        && !(by_case && has(&n.entry.flags, signs.keep_case))
-}
-
 /// Whether the entry or an affix carries the flag.
 fn some_carry(flag: Option<Flag>, n: &Named) -> bool
     ensures { result ≡ some_carry flag n.now }
 {
-    has(&n.entry.flags, flag)
-        || carries(n.prefix, flag)
-        || carries(n.first, flag)
-        || carries(n.second, flag)
+    has(&n.entry.flags, flag) || some_affix_carries(flag, n)
+}
+
+/// Whether an affix carries the flag.
+fn some_affix_carries(flag: Option<Flag>, n: &Named) -> bool
+    ensures { result ≡ some_affix_carries flag n.now }
+{
+    carries(n.prefix, flag) || carries(n.first, flag) || carries(n.second, flag)
 }
 
 fn has_affix(n: &Named) -> bool

@@ -6,7 +6,7 @@ use Rattle.spell_types.specs.declared.Lexicon.{Lexicon}
 use Rattle.spell_types.specs.declared.breaks.Anchored.{Anchored}
 use Rattle.spell_types.specs.Bases.{is_base, is_right_spelling}
 use Rattle.spell_types.specs.Breaks.{is_broken}
-use Rattle.spell_types.specs.Cases.{is_same_word, covered_by}
+use Rattle.spell_types.specs.Cases.{covered_by}
 use Rattle.spell_types.specs.Conditions.{is_one_of}
 use Rattle.spell_types.specs.Licences.{is_barred}
 use Rattle.spell_types.specs.Numbers.{is_number, undotted, is_dot}
@@ -31,7 +31,7 @@ barred-by false false word = refl
 barred-no_base : (lexicon : Lexicon) (word : List ℕ) → is_barred lexicon word ≡ true → is_base lexicon word ≡ false
 unfolding is_base
 barred-no_base lexicon word barred =
-    ap (λ b. not b && list_any (λ s. is_right_spelling lexicon (not (is_same_word s word)) s) (covered_by word)) barred
+    ap (λ b. not b && list_any (is_right_spelling lexicon word) (covered_by word)) barred
 
 pub broken_as_judged : (lexicon : Lexicon) (breaks : List Anchored) (word : List ℕ) → breaks ≡ lexicon.affixes.breaks
     → is_broken (is_base_by (judged lexicon)) (is_barred_by (judged lexicon)) breaks word ≡ is_broken_by lexicon word

@@ -1,15 +1,14 @@
 -- What holds of one of the licensed derivations of a word holds of one of all.
-use Rattle.std.proofs.Common.{◌≡◌, ℕ, Bool, true, false, cond, not, ◌&&◌, ◌||◌, List, [], ◌∷◌, ◌++◌, Option, Some, None, refl, ap, sym, ◌∙◌}
+use Rattle.std.proofs.Common.{◌≡◌, ℕ, Bool, true, false, cond, not, ◌&&◌, ◌||◌, List, [], ◌∷◌, Option, Some, None, refl, ap, sym, ◌∙◌}
 use Rattle.std.specs.List.{filter, list_any}
-use Rattle.std.proofs.lemmas.Slice.Eq.{bytes_eq-Decides}
 use Rattle.spell_types.specs.declared.Lexicon.{Lexicon}
 use Rattle.spell_types.specs.declared.derivations.Derivation.{Derivation}
 use Rattle.spell_types.specs.Bases.{is_alone_in_case, is_right_spelling, is_base}
-use Rattle.spell_types.specs.Cases.{is_same_word, covered_by, without_repeats, spellings_of_capital, spellings_of_capitals}
+use Rattle.spell_types.specs.Cases.{covered_by}
 use Rattle.spell_types.specs.Derivations.{Named, named, all_derivations}
-use Rattle.spell_types.specs.Licences.{is_allowed, holds_of, has_form, is_licensed, is_derived, is_forbidden, is_barred}
+use Rattle.spell_types.specs.Licences.{is_allowed, holds_of, has_form, is_alone, is_licensed, is_derived, is_forbidden, is_barred}
 use Rattle.affix_strip.specs.Found.{derivations_of}
-use Rattle.word_verdict.specs.Judging.{judged, judged_by, behind_first, covers_right_spelling}
+use Rattle.word_verdict.specs.Judging.{judged, judged_by, covers_right_spelling}
 
 and-left : (a b : Bool) → (a && b) ≡ true → a ≡ true
 and-left true b both = refl
@@ -25,9 +24,11 @@ forbidden-licensed : (lexicon : Lexicon) (d : Derivation) → is_forbidden lexic
 unfolding is_forbidden is_licensed
 forbidden-licensed lexicon d = has-licence _ (λ n holds. and-left (is_allowed n) _ (and-left _ _ holds)) (named lexicon d)
 
-alone-licensed : (by_case : Bool) (lexicon : Lexicon) (d : Derivation) → is_alone_in_case by_case lexicon d ≡ true → is_licensed lexicon d ≡ true
-unfolding is_alone_in_case is_licensed
-alone-licensed by_case lexicon d = has-licence _ (λ n holds. and-left (is_allowed n) _ (and-left _ _ holds)) (named lexicon d)
+alone-licensed : (written spelling : List ℕ) (lexicon : Lexicon) (d : Derivation) → is_alone_in_case written spelling lexicon d ≡ true
+    → is_licensed lexicon d ≡ true
+unfolding is_alone_in_case is_alone is_licensed
+alone-licensed written spelling lexicon d in_case =
+    has-licence _ (λ n holds. and-left (is_allowed n) _ (and-left _ _ holds)) (named lexicon d) (and-left _ _ in_case)
 
 -- with a licence the test for one adds nothing
 same-test : (holds licensed form : Bool) → (holds ≡ true → licensed ≡ true) → (holds && (licensed && form)) ≡ (holds && form)
@@ -64,53 +65,18 @@ barred_as_found lexicon word found is =
     ∙ any-licensed (is_forbidden lexicon) (is_licensed lexicon) (has_form lexicon word) (forbidden-licensed lexicon) (all_derivations lexicon)
 
 -- a word is derived from an entry by itself if one of its derivations stands as a word
-pub alone_as_found : (by_case : Bool) (lexicon : Lexicon) (word : List ℕ) (found : List Derivation) → found ≡ derivations_of lexicon word
-    → list_any (is_alone_in_case by_case lexicon) found ≡ is_derived (is_alone_in_case by_case) lexicon word
+pub alone_as_found : (written : List ℕ) (lexicon : Lexicon) (word : List ℕ) (found : List Derivation) → found ≡ derivations_of lexicon word
+    → list_any (is_alone_in_case written word lexicon) found ≡ is_derived (is_alone_in_case written word) lexicon word
 unfolding derivations_of
-alone_as_found by_case lexicon word found is =
-    ap (list_any (is_alone_in_case by_case lexicon)) is
-    ∙ any-licensed (is_alone_in_case by_case lexicon) (is_licensed lexicon) (has_form lexicon word) (alone-licensed by_case lexicon) (all_derivations lexicon)
+alone_as_found written lexicon word found is =
+    ap (list_any (is_alone_in_case written word lexicon)) is
+    ∙ any-licensed (is_alone_in_case written word lexicon) (is_licensed lexicon) (has_form lexicon word) (alone-licensed written word lexicon) (all_derivations lexicon)
 
--- words as themselves and as each other
-
-same-word : (word : List ℕ) → is_same_word word word ≡ true
-same-word word = (bytes_eq-Decides word word).1 refl
-
-other-word : (word other : List ℕ) (b : Bool) → is_same_word word other ≡ false → is_same_word other word ≡ b → b ≡ false
-other-word word other false differs is = refl
-other-word word other true differs is =
-    absurd (cc (sym differs ∙ (bytes_eq-Decides word other).1 (sym ((bytes_eq-Decides other word).0 is))))
-
-parted-in_case : (right : Bool → List ℕ → Bool) (word other : List ℕ) (rest : List (List ℕ)) (b : Bool) → is_same_word word other ≡ b
-    → list_any (λ s. right (not (is_same_word s word)) s) rest ≡ list_any (right true) rest
-    → list_any (λ s. right (not (is_same_word s word)) s) (cond (not b) (other ∷ rest) rest) ≡ list_any (right true) (cond (not b) (other ∷ rest) rest)
-parted-in_case right word other rest true is same = same
-parted-in_case right word other rest false is same =
-    ap (λ b. right (not b) other || list_any (λ s. right (not (is_same_word s word)) s) rest)
-    (other-word word other (is_same_word other word) is refl)
-    ∙ ap (λ some. right true other || some) same
-
--- Of the other words none is this word, so that each is in another case.
-others-in_case : (right : Bool → List ℕ → Bool) (word : List ℕ) (others : List (List ℕ))
-    → list_any (λ s. right (not (is_same_word s word)) s) (filter (λ other. not (is_same_word word other)) others)
-    ≡ list_any (right true) (filter (λ other. not (is_same_word word other)) others)
-others-in_case right word [] = refl
-others-in_case right word (other ∷ more) =
-    parted-in_case right word other (filter (λ o. not (is_same_word word o)) more) (is_same_word word other) refl (others-in_case right word more)
-
--- a covered spelling is right if the word as it is written is, or another one
-covered-parted : (right : Bool → List ℕ → Bool) (word : List ℕ)
-    → list_any (λ s. right (not (is_same_word s word)) s) (covered_by word) ≡ (right false word || list_any (right true) (behind_first (covered_by word)))
-unfolding covered_by
-covered-parted right word =
-    let others = filter (λ other. not (is_same_word word other)) (without_repeats (spellings_of_capital word ++ spellings_of_capitals word)) in
-    ap (λ b. right (not b) word || list_any (λ s. right (not (is_same_word s word)) s) others) (same-word word)
-    ∙ ap (λ rest. right false word || rest) (others-in_case right word (without_repeats (spellings_of_capital word ++ spellings_of_capitals word)))
-
+-- the first spelling that a word covers is the word as it is written
 base-parted : (lexicon : Lexicon) (word : List ℕ)
-    → is_base lexicon word ≡ (not (is_barred lexicon word) && (is_right_spelling lexicon false word || covers_right_spelling lexicon word))
-unfolding is_base covers_right_spelling
-base-parted lexicon word = ap (λ some. not (is_barred lexicon word) && some) (covered-parted (is_right_spelling lexicon) word)
+    → is_base lexicon word ≡ (not (is_barred lexicon word) && (is_right_spelling lexicon word word || covers_right_spelling lexicon word))
+unfolding is_base covers_right_spelling covered_by
+base-parted lexicon word = refl
 
 judged-parted : (barred alone covers right base : Bool) → right ≡ (not barred && alone) → base ≡ (not barred && (right || covers))
     → judged_by barred base ≡ judged_by barred (alone || covers)
@@ -119,11 +85,11 @@ judged-parted false alone covers right base r b = ap (judged_by false) (b ∙ ap
 
 -- what a piece is, by what was found of it
 pub judged_is : (lexicon : Lexicon) (word : List ℕ) (barred alone covers : Bool) → barred ≡ is_barred lexicon word
-    → alone ≡ is_derived (is_alone_in_case false) lexicon word → covers ≡ covers_right_spelling lexicon word
+    → alone ≡ is_derived (is_alone_in_case word word) lexicon word → covers ≡ covers_right_spelling lexicon word
     → judged_by barred (alone || covers) ≡ judged lexicon word
 unfolding judged is_right_spelling
 judged_is lexicon word barred alone covers b a c =
     ap (λ x. judged_by x (alone || covers)) b ∙ ap (λ x. judged_by (is_barred lexicon word) (x || covers)) a
-    ∙ ap (λ x. judged_by (is_barred lexicon word) (is_derived (is_alone_in_case false) lexicon word || x)) c
-    ∙ sym (judged-parted (is_barred lexicon word) (is_derived (is_alone_in_case false) lexicon word) (covers_right_spelling lexicon word)
-    (is_right_spelling lexicon false word) (is_base lexicon word) refl (base-parted lexicon word))
+    ∙ ap (λ x. judged_by (is_barred lexicon word) (is_derived (is_alone_in_case word word) lexicon word || x)) c
+    ∙ sym (judged-parted (is_barred lexicon word) (is_derived (is_alone_in_case word word) lexicon word) (covers_right_spelling lexicon word)
+    (is_right_spelling lexicon word word) (is_base lexicon word) refl (base-parted lexicon word))

@@ -1,5 +1,5 @@
 -- What is said of a piece of a word, and how it is found.
-use Rattle.std.specs.Prelude.{ℕ, Bool, true, List, [], ◌∷◌, if◌then◌else◌}
+use Rattle.std.specs.Prelude.{ℕ, Bool, List, [], ◌∷◌, if◌then◌else◌}
 use Rattle.std.specs.List.{list_any}
 use Rattle.spell_types.specs.declared.Lexicon.{Lexicon}
 use Rattle.spell_types.specs.Bases.{is_base, is_right_spelling}
@@ -23,4 +23,4 @@ behind_first (written ∷ others) = others
 
 -- whether another spelling than the written one, which the word covers, is right
 unfoldable pub covers_right_spelling : Lexicon → List ℕ → Bool
-covers_right_spelling lexicon word = list_any (is_right_spelling lexicon true) (behind_first (covered_by word))
+covers_right_spelling lexicon word = list_any (is_right_spelling lexicon word) (behind_first (covered_by word))

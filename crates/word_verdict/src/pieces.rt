@@ -26,7 +26,7 @@ struct Standing {
 pub(crate) fn judge_piece(alloc: Global, stems: &Stems, piece: &[char]) -> Result<Judged, NoMemory>
     ensures { IfOk result (λ answer. answer ≡ judged stems.now piece.now) }
 {
-    let written = standing_of(alloc, stems, false, piece)?;
+    let written = standing_of(alloc, stems, piece, piece)?;
     if written.barred {
         return Ok(Judged::Barred);
     }
@@ -46,49 +46,59 @@ fn covers_right_spelling(alloc: Global, stems: &Stems, word: &[char]) -> Result<
 {
     let spellings = covered(alloc, word)?;
     match spellings.as_slice() {
-        [_, others @ ..] => one_is_right(alloc, stems, others),
+        [_, others @ ..] => one_is_right(alloc, stems, word, others),
         [] => Ok(false),
     }
 }
 
-/// Whether one of these spellings, which differ in case from the word as it is written, is right.
-fn one_is_right(alloc: Global, stems: &Stems, spellings: &[Chars]) -> Result<bool, NoMemory>
+/// Whether one of these spellings is right for the word that is written so.
+fn one_is_right(
+    alloc: Global,
+    stems: &Stems,
+    written: &[char],
+    spellings: &[Chars],
+) -> Result<bool, NoMemory>
     ensures { IfOk result (λ answer.
-        answer ≡ list_any (is_right_spelling stems.now true) spellings.now) }
+        answer ≡ list_any (is_right_spelling stems.now written.now) spellings.now) }
 {
     for spelling in spellings {
-        if is_right(alloc, stems, spelling.as_slice())? {
+        if is_right(alloc, stems, written, spelling.as_slice())? {
             return Ok(true);
         }
     }
     Ok(false)
 }
 
-/// Whether a spelling that differs in case from the word as it is written is right.
+/// Whether a spelling is right for the word that is written so.
 #[tactic(auto, unfolding(spell_types::specs::Bases::is_right_spelling))]
-fn is_right(alloc: Global, stems: &Stems, spelling: &[char]) -> Result<bool, NoMemory>
-    ensures { IfOk result (λ answer. answer ≡ is_right_spelling stems.now true spelling.now) }
+fn is_right(
+    alloc: Global,
+    stems: &Stems,
+    written: &[char],
+    spelling: &[char],
+) -> Result<bool, NoMemory>
+    ensures { IfOk result (λ answer. answer ≡ is_right_spelling stems.now written.now spelling.now) }
 {
-    let standing = standing_of(alloc, stems, true, spelling)?;
+    let standing = standing_of(alloc, stems, written, spelling)?;
     Ok(!standing.barred && standing.alone)
 }
 
-/// What the derivations of a word say, if it is written in another case or if it is not.
+/// What the derivations of a spelling say of the word that is written so.
 fn standing_of(
     alloc: Global,
     stems: &Stems,
-    by_case: bool,
-    word: &[char],
+    written: &[char],
+    spelling: &[char],
 ) -> Result<Standing, NoMemory>
-    ensures barred { IfOk result (λ standing. standing.barred ≡ is_barred stems.now word.now) }
+    ensures barred { IfOk result (λ standing. standing.barred ≡ is_barred stems.now spelling.now) }
     ensures alone { IfOk result (λ standing.
-        standing.alone ≡ is_derived (is_alone_in_case by_case) stems.now word.now) }
+        standing.alone ≡ is_derived (is_alone_in_case written.now spelling.now) stems.now spelling.now) }
 {
-    let found = stems.derivations(alloc, word)?;
+    let found = stems.derivations(alloc, spelling)?;
     let lexicon = stems.lexicon();
     Ok(Standing {
         barred: one_is_forbidden(lexicon, found.as_slice()),
-        alone: one_is_alone(by_case, lexicon, found.as_slice()),
+        alone: one_is_alone(written, spelling, lexicon, found.as_slice()),
     })
 }
 
@@ -99,9 +109,16 @@ fn one_is_forbidden(lexicon: &Lexicon, found: &[Derivation]) -> bool
     found.iter().any(|d| forbidden(lexicon, d))
 }
 
-/// Whether one of the derivations stands as a word, which is written in another case or is not.
-fn one_is_alone(by_case: bool, lexicon: &Lexicon, found: &[Derivation]) -> bool
-    ensures { result ≡ list_any (is_alone_in_case by_case lexicon.now) found.now }
+/// Whether one of the derivations, whose form is the spelling, stands as a word for the word that is written so.
+fn one_is_alone(
+    written: &[char],
+    spelling: &[char],
+    lexicon: &Lexicon,
+    found: &[Derivation],
+) -> bool
+    ensures { result ≡ list_any (is_alone_in_case written.now spelling.now lexicon.now) found.now }
 {
-    found.iter().any(|d| alone_in_case(by_case, lexicon, d))
+    found
+        .iter()
+        .any(|d| alone_in_case(written, spelling, lexicon, d))
 }
