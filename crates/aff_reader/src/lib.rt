@@ -16,7 +16,7 @@ use aff_lines::{
 pub use classes::classes_have_their_rules;
 use classes::{class_fault, read_rules};
 use lists::{Items, NoMemory};
-use spell_types::{Affixes, Chars, FlagKind, FlagSet, Options, Signs, chars_of};
+use spell_types::{Affixes, Chars, FlagKind, FlagSet, Options, Signs, alias_sets, chars_of};
 use std::alloc::Global;
 use tables::{read_breaks, read_conversions};
 
@@ -60,7 +60,7 @@ fn read_passes(alloc: Global, bytes: &[u8]) -> Result<Affixes, AffFault>
         kept,
     } = read_directives(alloc, bytes)?;
     let rows = kept.as_slice();
-    if let Some(fault) = late_fault(alloc, kind, aliases_of(&aliases), rows)? {
+    if let Some(fault) = late_fault(alloc, kind, alias_sets(&aliases), rows)? {
         return Err(AffFault::At {
             line: fault.line,
             why: fault.why,
@@ -84,13 +84,6 @@ fn late_fault(
     Ok(sooner(find_fault(kind, rows, Pass::Fourth), fault))
 }
 
-/// The sets that ordinals stand for, if the file has aliases.
-fn aliases_of(aliases: &Option<Items<FlagSet>>) -> Option<&[FlagSet]>
-    ensures { option_copied result ≡ aliases.now }
-{
-    aliases.as_ref().map(|sets| sets.as_slice())
-}
-
 /// What rows without faults say.
 fn read_affixes(
     alloc: Global,
@@ -105,7 +98,7 @@ fn read_affixes(
     ensures ordinary { IfSome aliases (All AreOrdinary) → IfOk result HasOrdinaryFlags }
 {
     let ignore = characters_of(alloc, value_said(Directive::Ignore, rows))?;
-    let rules = read_rules(alloc, kind, aliases_of(&aliases), ignore.as_slice(), rows)?;
+    let rules = read_rules(alloc, kind, alias_sets(&aliases), ignore.as_slice(), rows)?;
     Ok(Affixes {
         kind,
         aliases,

@@ -9,7 +9,7 @@ use Rattle.std.proofs.lemmas.List.Kept.{IsStrictlySortedBy-filter}
 use Rattle.spell_types.specs.declared.Lexicon.{Lexicon}
 use Rattle.spell_types.specs.declared.derivations.Derivation.{Derivation}
 use Rattle.spell_types.specs.Derivations.{choices, derivation_of, all_from, all_derivations}
-use Rattle.affix_strip.specs.Found.{derives, derivations_of, derivation_cmp, IsRising}
+use Rattle.affix_strip.specs.Found.{derives, derivations_of, derivation_cmp, AreInOrder}
 
 -- ---- what holds of each
 each-append : {X : Type 0} (P : X → Type 0) (xs ys : List X) → AllByRecursion P xs → AllByRecursion P ys → AllByRecursion P (xs ++ ys)
@@ -163,6 +163,6 @@ all-sorted lexicon =
     (λ prefix' first' second'. then-less (nat_cmp entry entry') (ordering_then (option_cmp nat_cmp prefix prefix') (later first second first' second')) before)))
     (range_with_len 0 (length lexicon.entries)) (range-sorted 0 (length lexicon.entries))
 
-pub derivations-rise : (lexicon : Lexicon) (word : List ℕ) → IsRising (derivations_of lexicon word)
+pub derivations-rise : (lexicon : Lexicon) (word : List ℕ) → AreInOrder (derivations_of lexicon word)
 unfolding derivations_of
 derivations-rise lexicon word = IsStrictlySortedBy-filter derivation_cmp (derives lexicon word) (all_derivations lexicon) (all-sorted lexicon)

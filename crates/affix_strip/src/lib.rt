@@ -8,7 +8,7 @@ ghost use Rattle.spell_types.specs.declared.derivations.Derivation.{Derivation};
 ghost use Rattle.spell_types.specs.Derivations.{choices, form_of};
 ghost use Rattle.spell_types.specs.Licences.{is_licensed};
 ghost use Rattle.spell_types.specs.Sanity.{IsSane};
-ghost use Rattle.affix_strip.specs.Found.{derivations_of, IsRising};
+ghost use Rattle.affix_strip.specs.Found.{derivations_of, AreInOrder};
 ghost use Rattle.affix_strip.specs.Ways.{derived_by, derived_at};
 
 #[cfg(test)]
@@ -81,7 +81,7 @@ pub fn derivations_are()
     ensures members { (lexicon : Lexicon) (word : List ℕ) (d : Derivation) →
         Contains (derivations_of lexicon word) d
         ↔ ((is_licensed lexicon d ≡ true) × (form_of lexicon d ≡ Some word)) }
-    ensures rising { (lexicon : Lexicon) (word : List ℕ) → IsRising (derivations_of lexicon word) }
+    ensures rising { (lexicon : Lexicon) (word : List ℕ) → AreInOrder (derivations_of lexicon word) }
 {}
 
 /// No rule, and each of so many.

@@ -8,7 +8,7 @@ use Rattle.std.proofs.lemmas.List.Folds.{list_any_at}
 use Rattle.spell_types.specs.declared.breaks.Anchored.{Anchored}
 use Rattle.break_points.specs.declared.Judged.{Judged}
 use Rattle.break_points.specs.declared.Judged.TheVariants.{Base, Other, Barred}
-use Rattle.break_points.specs.declared.table.Span.{Span}
+use Rattle.break_points.specs.declared.table.Stretch.{Stretch}
 use Rattle.break_points.specs.declared.ways.Way.{Way}
 use Rattle.break_points.specs.declared.ways.Way.TheVariants.{Between}
 use Rattle.break_points.specs.Judging.{is_base, is_barred, is_base_by, is_barred_by}
@@ -59,7 +59,7 @@ behind_at word from to start =
     ∙ sym (drop_all start (take (to - from) (drop from word)) (omega (arith, none, length-take (to - from) (drop from word)))))
     (cases_lt start (to - from))
 
-pub behind_same : (word : List ℕ) (piece rest : Span) (start : ℕ) → rest.from ≡ piece.from + start → rest.to ≡ piece.to → slice_range word rest.from rest.to ≡ drop start (slice_range word piece.from piece.to)
+pub behind_same : (word : List ℕ) (piece rest : Stretch) (start : ℕ) → rest.from ≡ piece.from + start → rest.to ≡ piece.to → slice_range word rest.from rest.to ≡ drop start (slice_range word piece.from piece.to)
 behind_same word piece rest start from to =
     ap (λ n. slice_range word n rest.to) from ∙ ap (λ n. slice_range word (piece.from + start) n) to ∙ behind_at word piece.from piece.to start
 
@@ -69,7 +69,7 @@ before_at word from to end le =
     let same : from + end - from ≡ end = omega arith in
     ap (λ n. take n (drop from word)) same ∙ sym (take-take end (to - from) (drop from word) le)
 
-pub before_same : (word : List ℕ) (piece front : Span) (end : ℕ) → end ≤ length (slice_range word piece.from piece.to) → front.from ≡ piece.from → front.to ≡ piece.from + end → slice_range word front.from front.to ≡ take end (slice_range word piece.from piece.to)
+pub before_same : (word : List ℕ) (piece front : Stretch) (end : ℕ) → end ≤ length (slice_range word piece.from piece.to) → front.from ≡ piece.from → front.to ≡ piece.from + end → slice_range word front.from front.to ≡ take end (slice_range word piece.from piece.to)
 before_same word piece front end le from to =
     ap (λ n. slice_range word n front.to) from ∙ ap (λ n. slice_range word piece.from n) to ∙ before_at word piece.from piece.to end (omega (arith, le, length-take (piece.to - piece.from) (drop piece.from word)))
 
@@ -82,6 +82,6 @@ pub both_decided : (front rest a b : Bool) → a ≡ front → b ≡ rest → a 
 both_decided true rest a b is_a is_b holds = is_b
 both_decided false rest a b is_a is_b holds = absurd (false≢true (sym is_a ∙ holds))
 
-pub whole_word : (word : List ℕ) (piece : Span) → piece.from ≡ 0 → piece.to ≡ length word → slice_range word piece.from piece.to ≡ word
+pub whole_word : (word : List ℕ) (piece : Stretch) → piece.from ≡ 0 → piece.to ≡ length word → slice_range word piece.from piece.to ≡ word
 whole_word word piece from to =
     ap (λ n. slice_range word n piece.to) from ∙ ap (λ n. take (n - 0) (drop 0 word)) to ∙ take_all (length word - 0) word (omega arith)

@@ -5,15 +5,15 @@ use Rattle.std.specs.Ordering.{is_eq, nat_cmp}
 use Rattle.std.specs.declared.cmp.Ordering.{Ordering}
 use Rattle.std.specs.declared.cmp.Ordering.TheVariants.{Less, Equal, Greater}
 use Rattle.std.proofs.lemmas.Map.Lookups.{exact_pairs, exact_unsigned}
-use Rattle.break_points.specs.declared.table.Span.{Span}
+use Rattle.break_points.specs.declared.table.Stretch.{Stretch}
 use Rattle.break_points.specs.declared.table.Table.{Table}
 use Rattle.break_points.specs.Pieces.{IsRight, place_cmp}
 
-pub empty_right : (right : Span → Bool) (table : Table) → table.answers.entries ≡ [] → IsRight right table
+pub empty_right : (right : Stretch → Bool) (table : Table) → table.answers.entries ≡ [] → IsRight right table
 unfolding IsRight
 empty_right right table empty = λ piece answer found. cc
 
-pub read_right : (right : Span → Bool) (table : Table) (piece : Span) (found : Option Bool) → found ≡ get place_cmp table.answers (piece.from, piece.to) → IsRight right table → IfSome found (λ answer. answer ≡ right piece)
+pub read_right : (right : Stretch → Bool) (table : Table) (piece : Stretch) (found : Option Bool) → found ≡ get place_cmp table.answers (piece.from, piece.to) → IsRight right table → IfSome found (λ answer. answer ≡ right piece)
 unfolding IsRight
 read_right right table piece None is all = tt
 read_right right table piece (Some answer) is all = all piece answer (sym is)
@@ -23,14 +23,14 @@ is_equal Less e = cc
 is_equal Equal e = refl
 is_equal Greater e = cc
 
-same_place : (piece other : Span) → is_eq (place_cmp (piece.from, piece.to) (other.from, other.to)) ≡ true → piece ≡ other
+same_place : (piece other : Stretch) → is_eq (place_cmp (piece.from, piece.to) (other.from, other.to)) ≡ true → piece ≡ other
 same_place piece other same =
-    ap (λ (k : ℕ × ℕ). let s : Span = record { from = k.0; to = k.1 } in s) (exact_pairs nat_cmp nat_cmp exact_unsigned exact_unsigned (piece.from, piece.to) (other.from, other.to) (is_equal _ same))
+    ap (λ (k : ℕ × ℕ). let s : Stretch = record { from = k.0; to = k.1 } in s) (exact_pairs nat_cmp nat_cmp exact_unsigned exact_unsigned (piece.from, piece.to) (other.from, other.to) (is_equal _ same))
 
 some_same : (a b : Bool) → Some a ≡ Some b → a ≡ b
 some_same a b same = cc
 
-pub put_right : (right : Span → Bool) (table new : Table) (piece : Span) (answer : Bool)
+pub put_right : (right : Stretch → Bool) (table new : Table) (piece : Stretch) (answer : Bool)
     → ((q : ℕ × ℕ) → get place_cmp new.answers q ≡ cond (is_eq (place_cmp (piece.from, piece.to) q)) (Some answer) (get place_cmp table.answers q))
     → IsRight right table → answer ≡ right piece → IsRight right new
 unfolding IsRight

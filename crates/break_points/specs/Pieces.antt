@@ -7,7 +7,7 @@ use Rattle.std.specs.declared.cmp.Ordering.{Ordering}
 use Rattle.spell_types.specs.declared.breaks.Anchored.{Anchored}
 use Rattle.spell_types.specs.Breaks.{is_broken, parts_at}
 use Rattle.break_points.specs.declared.Judged.{Judged}
-use Rattle.break_points.specs.declared.table.Span.{Span}
+use Rattle.break_points.specs.declared.table.Stretch.{Stretch}
 use Rattle.break_points.specs.declared.table.Table.{Table}
 use Rattle.break_points.specs.declared.ways.Way.{Way}
 use Rattle.break_points.specs.declared.ways.Way.TheVariants.{Between, Behind, Before}
@@ -18,7 +18,7 @@ abbrev pub is_broken_by : (List ℕ → Judged) → List Anchored → List ℕ �
 is_broken_by judged breaks word = is_broken (is_base_by judged) (is_barred_by judged) breaks word
 
 -- the same of a piece of a word
-abbrev pub is_broken_piece : (List ℕ → Judged) → List Anchored → List ℕ → Span → Bool
+abbrev pub is_broken_piece : (List ℕ → Judged) → List Anchored → List ℕ → Stretch → Bool
 is_broken_piece judged breaks word piece = is_broken_by judged breaks (slice_range word piece.from piece.to)
 
 -- the order of the table's keys
@@ -26,8 +26,8 @@ abbrev pub place_cmp : ℕ × ℕ → ℕ × ℕ → Ordering
 place_cmp a b = ordering_then (nat_cmp a.0 b.0) (nat_cmp a.1 b.1)
 
 -- what stands in the table is right
-unfoldable pub IsRight : (Span → Bool) → Table → Type 0
-IsRight right table = (piece : Span) (answer : Bool) → get place_cmp table.answers (piece.from, piece.to) ≡ Some answer → answer ≡ right piece
+unfoldable pub IsRight : (Stretch → Bool) → Table → Type 0
+IsRight right table = (piece : Stretch) (answer : Bool) → get place_cmp table.answers (piece.from, piece.to) ≡ Some answer → answer ≡ right piece
 
 -- whether all that a way leaves of a piece passes a test
 abbrev pub all_left : (List ℕ → Bool) → List ℕ → Way → Bool

@@ -17,7 +17,7 @@ mod ways;
 use lists::NoMemory;
 use spell_types::Anchored;
 use std::alloc::Global;
-use table::{Span, Table};
+use table::{Stretch, Table};
 use ways::{Way, ways_of};
 
 /// What a dictionary says of a word, or of a piece of one, as it stands.
@@ -46,7 +46,7 @@ pub fn broken<F: Fn(&[char]) -> Result<Judged, NoMemory>>(
         ≡ is_broken (is_base_by judged) (is_barred_by judged) breaks.now word.now) }
 {
     let mut table = Table::new(alloc);
-    let whole = Span {
+    let whole = Stretch {
         from: 0,
         to: word.len(),
     };
@@ -61,7 +61,7 @@ fn decide<F: Fn(&[char]) -> Result<Judged, NoMemory>>(
     word: &[char],
     judge: &F,
     table: &mut Table,
-    piece: Span,
+    piece: Stretch,
 ) -> Result<bool, NoMemory>
     requires callable { F.IsAlwaysCallable judge.now }
     requires ordered { piece.from ≤ piece.to }
@@ -87,7 +87,7 @@ fn decide_anew<F: Fn(&[char]) -> Result<Judged, NoMemory>>(
     word: &[char],
     judge: &F,
     table: &mut Table,
-    piece: Span,
+    piece: Stretch,
 ) -> Result<bool, NoMemory>
     requires callable { F.IsAlwaysCallable judge.now }
     requires ordered { piece.from ≤ piece.to }
@@ -119,7 +119,7 @@ fn decide_way<F: Fn(&[char]) -> Result<Judged, NoMemory>>(
     word: &[char],
     judge: &F,
     table: &mut Table,
-    piece: Span,
+    piece: Stretch,
     way: Way,
 ) -> Result<bool, NoMemory>
     requires callable { F.IsAlwaysCallable judge.now }

@@ -1,7 +1,7 @@
 //! The pieces of a word that are decided.
 
 ghost use Rattle.std.specs.Prelude.{◌≡◌, ◌+◌, ◌≤◌, ◌<◌, Bool, IfSome, OnOk};
-ghost use Rattle.break_points.specs.declared.table.Span.{Span};
+ghost use Rattle.break_points.specs.declared.table.Stretch.{Stretch};
 ghost use Rattle.break_points.specs.Pieces.{IsRight};
 
 use lists::NoMemory;
@@ -10,31 +10,31 @@ use std::collections::BTreeMap;
 
 /// A piece of a word: the characters from a place up to another, both from 0.
 #[derive(Clone, Copy)]
-pub struct Span {
+pub struct Stretch {
     pub from: usize,
     pub to: usize,
 }
 
-impl Span {
+impl Stretch {
     /// The first characters of the piece, up to this place of it.
-    pub fn before(self, end: usize) -> Span
+    pub fn before(self, end: usize) -> Stretch
         requires { self.from + end ≤ self.to }
         ensures from { result.from ≡ self.from }
         ensures to { result.to ≡ self.from + end }
     {
-        Span {
+        Stretch {
             from: self.from,
             to: self.from + end,
         }
     }
 
     /// The last characters of the piece, from this place of it on.
-    pub fn behind(self, start: usize) -> Span
+    pub fn behind(self, start: usize) -> Stretch
         requires { self.from + start ≤ self.to }
         ensures from { result.from ≡ self.from + start }
         ensures to { result.to ≡ self.to }
     {
-        Span {
+        Stretch {
             from: self.from + start,
             to: self.to,
         }
@@ -50,7 +50,7 @@ pub struct Table {
 impl Table {
     /// The table in which no piece stands.
     pub fn new(alloc: Global) -> Table
-        ensures { (right : Span → Bool) → IsRight right result }
+        ensures { (right : Stretch → Bool) → IsRight right result }
     {
         Table {
             answers: BTreeMap::new(alloc),
@@ -58,15 +58,15 @@ impl Table {
     }
 
     /// The answer for a piece, if it is decided.
-    pub fn get(&self, piece: Span) -> Option<bool>
-        ensures { (right : Span → Bool) → IsRight right self.now → IfSome result (λ answer. answer ≡ right piece) }
+    pub fn get(&self, piece: Stretch) -> Option<bool>
+        ensures { (right : Stretch → Bool) → IsRight right self.now → IfSome result (λ answer. answer ≡ right piece) }
     {
         self.answers.get(&(piece.from, piece.to)).copied()
     }
 
     /// Keeps the answer for a piece.
-    pub fn put(&mut self, piece: Span, answer: bool) -> Result<(), NoMemory>
-        ensures { (right : Span → Bool) → IsRight right self.old → answer ≡ right piece
+    pub fn put(&mut self, piece: Stretch, answer: bool) -> Result<(), NoMemory>
+        ensures { (right : Stretch → Bool) → IsRight right self.old → answer ≡ right piece
             → OnOk result (IsRight right self.new) }
     {
         self.answers.insert((piece.from, piece.to), answer)?;

@@ -11,7 +11,7 @@ use crate::faults::{DicFault, DicWhy};
 use conversions::drop_ignored;
 use flag_sets::{FlagFault, push_before_slash, read_flags};
 use lists::{Items, NoMemory};
-use spell_types::{Affixes, Chars, Entry, FlagSet};
+use spell_types::{Affixes, Chars, Entry, alias_sets};
 use std::alloc::Global;
 
 /// The entry with this text, of the line with this number. Its word is without the characters to ignore.
@@ -35,7 +35,7 @@ pub(crate) fn read_entry(
             why: DicWhy::EmptyWord,
         });
     }
-    let why = match read_flags(alloc, affixes.kind, aliases_of(affixes), flags) {
+    let why = match read_flags(alloc, affixes.kind, alias_sets(&affixes.aliases), flags) {
         Ok(flags) => return Ok(Entry { word, flags }),
         Err(FlagFault::BadFlag) => DicWhy::BadFlag,
         Err(FlagFault::BadAlias) => DicWhy::BadAlias,
@@ -56,11 +56,4 @@ fn push_word<'a>(alloc: Global, word: &mut Chars, entry: &'a str) -> Result<&'a 
         rest = more;
     }
     Ok(push_before_slash(alloc, word, rest)?.unwrap_or(""))
-}
-
-/// The sets that ordinals stand for, if the file has aliases.
-fn aliases_of(affixes: &Affixes) -> Option<&[FlagSet]>
-    ensures { option_copied result ≡ affixes.now.aliases }
-{
-    affixes.aliases.as_ref().map(|sets| sets.as_slice())
 }

@@ -1,5 +1,5 @@
 -- What a dictionary is that says nothing.
-use Rattle.std.specs.Prelude.{Bool, false, [], None}
+use Rattle.std.specs.Prelude.{false, [], None}
 use Rattle.spell_types.specs.declared.Affixes.{Affixes}
 use Rattle.spell_types.specs.declared.flags.FlagKind.{FlagKind}
 use Rattle.spell_types.specs.declared.signs.Signs.{Signs}

@@ -2,6 +2,7 @@
 #![tactic(auto)]
 
 ghost use Rattle.std.specs.Prelude.{◌≡◌};
+ghost use Rattle.std.specs.Option.{option_copied};
 ghost use Rattle.spell_types.specs.Empty.{no_affixes};
 
 mod attaching;
@@ -84,6 +85,13 @@ impl Affixes {
             breaks: Items::new(alloc),
         }
     }
+}
+
+/// The sets that ordinals stand for, if a file has aliases.
+pub fn alias_sets(aliases: &Option<Items<FlagSet>>) -> Option<&[FlagSet]>
+    ensures { option_copied result ≡ aliases.now }
+{
+    aliases.as_ref().map(|sets| sets.as_slice())
 }
 
 /// A dictionary: what its two files say.

@@ -15,4 +15,4 @@ returns-in-Some-clause-read c =
     (cc (c.in_ok-kind.aliases-is, c.in_ok-kind.ensures.read.says.kind, c.in_ok-kind.ensures.read.says.aliases))
     (cc (c.as_slice-rows.ensures, c.kept.view_is, c.in_ok-kind.kept-is, c.in_ok-kind.ensures.read.says.kept))
     c.in_ok-kind.ensures.fine
-    (cc (c.in-Some.is, c.in_ok-fault.ensures.least, c.aliases_of.ensures))
+    (cc (c.in-Some.is, c.in_ok-fault.ensures.least, c.alias_sets.ensures))
