@@ -1,0 +1,6 @@
+mod EntryLemmas
+mod GatherLemmas
+mod LawLemmas
+mod OrderLemmas
+mod PlaceLemmas
+mod TableLemmas

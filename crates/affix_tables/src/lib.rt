@@ -1,0 +1,204 @@
+//! Affix rules by the texts that they add: which of them may have made a word.
+#![tactic(auto)]
+
+ghost use Rattle.std.specs.Prelude.{◌≡◌, ◌↔◌, ◌^◌, ◌<◌, ◌++◌, [], ◌∷◌, ℕ, List, Some, true, length, max, min, nat_eq, slice_get, Contains, OnOk, IfOk, if◌then◌else◌};
+ghost use Rattle.std.specs.Cmp.Lexicographic.{pointwise};
+ghost use Rattle.spell_types.specs.Derivations.{is_same_side};
+ghost use Rattle.std.specs.List.{starts_with, ends_with};
+ghost use Rattle.std.specs.List.Sorted.{IsStrictlyIncreasing};
+ghost use Rattle.spell_types.specs.declared.rules.Rule.{Rule};
+ghost use Rattle.spell_types.specs.declared.rules.Side.TheVariants.{Prefix, Suffix};
+ghost use Rattle.affix_tables.specs.Places.{suffix_places, prefix_places};
+ghost use Rattle.affix_tables.specs.Tables.{places_at, ending_places, front_places, IsTable, IsTableOf};
+
+#[cfg(test)]
+mod tests;
+
+use indexmap::IndexMap;
+use lists::NoMemory;
+use spell_types::{Rule, Side};
+use std::alloc::Global;
+
+/// The affix rules of a dictionary, by the texts that they add. The rules themselves are not kept: an answer names
+/// them by their places in the list that the tables were made of.
+#[derive(Drop)]
+pub struct AffixTables {
+    suffixes: Table,
+    prefixes: Table,
+}
+
+/// The rules of one side.
+#[derive(Drop)]
+struct Table {
+    /// At each text that a rule adds, the places of the rules that add it, rising.
+    by_text: IndexMap<Vec<char>, Vec<u32>>,
+    /// No rule adds more characters.
+    longest: usize,
+}
+
+impl AffixTables {
+    /// The tables of these rules. A rule is named by its place in the list, from 0. It fails only where memory is
+    /// wanting.
+    pub fn new(alloc: Global, rules: &[Rule]) -> Result<AffixTables, NoMemory>
+        requires { length rules.now < 2 ^ 32 }
+        ensures { IfOk result (λ made. IsTableOf rules.now made) }
+    {
+        let suffixes = table_of(alloc, Side::Suffix, rules)?;
+        let prefixes = table_of(alloc, Side::Prefix, rules)?;
+        Ok(AffixTables { suffixes, prefixes })
+    }
+
+    /// The places, from 0, of the suffix rules whose added text ends the word, rising. A rule that adds nothing is always
+    /// among them, and so is one that adds the whole word; whether a rule may be undone is not looked at. An ending with
+    /// more characters than any suffix rule adds is not looked up. It fails only where memory is wanting.
+    pub fn suffixes_of(&self, alloc: Global, word: &[char]) -> Result<Vec<u32>, NoMemory>
+        ensures { (rules : List Rule) → IsTableOf rules self.now
+            → IfOk result (λ places. places.items ≡ suffix_places rules word.now) }
+    {
+        let mut endings = places_at_endings(alloc, &self.suffixes, word)?;
+        endings.sort_unstable();
+        Ok(endings)
+    }
+
+    /// The places, from 0, of the prefix rules whose added text begins the word, rising. A rule that adds nothing is always
+    /// among them, and so is one that adds the whole word; whether a rule may be undone is not looked at. A front with more
+    /// characters than any prefix rule adds is not looked up. It fails only where memory is wanting.
+    pub fn prefixes_of(&self, alloc: Global, word: &[char]) -> Result<Vec<u32>, NoMemory>
+        ensures { (rules : List Rule) → IsTableOf rules self.now
+            → IfOk result (λ places. places.items ≡ prefix_places rules word.now) }
+    {
+        let mut fronts = places_at_fronts(alloc, &self.prefixes, word)?;
+        fronts.sort_unstable();
+        Ok(fronts)
+    }
+}
+
+/// What the look-ups give. A place is among them if a rule of the side stands there whose added text ends, or begins, the
+/// word, and otherwise not; and each place is below the next.
+pub fn places_are()
+    ensures suffixes { (rules : List Rule) (word : List ℕ) (place : ℕ) →
+        Contains (suffix_places rules word) place
+        ↔ ((rule : Rule) × (slice_get rules place ≡ Some rule) × (rule.side ≡ Suffix)
+        × (ends_with nat_eq word rule.add ≡ true)) }
+    ensures prefixes { (rules : List Rule) (word : List ℕ) (place : ℕ) →
+        Contains (prefix_places rules word) place
+        ↔ ((rule : Rule) × (slice_get rules place ≡ Some rule) × (rule.side ≡ Prefix)
+        × (starts_with nat_eq word rule.add ≡ true)) }
+    ensures suffixes_rise { (rules : List Rule) (word : List ℕ) → IsStrictlyIncreasing (suffix_places rules word) }
+    ensures prefixes_rise { (rules : List Rule) (word : List ℕ) → IsStrictlyIncreasing (prefix_places rules word) }
+{}
+
+/// The table of the rules of a side.
+fn table_of(alloc: Global, side: Side, rules: &[Rule]) -> Result<Table, NoMemory>
+    requires { length rules.now < 2 ^ 32 }
+    ensures { IfOk result (λ made. IsTable rules.now side made) }
+{
+    let mut table = Table {
+        by_text: IndexMap::new(alloc),
+        longest: 0,
+    };
+    for (place, rule) in rules.iter().enumerate() {
+        add_rule(alloc, side, rule, place as u32, &mut table)?;
+    }
+    Ok(table)
+}
+
+/// Adds the rule with a place, which is the one behind the rules so far, if it is of the side.
+fn add_rule(
+    alloc: Global,
+    side: Side,
+    rule: &Rule,
+    place: u32,
+    table: &mut Table,
+) -> Result<(), NoMemory>
+    ensures { OnOk result ((rules : List Rule) → length rules ≡ place → IsTable rules side table.old
+        → IsTable (rules ++ rule.now ∷ []) side table.new) }
+{
+    if !is_on(side, rule) {
+        return Ok(());
+    }
+    put(alloc, table, rule.add.as_slice(), place)?;
+    Ok(())
+}
+
+/// Whether a rule is of a side.
+fn is_on(side: Side, rule: &Rule) -> bool
+    ensures { result ≡ is_same_side side rule.now.side }
+{
+    match (side, rule.side) {
+        (Side::Prefix, Side::Prefix) => true,
+        (Side::Suffix, Side::Suffix) => true,
+        _ => false,
+    }
+}
+
+/// Adds a place at the end of those of a text.
+fn put(alloc: Global, table: &mut Table, text: &[char], place: u32) -> Result<(), NoMemory>
+    ensures at_text { OnOk result ((other : List ℕ) → places_at table.new.by_text.entries other
+        ≡ places_at table.old.by_text.entries other ++ (if pointwise nat_eq other text.now then place ∷ [] else [])) }
+    ensures longest { OnOk result (table.new.longest ≡ max table.old.longest (length text.now)) }
+{
+    put_at(alloc, &mut table.by_text, text, place)?;
+    table.longest = table.longest.max(text.len());
+    Ok(())
+}
+
+/// Adds a place at the end of those of a text, which may be there or not.
+fn put_at(
+    alloc: Global,
+    by_text: &mut IndexMap<Vec<char>, Vec<u32>>,
+    text: &[char],
+    place: u32,
+) -> Result<(), NoMemory>
+    ensures { OnOk result ((other : List ℕ) → places_at by_text.new.entries other
+        ≡ places_at by_text.old.entries other ++ (if pointwise nat_eq other text.now then place ∷ [] else [])) }
+{
+    match by_text.get_mut(text) {
+        Some(places) => {
+            places.push(place)?;
+            Ok(())
+        }
+        None => {
+            let mut first = Vec::new(alloc);
+            first.push(place)?;
+            by_text.insert(text.to_vec(alloc)?, first)?;
+            Ok(())
+        }
+    }
+}
+
+/// The places at the endings of a word that are no longer than a text of the table, by their lengths.
+fn places_at_endings(alloc: Global, table: &Table, word: &[char]) -> Result<Vec<u32>, NoMemory>
+    ensures { IfOk result (λ found. found.items ≡ ending_places table.now word.now) }
+{
+    let mut found = Vec::new(alloc);
+    for count in 0..table.longest.min(word.len()) + 1 {
+        add_places(&table.by_text, &word[word.len() - count..], &mut found)?;
+    }
+    Ok(found)
+}
+
+/// The places at the fronts of a word that are no longer than a text of the table, by their lengths.
+fn places_at_fronts(alloc: Global, table: &Table, word: &[char]) -> Result<Vec<u32>, NoMemory>
+    ensures { IfOk result (λ found. found.items ≡ front_places table.now word.now) }
+{
+    let mut found = Vec::new(alloc);
+    for count in 0..table.longest.min(word.len()) + 1 {
+        add_places(&table.by_text, &word[..count], &mut found)?;
+    }
+    Ok(found)
+}
+
+/// Adds the places of a text, if it is there.
+fn add_places(
+    by_text: &IndexMap<Vec<char>, Vec<u32>>,
+    text: &[char],
+    found: &mut Vec<u32>,
+) -> Result<(), NoMemory>
+    ensures { OnOk result (found.new.items ≡ found.old.items ++ places_at by_text.now.entries text.now) }
+{
+    if let Some(places) = by_text.get(text) {
+        found.extend_from_slice(places.as_slice())?;
+    }
+    Ok(())
+}
