@@ -1,5 +1,5 @@
 -- The places at all endings of a word, or at all its fronts, are those of the rules that fit it.
-use Rattle.std.proofs.Common.{◌≡◌, ◌∙◌, refl, sym, ap, ap₂, subst, ℕ, zero, suc, ◌+◌, ◌-◌, ◌≤◌, min, Bool, true, false, ◌&&◌, ◌||◌, List, [], ◌∷◌, ◌++◌, append-nil, length, take, drop, length-take, length-drop, nat_eq, nat_lt, IsPermutation, IsSorted, nat_cmp, arith}
+use Rattle.std.proofs.Common.{◌≡◌, ◌∙◌, refl, sym, ap, ap₂, subst, ℕ, zero, suc, ◌+◌, ◌-◌, ◌≤◌, min, Bool, true, false, ◌&&◌, ◌||◌, List, [], ◌∷◌, ◌++◌, append-nil, length, take, drop, length-take, length-drop, take_all, nat_eq, nat_lt, IsPermutation, IsSorted, nat_cmp, arith}
 use Rattle.std.specs.Cmp.Lexicographic.{pointwise}
 use Rattle.std.specs.List.{flat_map, range_with_len, starts_with, ends_with}
 use Rattle.std.proofs.lemmas.Bool.{and_parts, and_from, eqb-true, eq-eqb, lt-ltb, le-ltb, ne_eqb, ltb-true}
@@ -148,6 +148,10 @@ the_front word = record {
 }
 
 -- ---- what the calls give
+-- a word from a place on, as a slice to its end has it
+pub rest-whole : (word : List ℕ) (place : ℕ) → take (length word - place) (drop place word) ≡ drop place word
+rest-whole word place = take_all (length word - place) (drop place word) (omega (arith, length-drop place word))
+
 pub endings-more : (table : Table) (word : List ℕ) (count : ℕ) (text found : List ℕ) → text ≡ drop (length word - count) word → found ≡ endings_below table word count → found ++ places_at table.by_text.entries text ≡ endings_below table word (count + 1)
 endings-more table word count text found is before =
     ap₂ (λ ys zs. ys ++ zs) before (ap (places_at table.by_text.entries) is)
