@@ -206,13 +206,7 @@ mod tests {
         assert!(rt; made == same);
         assert_eq!(rt; made.len(), 3);
         assert_eq!(rt; made.iter().copied().last(), Some('b'));
-        let mut count = 0;
-        for c in &made {
-            if *c != 'b' {
-                count += 1;
-            }
-        }
-        assert_eq!(rt; count, 2);
+        assert_eq!(rt; (&made).into_iter().count(), 3);
         Ok(())
     }
 
