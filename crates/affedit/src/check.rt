@@ -13,6 +13,7 @@ use crate::stop::Stop;
 use aff_lines::AffFault;
 use aff_reader::read_aff;
 use dic_reader::{DicFault, read_dic};
+use lists::NoMemory;
 use outside::{FileFault, Files};
 use spell_types::{Affixes, Entries};
 use std::alloc::Global;
@@ -136,5 +137,8 @@ fn check_document(
         return Err(Stop::Document { line });
     }
     let speller = Speller::build(alloc, affixes, entries)?;
-    Ok(make_report(alloc, &speller, document, found.good.as_slice())?)
+    match make_report(alloc, &speller, document, found.good.as_slice()) {
+        Ok(report) => Ok(report),
+        Err(NoMemory) => Err(Stop::NoMemory),
+    }
 }

@@ -1,5 +1,9 @@
+pub mod AddLemmas
+pub mod FoundLemmas
 pub mod InverseLemmas
-pub mod ListLemmas
+pub mod LicenceLemmas
 pub mod MemberLemmas
 pub mod OrderLemmas
-pub mod StripLemmas
+pub mod SameLemmas
+pub mod StepLemmas
+pub mod TableLemmas

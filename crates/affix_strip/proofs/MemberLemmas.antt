@@ -16,7 +16,7 @@ use Rattle.spell_types.specs.Derivations.{is_same_side, is_right, is_in_order, n
 use Rattle.spell_types.specs.Licences.{holds_of, is_allowed, is_licensed, has_form}
 use Rattle.affix_strip.specs.Found.{derives, derivations_of}
 use Rattle.affix_strip.proofs.InverseLemmas.{is_word-same, same-is_word}
-use Rattle.affix_strip.proofs.StripLemmas.{licensed-named}
+use Rattle.affix_strip.proofs.LicenceLemmas.{licensed-named}
 
 -- ---- what lists contain
 contains-head : {X : Type 0} (x : X) (xs : List X) → Contains (x ∷ xs) x

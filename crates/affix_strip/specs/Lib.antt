@@ -1,2 +1,4 @@
 pub mod Found
-pub mod Ways
+pub mod Parts
+pub mod Tables
+pub mod Undone

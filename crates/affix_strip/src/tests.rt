@@ -4,9 +4,10 @@ ghost use Rattle.spell_types.specs.Sanity.{IsSane};
 
 use super::*;
 use affix_classes::read_condition;
-use lists::Copied;
+use lists::{Copied, Items};
 use spell_types::{
-    Affixes, Chars, Entries, Flag, FlagKind, FlagSet, Options, Rule, Side, Signs, chars_of, form,
+    Affixes, Chars, Entries, Entry, Flag, FlagKind, FlagSet, Options, Rule, Side, Signs, chars_of,
+    form,
 };
 use std::process::Abort;
 use std::test::Fail;

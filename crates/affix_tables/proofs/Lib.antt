@@ -1,6 +1,6 @@
 mod EntryLemmas
 mod GatherLemmas
-mod LawLemmas
+pub mod LawLemmas
 mod OrderLemmas
 mod PlaceLemmas
 mod TableLemmas

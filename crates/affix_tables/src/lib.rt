@@ -143,8 +143,8 @@ fn put(alloc: Global, table: &mut Table, text: &[char], place: u32) -> Result<()
     Ok(())
 }
 
-/// Adds a place at the end of those of a text, which may be there or not.
-fn put_at(
+/// Adds a place at the end of those that a table has at a text, which may be there or not.
+pub fn put_at(
     alloc: Global,
     by_text: &mut IndexMap<Vec<char>, Vec<u32>>,
     text: &[char],

@@ -1,0 +1,213 @@
+-- What each part of the walk finds.
+use Rattle.std.proofs.Common.{◌≡◌, ◌∙◌, ◌↔◌, ◌⊎◌, inl, inr, refl, sym, ap, subst, ℕ, true, false, true≢false, ◌||◌, List, [], slice_get, Contains, Option, None, Some, is_none, is_some, arith}
+use Rattle.std.specs.Option.{option_map, option_map_or}
+use Rattle.spell_types.specs.declared.Entry.{Entry}
+use Rattle.spell_types.specs.declared.Lexicon.{Lexicon}
+use Rattle.spell_types.specs.declared.derivations.Derivation.{Derivation}
+use Rattle.spell_types.specs.declared.rules.Rule.{Rule}
+use Rattle.spell_types.specs.declared.rules.Side.TheVariants.{Prefix, Suffix}
+use Rattle.spell_types.specs.Derivations.{affix_on, rule_on, is_right, form_of, derivation_of}
+use Rattle.spell_types.specs.Flags.{has}
+use Rattle.spell_types.specs.Licences.{is_licensed}
+use Rattle.affix_tables.specs.Places.{suffix_places, prefix_places}
+use Rattle.affix_tables.specs.Tables.{places_at}
+use Rattle.affix_strip.specs.Parts.{stem_of, with_first, with_suffixes, with_all, Passes, AtSome, Adds}
+use Rattle.affix_strip.specs.Tables.{HasEntries, IsReady, may_be_outer}
+use Rattle.affix_strip.specs.Undone.{undone_at}
+use Rattle.affix_strip.specs.declared.walk.Dictionary.{Dictionary}
+use Rattle.affix_strip.proofs.AddLemmas.{adds-none, adds-same, adds-then}
+use Rattle.affix_strip.proofs.InverseLemmas.{rule_on-side}
+use Rattle.affix_strip.proofs.LicenceLemmas.{licensed-order, form-parts, IsCarrier, carrier}
+use Rattle.affix_strip.proofs.StepLemmas.{IsAffix, step-none, step-some, step-nothing, step-all}
+use Rattle.affix_strip.proofs.TableLemmas.{on-rule, undone-suffix-inside, undone-prefix-inside}
+
+the_first : (lexicon : Lexicon) → IsAffix lexicon Suffix (λ d. d.first)
+the_first lexicon = record { right = λ d is. (licensed-order lexicon d is).first }
+
+the_second : (lexicon : Lexicon) → IsAffix lexicon Suffix (λ d. d.second)
+the_second lexicon = record { right = λ d is. (licensed-order lexicon d is).second }
+
+the_prefix : (lexicon : Lexicon) → IsAffix lexicon Prefix (λ d. d.prefix)
+the_prefix lexicon = record { right = λ d is. (licensed-order lexicon d is).prefix }
+
+-- derivations with these affixes
+abbrev pub With : Option ℕ → Option ℕ → Option ℕ → Derivation → Type 0
+With prefix first second d = (d.prefix ≡ prefix) × ((d.first ≡ first) × (d.second ≡ second))
+
+-- derivations with these outer affixes
+abbrev pub Outside : Option ℕ → Option ℕ → Derivation → Type 0
+Outside prefix second d = (d.prefix ≡ prefix) × (d.second ≡ second)
+
+-- derivations with this prefix
+abbrev pub Behind : Option ℕ → Derivation → Type 0
+Behind prefix d = d.prefix ≡ prefix
+
+-- ---- entries
+pub entries-found : (lexicon : Lexicon) (table : List (_ × _)) (prefix first second : Option ℕ) (stem : List ℕ) (places : List ℕ) (xs ys : List Derivation) → HasEntries lexicon.entries table → places ≡ places_at table stem
+    → Adds (AtSome (λ entry d. (d ≡ derivation_of entry prefix first second) × (is_licensed lexicon d ≡ true)) places) xs ys
+    → Adds (Passes lexicon (With prefix first second) (stem_of lexicon) stem) xs ys
+entries-found lexicon table prefix first second stem places xs ys holds is adds =
+    adds-same (AtSome (λ entry d. (d ≡ derivation_of entry prefix first second) × (is_licensed lexicon d ≡ true)) places) (Passes lexicon (With prefix first second) (stem_of lexicon) stem) xs ys adds
+    (λ d. (there d, back d))
+  where
+    word-at : (found : Option Entry) (entry : Entry) → found ≡ Some entry → entry.word ≡ stem → option_map (λ (e : Entry). e.word) found ≡ Some stem
+    word-at found entry at word = ap (option_map (λ (e : Entry). e.word)) at ∙ ap (λ w. Some w) word
+
+    known : (place : ℕ) → Contains places place → stem_of lexicon (derivation_of place prefix first second) ≡ Some stem
+    known place inside = by ((holds.at_word stem place).0 (subst (λ ps. Contains ps place) is inside))
+      where
+        by : ((entry : Entry) × (slice_get lexicon.entries place ≡ Some entry) × (entry.word ≡ stem)) → stem_of lexicon (derivation_of place prefix first second) ≡ Some stem
+        by (entry, at, word) = word-at (slice_get lexicon.entries place) entry at word
+
+    there : (d : Derivation) → AtSome (λ entry d. (d ≡ derivation_of entry prefix first second) × (is_licensed lexicon d ≡ true)) places d → Passes lexicon (With prefix first second) (stem_of lexicon) stem d
+    there d at = record {
+      licensed = at.is.1;
+      has = (ap (λ (e : Derivation). e.prefix) at.is.0, (ap (λ (e : Derivation). e.first) at.is.0, ap (λ (e : Derivation). e.second) at.is.0));
+      at = ap (stem_of lexicon) at.is.0 ∙ known at.place at.among;
+    }
+
+    entry-of : (d : Derivation) (found : Option Entry) → slice_get lexicon.entries d.entry ≡ found → option_map (λ (e : Entry). e.word) found ≡ Some stem → Contains places d.entry
+    entry-of d None at word = absurd (cc)
+    entry-of d (Some entry) at word = subst (λ ps. Contains ps d.entry) (sym is) ((holds.at_word stem d.entry).1 (entry, at, cc))
+
+    same : (d : Derivation) → With prefix first second d → d ≡ derivation_of d.entry prefix first second
+    same d (one, (two, three)) =
+        ap (λ p. derivation_of d.entry p d.first d.second) one
+        ∙ ap (λ f. derivation_of d.entry prefix f d.second) two
+        ∙ ap (derivation_of d.entry prefix first) three
+
+    back : (d : Derivation) → Passes lexicon (With prefix first second) (stem_of lexicon) stem d → AtSome (λ entry d. (d ≡ derivation_of entry prefix first second) × (is_licensed lexicon d ≡ true)) places d
+    back d passes = record { place = d.entry; among = entry-of d (slice_get lexicon.entries d.entry) refl passes.at; is = (same d passes.has, passes.licensed) }
+
+-- ---- the first suffix
+pub bare-found : (lexicon : Lexicon) (prefix second : Option ℕ) (stem : List ℕ) (xs ys : List Derivation) → Adds (Passes lexicon (With prefix None second) (stem_of lexicon) stem) xs ys → Adds (Passes lexicon (With prefix None second) (with_first lexicon) stem) xs ys
+bare-found lexicon prefix second stem xs ys adds =
+    adds-same (Passes lexicon (With prefix None second) (stem_of lexicon) stem) (Passes lexicon (With prefix None second) (with_first lexicon) stem) xs ys adds
+    (step-none lexicon Suffix (λ d. d.first) (the_first lexicon) (stem_of lexicon) (With prefix None second) (λ d has. has.1.0) stem)
+
+-- a second suffix stands behind a first one
+pub bare-none : (lexicon : Lexicon) (prefix second : Option ℕ) (stem : List ℕ) (xs : List Derivation) → is_some second ≡ true → Adds (Passes lexicon (With prefix None second) (with_first lexicon) stem) xs xs
+bare-none lexicon prefix second stem xs some =
+    adds-none (Passes lexicon (With prefix None second) (with_first lexicon) stem) xs
+    (λ d passes. no d second some passes.has (licensed-order lexicon d passes.licensed).inside)
+  where
+    no : (d : Derivation) (second : Option ℕ) → is_some second ≡ true → With prefix None second d → (is_none d.second || is_some d.first) ≡ true → ⊥
+    no d None some parts inside = absurd (cc)
+    no d (Some place) some (one, (two, three)) inside = true≢false (sym inside ∙ ap (λ n. is_none n || is_some d.first) three ∙ ap is_some two)
+
+pub first-found : (lexicon : Lexicon) (prefix second : Option ℕ) (place : ℕ) (text inner : List ℕ) (xs ys : List Derivation) → undone_at lexicon.affixes Suffix place text ≡ Some inner
+    → Adds (Passes lexicon (With prefix (Some place) second) (stem_of lexicon) inner) xs ys → Adds (Passes lexicon (With prefix (Some place) second) (with_first lexicon) text) xs ys
+first-found lexicon prefix second place text inner xs ys undone adds =
+    adds-same (Passes lexicon (With prefix (Some place) second) (stem_of lexicon) inner) (Passes lexicon (With prefix (Some place) second) (with_first lexicon) text) xs ys adds
+    (step-some lexicon Suffix (λ d. d.first) (the_first lexicon) (stem_of lexicon) (With prefix (Some place) second) place (λ d has. has.1.0) text inner undone)
+
+pub first-none : (lexicon : Lexicon) (prefix second : Option ℕ) (place : ℕ) (text : List ℕ) (xs : List Derivation) → undone_at lexicon.affixes Suffix place text ≡ None → Adds (Passes lexicon (With prefix (Some place) second) (with_first lexicon) text) xs xs
+first-none lexicon prefix second place text xs nothing =
+    adds-none (Passes lexicon (With prefix (Some place) second) (with_first lexicon) text) xs
+    (step-nothing lexicon Suffix (λ d. d.first) (the_first lexicon) (stem_of lexicon) (With prefix (Some place) second) place (λ d has. has.1.0) text nothing)
+
+pub inside-found : (lexicon : Lexicon) (prefix second : Option ℕ) (text endings : List ℕ) (xs ys zs : List Derivation) → endings ≡ suffix_places lexicon.affixes.rules text
+    → Adds (Passes lexicon (With prefix None second) (with_first lexicon) text) xs ys
+    → Adds (AtSome (λ place. Passes lexicon (With prefix (Some place) second) (with_first lexicon) text) endings) ys zs
+    → Adds (Passes lexicon (Outside prefix second) (with_first lexicon) text) xs zs
+inside-found lexicon prefix second text endings xs ys zs are one two =
+    adds-then (Passes lexicon (With prefix None second) (with_first lexicon) text) (AtSome (λ place. Passes lexicon (With prefix (Some place) second) (with_first lexicon) text) endings) (Passes lexicon (Outside prefix second) (with_first lexicon) text) xs ys zs one two
+    (step-all lexicon Suffix (λ d. d.first) (the_first lexicon) (stem_of lexicon) (Outside prefix second) (With prefix None second) (λ place. With prefix (Some place) second)
+    (λ d. (λ (p, (f, s)). ((p, s), f), λ ((p, s), f). (p, (f, s))))
+    (λ place d. (λ (p, (f, s)). ((p, s), f), λ ((p, s), f). (p, (f, s))))
+    text endings (λ place inner undone. subst (λ ps. Contains ps place) (sym are) (undone-suffix-inside lexicon.affixes place text inner undone)))
+
+-- ---- the second suffix
+pub outer-found : (lexicon : Lexicon) (prefix : Option ℕ) (place : ℕ) (text inner : List ℕ) (xs ys : List Derivation) → undone_at lexicon.affixes Suffix place text ≡ Some inner
+    → Adds (Passes lexicon (Outside prefix (Some place)) (with_first lexicon) inner) xs ys → Adds (Passes lexicon (Outside prefix (Some place)) (with_suffixes lexicon) text) xs ys
+outer-found lexicon prefix place text inner xs ys undone adds =
+    adds-same (Passes lexicon (Outside prefix (Some place)) (with_first lexicon) inner) (Passes lexicon (Outside prefix (Some place)) (with_suffixes lexicon) text) xs ys adds
+    (step-some lexicon Suffix (λ d. d.second) (the_second lexicon) (with_first lexicon) (Outside prefix (Some place)) place (λ d has. has.1) text inner undone)
+
+pub outer-none : (lexicon : Lexicon) (prefix : Option ℕ) (place : ℕ) (text : List ℕ) (xs : List Derivation) → undone_at lexicon.affixes Suffix place text ≡ None → Adds (Passes lexicon (Outside prefix (Some place)) (with_suffixes lexicon) text) xs xs
+outer-none lexicon prefix place text xs nothing =
+    adds-none (Passes lexicon (Outside prefix (Some place)) (with_suffixes lexicon) text) xs
+    (step-nothing lexicon Suffix (λ d. d.second) (the_second lexicon) (with_first lexicon) (Outside prefix (Some place)) place (λ d has. has.1) text nothing)
+
+-- no suffix rule carries the flag of a second suffix that is not tried
+pub outer-barred : (dictionary : Dictionary) (prefix : Option ℕ) (place : ℕ) (text : List ℕ) (xs : List Derivation) → IsReady dictionary → may_be_outer dictionary place ≡ false → Adds (Passes dictionary.lexicon (Outside prefix (Some place)) (with_suffixes dictionary.lexicon) text) xs xs
+outer-barred dictionary prefix place text xs ready barred =
+    let rules = dictionary.lexicon.affixes.rules in
+    adds-none (Passes dictionary.lexicon (Outside prefix (Some place)) (with_suffixes dictionary.lexicon) text) xs
+    (λ d passes. no d passes.licensed (rule_on rules Suffix place) refl (ap (λ n. affix_on rules Suffix n) passes.has.1) (ap (is_right rules Suffix) (sym passes.has.1) ∙ (licensed-order dictionary.lexicon d passes.licensed).second))
+  where
+    carries : (rule : Rule) → IsCarrier dictionary.lexicon.affixes.rules rule → has dictionary.carried (Some rule.flag) ≡ true
+    carries rule by =
+        ready.carried.flags by.place by.rule rule.flag
+        (on-rule dictionary.lexicon.affixes.rules Suffix by.place by.rule by.on)
+        (rule_on-side dictionary.lexicon.affixes.rules Suffix by.place by.rule by.on)
+        by.carries
+
+    told : (rule : Rule) → rule_on dictionary.lexicon.affixes.rules Suffix place ≡ Some rule → has dictionary.carried (Some rule.flag) ≡ false
+    told rule on =
+        sym (ap (λ found. option_map_or (λ (r : Rule). has dictionary.carried (Some r.flag)) found false) (on-rule dictionary.lexicon.affixes.rules Suffix place rule on)) ∙ barred
+
+    no : (d : Derivation) → is_licensed dictionary.lexicon d ≡ true → (found : Option Rule) → rule_on dictionary.lexicon.affixes.rules Suffix place ≡ found → affix_on dictionary.lexicon.affixes.rules Suffix d.second ≡ affix_on dictionary.lexicon.affixes.rules Suffix (Some place) → is_some (rule_on dictionary.lexicon.affixes.rules Suffix place) ≡ true → ⊥
+    no d licensed None on same right = true≢false (sym right ∙ ap is_some on)
+    no d licensed (Some rule) on same right = true≢false (sym (carries rule (carrier dictionary.lexicon d rule licensed (same ∙ on))) ∙ told rule on)
+
+pub behind-found : (lexicon : Lexicon) (prefix : Option ℕ) (text endings : List ℕ) (xs ys zs : List Derivation) → endings ≡ suffix_places lexicon.affixes.rules text
+    → Adds (Passes lexicon (Outside prefix None) (with_first lexicon) text) xs ys
+    → Adds (AtSome (λ place. Passes lexicon (Outside prefix (Some place)) (with_suffixes lexicon) text) endings) ys zs
+    → Adds (Passes lexicon (Behind prefix) (with_suffixes lexicon) text) xs zs
+behind-found lexicon prefix text endings xs ys zs are one two =
+    adds-then (Passes lexicon (Outside prefix None) (with_suffixes lexicon) text) (AtSome (λ place. Passes lexicon (Outside prefix (Some place)) (with_suffixes lexicon) text) endings) (Passes lexicon (Behind prefix) (with_suffixes lexicon) text) xs ys zs
+    (adds-same (Passes lexicon (Outside prefix None) (with_first lexicon) text) (Passes lexicon (Outside prefix None) (with_suffixes lexicon) text) xs ys one
+    (step-none lexicon Suffix (λ d. d.second) (the_second lexicon) (with_first lexicon) (Outside prefix None) (λ d has. has.1) text))
+    two
+    (step-all lexicon Suffix (λ d. d.second) (the_second lexicon) (with_first lexicon) (Behind prefix) (Outside prefix None) (λ place. Outside prefix (Some place))
+    (λ d. (λ has. has, λ has. has)) (λ place d. (λ has. has, λ has. has))
+    text endings (λ place inner undone. subst (λ ps. Contains ps place) (sym are) (undone-suffix-inside lexicon.affixes place text inner undone)))
+
+-- ---- the prefix
+pub prefix-found : (lexicon : Lexicon) (place : ℕ) (text inner : List ℕ) (xs ys : List Derivation) → undone_at lexicon.affixes Prefix place text ≡ Some inner
+    → Adds (Passes lexicon (Behind (Some place)) (with_suffixes lexicon) inner) xs ys → Adds (Passes lexicon (Behind (Some place)) (with_all lexicon) text) xs ys
+prefix-found lexicon place text inner xs ys undone adds =
+    adds-same (Passes lexicon (Behind (Some place)) (with_suffixes lexicon) inner) (Passes lexicon (Behind (Some place)) (with_all lexicon) text) xs ys adds
+    (step-some lexicon Prefix (λ d. d.prefix) (the_prefix lexicon) (with_suffixes lexicon) (Behind (Some place)) place (λ d has. has) text inner undone)
+
+pub prefix-none : (lexicon : Lexicon) (place : ℕ) (text : List ℕ) (xs : List Derivation) → undone_at lexicon.affixes Prefix place text ≡ None → Adds (Passes lexicon (Behind (Some place)) (with_all lexicon) text) xs xs
+prefix-none lexicon place text xs nothing =
+    adds-none (Passes lexicon (Behind (Some place)) (with_all lexicon) text) xs
+    (step-nothing lexicon Prefix (λ d. d.prefix) (the_prefix lexicon) (with_suffixes lexicon) (Behind (Some place)) place (λ d has. has) text nothing)
+
+-- ---- all
+abbrev Any : Derivation → Type 0
+Any d = d ≡ d
+
+-- licensed, and of this form
+abbrev Gives : Lexicon → List ℕ → Derivation → Type 0
+Gives lexicon text d = (is_licensed lexicon d ≡ true) × (form_of lexicon d ≡ Some text)
+
+gives-passes : (lexicon : Lexicon) (text : List ℕ) (d : Derivation) → Passes lexicon Any (with_all lexicon) text d ↔ Gives lexicon text d
+gives-passes lexicon text d = (
+  λ passes. (passes.licensed, form-parts lexicon d passes.licensed ∙ passes.at),
+  λ gives. record { licensed = gives.0; has = refl; at = sym (form-parts lexicon d gives.0) ∙ gives.1 },
+)
+
+pub all-found : (lexicon : Lexicon) (text fronts : List ℕ) (ys zs : List Derivation) → fronts ≡ prefix_places lexicon.affixes.rules text
+    → Adds (Passes lexicon (Behind None) (with_suffixes lexicon) text) [] ys
+    → Adds (AtSome (λ place. Passes lexicon (Behind (Some place)) (with_all lexicon) text) fronts) ys zs
+    → (d : Derivation) → Contains zs d ↔ ((is_licensed lexicon d ≡ true) × (form_of lexicon d ≡ Some text))
+all-found lexicon text fronts ys zs are one two = λ d. (λ inside. there d ((found.are d).0 inside), λ gives. (found.are d).1 (inr gives))
+  where
+    found : Adds (Gives lexicon text) [] zs
+    found =
+        adds-same (Passes lexicon Any (with_all lexicon) text) (Gives lexicon text) [] zs
+        (adds-then (Passes lexicon (Behind None) (with_all lexicon) text) (AtSome (λ place. Passes lexicon (Behind (Some place)) (with_all lexicon) text) fronts) (Passes lexicon Any (with_all lexicon) text) [] ys zs
+        (adds-same (Passes lexicon (Behind None) (with_suffixes lexicon) text) (Passes lexicon (Behind None) (with_all lexicon) text) [] ys one
+        (step-none lexicon Prefix (λ d. d.prefix) (the_prefix lexicon) (with_suffixes lexicon) (Behind None) (λ d has. has) text))
+        two
+        (step-all lexicon Prefix (λ d. d.prefix) (the_prefix lexicon) (with_suffixes lexicon) Any (Behind None) (λ place. Behind (Some place))
+        (λ d. (λ is. (refl, is), λ both. both.1)) (λ place d. (λ is. (refl, is), λ both. both.1))
+        text fronts (λ place inner undone. subst (λ ps. Contains ps place) (sym are) (undone-prefix-inside lexicon.affixes place text inner undone))))
+        (gives-passes lexicon text)
+
+    there : (d : Derivation) → Contains [] d ⊎ Gives lexicon text d → Gives lexicon text d
+    there d (inl (k, within, at)) = absurd (omega (arith, within))
+    there d (inr gives) = gives

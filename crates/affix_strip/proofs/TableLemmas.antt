@@ -1,0 +1,164 @@
+-- The tables of a dictionary: one entry more, one rule more; and which places they give.
+use Rattle.std.proofs.Common.{◌≡◌, ◌∙◌, ◌⊎◌, inl, inr, refl, sym, ap, subst, ℕ, zero, suc, ◌+◌, ◌<◌, Bool, true, false, cond, ◌&&◌, ◌||◌, true≢false, List, [], ◌∷◌, ◌++◌, length, take, get_or, nat_eq, slice_get, Contains, None, Some, if◌then◌else◌, Vec, Global, arith}
+use Rattle.std.specs.Cmp.Lexicographic.{pointwise}
+use Rattle.std.specs.List.{starts_with, ends_with}
+use Rattle.std.proofs.lemmas.Bool.{and_parts}
+use Rattle.std.proofs.lemmas.List.{take_more}
+use Rattle.std.proofs.lemmas.List.Elements.{Contains-append_left, Contains-append_right, Contains-append_cases}
+use Rattle.std.proofs.lemmas.Option.{option_and_then_some, cond_some}
+use Rattle.std.proofs.lemmas.Slice.Eq.{bytes_eq-Decides}
+use Rattle.spell_types.specs.declared.Affixes.{Affixes}
+use Rattle.spell_types.specs.declared.Entry.{Entry}
+use Rattle.spell_types.specs.declared.flags.Flag.{Flag}
+use Rattle.spell_types.specs.declared.rules.Rule.{Rule}
+use Rattle.spell_types.specs.declared.rules.Side.{Side}
+use Rattle.spell_types.specs.declared.rules.Side.TheVariants.{Prefix, Suffix}
+use Rattle.spell_types.specs.Attaching.{may_strip}
+use Rattle.spell_types.specs.Conditions.{fits_front, fits_back}
+use Rattle.spell_types.specs.Derivations.{is_same_side, rule_on}
+use Rattle.spell_types.specs.Flags.{has, put, put_all}
+use Rattle.spell_types.proofs.FlagLemmas.{put_all-has}
+use Rattle.affix_classes.specs.Undoing.{undone_suffix, undone_prefix, suffix_put_back, prefix_put_back}
+use Rattle.affix_tables.specs.Places.{suffix_places, prefix_places}
+use Rattle.affix_tables.specs.Tables.{places_at}
+use Rattle.affix_tables.proofs.LawLemmas.{suffix-members, prefix-members}
+use Rattle.affix_strip.specs.Tables.{HasEntries, HasCarried}
+use Rattle.affix_strip.specs.Undone.{undone_at}
+use Rattle.affix_strip.proofs.InverseLemmas.{rule_on-side}
+
+-- ---- a list with one item more
+get-front : {X : Type 0} (xs : List X) (x : X) (i : ℕ) (y : X) → slice_get xs i ≡ Some y → slice_get (xs ++ x ∷ []) i ≡ Some y
+get-front [] x i y at = absurd (cc)
+get-front (z ∷ xs) x zero y at = at
+get-front (z ∷ xs) x (suc i) y at = get-front xs x i y at
+
+get-end : {X : Type 0} (xs : List X) (x : X) → slice_get (xs ++ x ∷ []) (length xs) ≡ Some x
+get-end [] x = refl
+get-end (z ∷ xs) x = get-end xs x
+
+get-more : {X : Type 0} (xs : List X) (x : X) (i : ℕ) (y : X) → slice_get (xs ++ x ∷ []) i ≡ Some y → (slice_get xs i ≡ Some y) ⊎ ((i ≡ length xs) × (x ≡ y))
+get-more [] x zero y at = inr (refl, cc)
+get-more [] x (suc i) y at = absurd (cc)
+get-more (z ∷ xs) x zero y at = inl at
+get-more (z ∷ xs) x (suc i) y at = later (get-more xs x i y at)
+  where
+    later : (slice_get xs i ≡ Some y) ⊎ ((i ≡ length xs) × (x ≡ y)) → (slice_get xs i ≡ Some y) ⊎ ((suc i ≡ length (z ∷ xs)) × (x ≡ y))
+    later (inl there) = inl there
+    later (inr (last, same)) = inr (ap suc last, same)
+
+-- ---- entries by their words
+abbrev Table : Type 0
+Table = List (Vec ℕ Global × Vec ℕ Global)
+
+pub entries-none : HasEntries [] []
+entries-none = record {
+  at_word = λ word place. (
+    λ (k, within, at). absurd (omega (arith, within)),
+    λ (entry, at, is). absurd (cc),
+  );
+}
+
+abbrev Known : List Entry → List ℕ → ℕ → Type 0
+Known entries word place = (entry : Entry) × (slice_get entries place ≡ Some entry) × (entry.word ≡ word)
+
+pub entries-more : (entries : List Entry) (entry : Entry) (before now : Table) → HasEntries entries before → ((other : List ℕ) → places_at now other ≡ places_at before other ++ (if pointwise nat_eq other entry.word then length entries ∷ [] else [])) → HasEntries (entries ++ entry ∷ []) now
+entries-more entries entry before now holds adds = record {
+  at_word = λ word place. (
+    λ inside. there word place (Contains-append_cases (places_at before word) (if pointwise nat_eq word entry.word then length entries ∷ [] else []) place (subst (λ places. Contains places place) (adds word) inside)),
+    λ known. subst (λ places. Contains places place) (sym (adds word)) (back word place known),
+  );
+}
+  where
+    new : (word : List ℕ) (place : ℕ) (b : Bool) → pointwise nat_eq word entry.word ≡ b → Contains (cond b (length entries ∷ []) []) place → Known (entries ++ entry ∷ []) word place
+    new word place true same (zero, within, at) = (entry, subst (λ i. slice_get (entries ++ entry ∷ []) i ≡ Some entry) at (get-end entries entry), sym ((bytes_eq-Decides word entry.word).0 same))
+    new word place true same (suc k, within, at) = absurd (omega (arith, within))
+    new word place false same (k, within, at) = absurd (omega (arith, within))
+
+    old : (word : List ℕ) (place : ℕ) → Known entries word place → Known (entries ++ entry ∷ []) word place
+    old word place (e, at, is) = (e, get-front entries entry place e at, is)
+
+    there : (word : List ℕ) (place : ℕ) → Contains (places_at before word) place ⊎ Contains (if pointwise nat_eq word entry.word then length entries ∷ [] else []) place → Known (entries ++ entry ∷ []) word place
+    there word place (inl inside) = old word place ((holds.at_word word place).0 inside)
+    there word place (inr inside) = new word place (pointwise nat_eq word entry.word) refl inside
+
+    last : (word : List ℕ) (place : ℕ) (b : Bool) → b ≡ true → place ≡ length entries → Contains (cond b (length entries ∷ []) []) place
+    last word place true is at = (0, omega arith, sym at)
+    last word place false is at = absurd (true≢false (sym is))
+
+    by : (word : List ℕ) (place : ℕ) (e : Entry) → (slice_get entries place ≡ Some e) ⊎ ((place ≡ length entries) × (entry ≡ e)) → e.word ≡ word → Contains (places_at before word ++ (if pointwise nat_eq word entry.word then length entries ∷ [] else [])) place
+    by word place e (inl at) is = Contains-append_left (places_at before word) (if pointwise nat_eq word entry.word then length entries ∷ [] else []) place ((holds.at_word word place).1 (e, at, is))
+    by word place e (inr (at, same)) is =
+        Contains-append_right (places_at before word) (if pointwise nat_eq word entry.word then length entries ∷ [] else []) place
+        (last word place (pointwise nat_eq word entry.word) ((bytes_eq-Decides word entry.word).1 (sym is ∙ ap (λ (x : Entry). x.word) (sym same))) at)
+
+    back : (word : List ℕ) (place : ℕ) → Known (entries ++ entry ∷ []) word place → Contains (places_at before word ++ (if pointwise nat_eq word entry.word then length entries ∷ [] else [])) place
+    back word place (e, at, is) = by word place e (get-more entries entry place e at) is
+
+-- ---- the flags that suffix rules carry
+pub carried-none : (set : List Flag) → HasCarried [] set
+carried-none set = record { flags = λ place rule flag at side has. absurd (cc) }
+
+pub carried-more : (rules : List Rule) (rule : Rule) (before now : List Flag) → HasCarried rules before → now ≡ (if is_same_side Suffix rule.side then put_all before rule.carried else before) → HasCarried (rules ++ rule ∷ []) now
+carried-more rules rule before now holds is = record {
+  flags = λ place other flag at side carries. subst (λ set. has set (Some flag) ≡ true) (sym is) (by flag (get-more rules rule place other at) side carries);
+}
+  where
+    or-right : (a b : Bool) → b ≡ true → (a || b) ≡ true
+    or-right true b same = refl
+    or-right false b same = same
+
+    or-left : (a b : Bool) → a ≡ true → (a || b) ≡ true
+    or-left true b same = refl
+    or-left false b same = absurd (true≢false (sym same))
+
+    kept : (flag : Flag) (b : Bool) → has before (Some flag) ≡ true → has (cond b (put_all before rule.carried) before) (Some flag) ≡ true
+    kept flag true had = put_all-has before rule.carried flag ∙ or-right (has rule.carried (Some flag)) (has before (Some flag)) had
+    kept flag false had = had
+
+    added : (flag : Flag) (side : Side) → side ≡ Suffix → has rule.carried (Some flag) ≡ true → has (cond (is_same_side Suffix side) (put_all before rule.carried) before) (Some flag) ≡ true
+    added flag Suffix on carries = put_all-has before rule.carried flag ∙ or-left (has rule.carried (Some flag)) (has before (Some flag)) carries
+    added flag Prefix on carries = absurd (cc)
+
+    by : {place : ℕ} {other : Rule} (flag : Flag) → (slice_get rules place ≡ Some other) ⊎ ((place ≡ length rules) × (rule ≡ other)) → other.side ≡ Suffix → has other.carried (Some flag) ≡ true → has (cond (is_same_side Suffix rule.side) (put_all before rule.carried) before) (Some flag) ≡ true
+    by {place} {other} flag (inl at) side carries = kept flag (is_same_side Suffix rule.side) (holds.flags place other flag at side carries)
+    by {place} {other} flag (inr (at, same)) side carries =
+        added flag rule.side (ap (λ (r : Rule). r.side) same ∙ side) (subst (λ (r : Rule). has r.carried (Some flag) ≡ true) (sym same) carries)
+
+put_all-more : (set flags : List Flag) (flag : Flag) → put_all set (flags ++ flag ∷ []) ≡ put flag (put_all set flags)
+put_all-more set [] flag = refl
+put_all-more set (first ∷ flags) flag = put_all-more (put first set) flags flag
+
+pub put_all-next : (set before now flags items : List Flag) (i : ℕ) (d : Flag) → items ≡ flags → i < length items → before ≡ put_all set (take i flags) → now ≡ put (get_or items i d) before → now ≡ put_all set (take (i + 1) flags)
+put_all-next set before now flags items i d same within was is =
+    is ∙ ap (put (get_or items i d)) (was ∙ ap (λ fs. put_all set (take i fs)) (sym same))
+    ∙ sym (put_all-more set (take i items) (get_or items i d))
+    ∙ ap (put_all set) (sym (take_more items i d within))
+    ∙ ap (λ fs. put_all set (take (i + 1) fs)) same
+
+-- ---- the rules that may be undone
+pub on-rule : (rules : List Rule) (side : Side) (place : ℕ) (rule : Rule) → rule_on rules side place ≡ Some rule → slice_get rules place ≡ Some rule
+on-rule rules side place rule on =
+    option_and_then_some (λ (r : Rule). if is_same_side side r.side then Some r else None) (slice_get rules place) rule on (λ r at is.
+    at ∙ ap (λ x. Some x) (cond_some (is_same_side side r.side) r rule is).1)
+
+pub undone-suffix-inside : (affixes : Affixes) (place : ℕ) (text inner : List ℕ) → undone_at affixes Suffix place text ≡ Some inner → Contains (suffix_places affixes.rules text) place
+undone-suffix-inside affixes place text inner is =
+    option_and_then_some (λ (rule : Rule). undone_suffix affixes.options.full_strip rule text) (rule_on affixes.rules Suffix place) inner is (λ rule on undone.
+    (suffix-members affixes.rules text place).1 (
+      rule,
+      on-rule affixes.rules Suffix place rule on,
+      rule_on-side affixes.rules Suffix place rule on,
+      (and_parts (ends_with nat_eq text rule.add) (may_strip affixes.options.full_strip rule (suffix_put_back rule text) && fits_back rule.condition (suffix_put_back rule text))
+          (cond_some _ (suffix_put_back rule text) inner undone).0).0,
+    ))
+
+pub undone-prefix-inside : (affixes : Affixes) (place : ℕ) (text inner : List ℕ) → undone_at affixes Prefix place text ≡ Some inner → Contains (prefix_places affixes.rules text) place
+undone-prefix-inside affixes place text inner is =
+    option_and_then_some (λ (rule : Rule). undone_prefix affixes.options.full_strip rule text) (rule_on affixes.rules Prefix place) inner is (λ rule on undone.
+    (prefix-members affixes.rules text place).1 (
+      rule,
+      on-rule affixes.rules Prefix place rule on,
+      rule_on-side affixes.rules Prefix place rule on,
+      (and_parts (starts_with nat_eq text rule.add) (may_strip affixes.options.full_strip rule (prefix_put_back rule text) && fits_front rule.condition (prefix_put_back rule text))
+          (cond_some _ (prefix_put_back rule text) inner undone).0).0,
+    ))
