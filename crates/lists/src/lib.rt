@@ -12,6 +12,7 @@ use std::alloc::{AllocError, AllocFailed, Global};
 use std::default::MadeWith;
 use std::hash::{Hash, Hasher};
 use std::marker::Model;
+use std::ops::DerefSlice;
 use std::slice;
 
 /// Memory for the answer could not be had. No other cause is ever merged with this one.
@@ -99,6 +100,16 @@ impl<T> Items<T> {
         ensures runs { EveryRun (iter_steps {A = T}) (λ p. ItemsMapTo p (λ x. x.now) (iter_rest p.from)) }
     {
         self.as_slice().iter()
+    }
+}
+
+impl<T> DerefSlice for Items<T> {
+    type Elem = T;
+
+    ghost deref_gives = { λ list items. items ≡ list };
+
+    fn deref(&self) -> &[T] {
+        self.as_slice()
     }
 }
 
