@@ -4,8 +4,8 @@ use Rattle.std.specs.List.{flat_map}
 use Rattle.std.specs.Option.{option_or}
 use Rattle.std.proofs.lemmas.Bool.Decides.{nat_tests}
 use Rattle.aff_lines.specs.declared.faults.Fault.{Fault}
-use Rattle.aff_lines.specs.declared.rows.Kept.{Kept}
-use Rattle.aff_lines.specs.Faults.{cause_number, is_before, sooner, least_of, first_fault, IsAmong, IsFault, IsLeast}
+use Rattle.aff_lines.specs.declared.rows.DirectiveLine.{DirectiveLine}
+use Rattle.aff_lines.specs.Faults.{cause_number, is_before, sooner, least_of, first_fault, IsAmong, IsFault, IsLeast, LeastIs}
 
 -- whether the pair of a line and a cause goes before another
 abbrev before : ℕ → ℕ → ℕ → ℕ → Bool
@@ -73,22 +73,18 @@ found_more found total here rest all is so_far =
 pub found_all : (found total : Option Fault) (rest : List Fault) → rest ≡ [] → sooner found (least_of rest) ≡ total → found ≡ total
 found_all found total rest is so_far = sym (sooner_none found) ∙ ap (λ faults. sooner found (least_of faults)) (sym is) ∙ so_far
 
-pub each_more : (faults_in : Kept → List Fault) (found total : Option Fault) (own more : List Kept) (line : Kept) → own ≡ line ∷ more
+pub each_more : (faults_in : DirectiveLine → List Fault) (found total : Option Fault) (own more : List DirectiveLine) (line : DirectiveLine) → own ≡ line ∷ more
     → sooner found (least_of (flat_map faults_in own)) ≡ total
     → sooner (sooner found (least_of (faults_in line))) (least_of (flat_map faults_in more)) ≡ total
 each_more faults_in found total own more line is so_far =
     found_more found total (faults_in line) (flat_map faults_in more) (flat_map faults_in own) (ap (flat_map faults_in) is) so_far
 
-pub each_all : (faults_in : Kept → List Fault) (found total : Option Fault) (own : List Kept) → own ≡ []
+pub each_all : (faults_in : DirectiveLine → List Fault) (found total : Option Fault) (own : List DirectiveLine) → own ≡ []
     → sooner found (least_of (flat_map faults_in own)) ≡ total → found ≡ total
 each_all faults_in found total own is so_far =
     found_all found total (flat_map faults_in own) (ap (flat_map faults_in) is) so_far
 
 -- the least of some faults, read as a set
-
-abbrev pub LeastIs : List Fault → Option Fault → Type 0
-LeastIs faults None = faults ≡ []
-LeastIs faults (Some fault) = IsLeast (IsAmong faults) fault
 
 is-self : (fault other : Fault) → fault ≡ other → is_before other fault ≡ false
 is-self fault other same = ap (λ f. is_before f fault) (sym same) ∙ before-self fault.line (cause_number fault.why)
@@ -156,7 +152,7 @@ first_law [] = λ pass fault bad. bad
 first_law (faults ∷ later) = first-cons faults later (least_of faults) (least_law faults) (first_law later)
 
 -- a turn of a loop over the lines of a directive
-pub each_turn : (faults_in : Kept → List Fault) (found here now total : Option Fault) (own more : List Kept) (line : Kept)
+pub each_turn : (faults_in : DirectiveLine → List Fault) (found here now total : Option Fault) (own more : List DirectiveLine) (line : DirectiveLine)
     → now ≡ sooner found here → here ≡ least_of (faults_in line) → own ≡ line ∷ more
     → sooner found (least_of (flat_map faults_in own)) ≡ total
     → sooner now (least_of (flat_map faults_in more)) ≡ total

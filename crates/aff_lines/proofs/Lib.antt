@@ -1,4 +1,4 @@
-pub mod FaultLemmas
+mod FaultLemmas
 mod NameLemmas
 mod RowLemmas
 mod ReadLemmas

@@ -1,47 +1,57 @@
--- The directives of a pass, and names of directives of some passes.
-use Rattle.std.proofs.Common.{◌≡◌, ◌≢◌, ◌↔◌, ℕ, zero, suc, ◌+◌, ◌<◌, ◌&&◌, ◌||◌, Bool, true, false, cond, List, [], ◌∷◌, length, map, refl, sym, ap, ◌∙◌, subst, get_or, arith, rules}
-use Rattle.std.specs.List.{AllPairs, Contains, filter, list_any, range_with_len}
-use Rattle.std.proofs.lemmas.Bool.{cond_both}
+-- The table of directives: each has one row, and no name stands twice.
+use Rattle.std.proofs.Common.{◌≡◌, ◌≢◌, ◌↔◌, ℕ, zero, suc, ◌+◌, ◌<◌, ◌&&◌, ◌||◌, not, Bool, true, false, cond, List, [], ◌∷◌, length, map, Option, Some, None, refl, sym, ap, ◌∙◌, subst, get_or, arith, rules}
+use Rattle.std.specs.List.{All, AllPairs, Contains, filter, find, list_all, range_with_len}
+use Rattle.std.specs.Option.{option_map, option_to_list}
+use Rattle.std.specs.Str.{bytes_eq}
+use Rattle.std.proofs.lemmas.Bool.{and_parts, cond_both}
+use Rattle.std.proofs.lemmas.Bool.Decides.{Decides-by_and}
 use Rattle.std.proofs.lemmas.List.{get_or-map}
-use Rattle.std.proofs.lemmas.List.Elements.{All-contains, filter_passes}
+use Rattle.std.proofs.lemmas.List.Elements.{All-contains, All-contains_itself, All-filter, filter_passes}
 use Rattle.std.proofs.lemmas.List.FromFn.{get_or-range_with_len}
-use Rattle.std.proofs.lemmas.List.Kept.{AllPairs-filter}
-use denote.Enum.Bare.{tag_one}
+use Rattle.std.proofs.lemmas.List.Kept.{AllPairs-cons}
+use Rattle.std.proofs.lemmas.Slice.Eq.{bytes_eq-Decides}
+use denote.Enum.Bare.{tag_one, same_true, true_same}
 use denote.Enum.Declared.{tag_of, variants}
 use denote.Enum.Enum.{tag_below}
 use Rattle.aff_lines.specs.contracts.names.Directive.{the_type}
+use Rattle.aff_lines.specs.contracts.names.Pass.{the_type as the_passes}
+use Rattle.aff_lines.specs.declared.names.Described.{Described}
 use Rattle.aff_lines.specs.declared.names.Directive.{Directive}
 use Rattle.aff_lines.specs.declared.names.Pass.{Pass}
-use Rattle.aff_lines.specs.declared.names.Pass.TheVariants.{First, Second, Third, Fourth}
-use Rattle.aff_lines.specs.Names.{is_named, is_among, pass_of, is_same_pass, is_of, all_directives, directives_in, is_of_one, directives_of_passes}
+use Rattle.aff_lines.specs.Names.{Description, description_of, is_described, directive_in, names_of, is_text, is_named, named_in, is_same, is_of, all_directives, all_names, directive_named, directives_in}
 
--- the place of a directive among the variants of the enum, in whose order all directives are listed
+-- each directive has one row
+
+-- the place of a directive among the variants of the enum, in whose order the rows stand
 abbrev place_of : Directive → ℕ
 place_of directive = tag_of the_type directive
 
-in-order : map place_of all_directives ≡ range_with_len 0 (length all_directives)
+abbrev listed-ones : List Directive
+listed-ones = map directive_in all_directives
+
+in-order : map place_of listed-ones ≡ range_with_len 0 (length listed-ones)
 unfolding all_directives
 in-order = refl
 
-below-all : (directive : Directive) → place_of directive < length all_directives
+below-all : (directive : Directive) → place_of directive < length listed-ones
 unfolding all_directives
 below-all directive = tag_below (variants the_type) (the_type.to directive)
 
-place-at : (place : ℕ) (d : Directive) → place < length all_directives → place_of (get_or all_directives place d) ≡ place
+place-at : (place : ℕ) (d : Directive) → place < length listed-ones → place_of (get_or listed-ones place d) ≡ place
 place-at place d within =
     let here : 0 + place ≡ place = omega arith in
-    sym (get_or-map place_of all_directives place d 0 within)
+    sym (get_or-map place_of listed-ones place d 0 within)
     ∙ ap (λ places. get_or places place 0) in-order
-    ∙ get_or-range_with_len 0 (length all_directives) place 0 within
+    ∙ get_or-range_with_len 0 (length listed-ones) place 0 within
     ∙ here
 
-listed : (directive : Directive) → Contains all_directives directive
-listed directive =
+pub each-listed : (directive : Directive) → Contains listed-ones directive
+each-listed directive =
     (place_of directive, below-all directive, tag_one the_type (search rules) _ _ (place-at (place_of directive) directive (below-all directive)))
 
-apart : AllPairs (λ (first other : Directive). first ≢ other) all_directives
-apart i j d before within same =
-    let first : i < length all_directives = omega (arith, before, within) in
+pub listed-once : AllPairs (λ (first other : Directive). first ≢ other) listed-ones
+listed-once i j d before within same =
+    let first : i < length listed-ones = omega (arith, before, within) in
     let equal : i ≡ j = sym (place-at i d first) ∙ ap place_of same ∙ place-at j d within in
     omega (arith, before, equal)
 
@@ -56,62 +66,122 @@ contains-filter test (y ∷ ys) x (suc place) within is passes =
     let rest = contains-filter test ys x place (omega (arith, within)) is passes in
     cond_both (test y) (y ∷ filter test ys) (filter test ys) (λ (picked : List _). Contains picked x) (λ _. (suc rest.0, omega (arith, rest.1), rest.2)) (λ _. rest)
 
-same-pass : (pass other : Pass) → is_same_pass pass other ≡ true → pass ≡ other
-same-pass First First same = refl
-same-pass Second Second same = refl
-same-pass Third Third same = refl
-same-pass Fourth Fourth same = refl
-same-pass First Second same = absurd (cc same)
-same-pass First Third same = absurd (cc same)
-same-pass First Fourth same = absurd (cc same)
-same-pass Second First same = absurd (cc same)
-same-pass Second Third same = absurd (cc same)
-same-pass Second Fourth same = absurd (cc same)
-same-pass Third First same = absurd (cc same)
-same-pass Third Second same = absurd (cc same)
-same-pass Third Fourth same = absurd (cc same)
-same-pass Fourth First same = absurd (cc same)
-same-pass Fourth Second same = absurd (cc same)
-same-pass Fourth Third same = absurd (cc same)
-
-pass-self : (pass : Pass) → is_same_pass pass pass ≡ true
-pass-self First = refl
-pass-self Second = refl
-pass-self Third = refl
-pass-self Fourth = refl
-
-pub members-of-pass : (pass : Pass) (directive : Directive) → Contains (directives_in pass) directive ↔ (pass_of directive ≡ pass)
+pub rows-of-pass : (pass : Pass) (row : Description) → Contains (directives_in pass) row ↔ (Contains all_directives row × (row.pass ≡ pass))
 unfolding directives_in
-members-of-pass pass directive = (
-  λ among. same-pass (pass_of directive) pass
-      (All-contains (λ d. is_of pass d ≡ true) (filter (is_of pass) all_directives) directive (filter_passes (is_of pass) all_directives) among),
-  λ is. contains-filter (is_of pass) all_directives directive (listed directive).0 (listed directive).1 (listed directive).2
-      (subst (λ (p : Pass). is_same_pass (pass_of directive) p ≡ true) is (pass-self (pass_of directive))),
+rows-of-pass pass row = (
+  λ among. (
+    All-contains (Contains all_directives) (filter (is_of pass) all_directives) row
+        (All-filter (is_of pass) (Contains all_directives) all_directives (All-contains_itself all_directives)) among,
+    same_true the_passes tt row.pass pass
+        (All-contains (λ d. is_of pass d ≡ true) (filter (is_of pass) all_directives) row (filter_passes (is_of pass) all_directives) among),
+  ),
+  λ is. contains-filter (is_of pass) all_directives row is.0.0 is.0.1 is.0.2 (true_same the_passes row.pass pass is.1),
 )
 
-pub once-in-pass : (pass : Pass) → AllPairs (λ (first other : Directive). first ≢ other) (directives_in pass)
-unfolding directives_in
-once-in-pass pass = AllPairs-filter (λ first other. first ≢ other) (is_of pass) all_directives apart
+-- no name stands twice
 
-any-filter : (narrow test : Directive → Bool) (directives : List Directive)
-    → list_any (λ directive. narrow directive && test directive) directives ≡ list_any test (filter narrow directives)
-any-filter narrow test [] = refl
-any-filter narrow test (directive ∷ directives) =
-    ap (λ found. (narrow directive && test directive) || found) (any-filter narrow test directives)
-    ∙ by-test (narrow directive)
+all-by-test : {X : Type 0} (test : X → Bool) (xs : List X) → list_all test xs ≡ true → All (λ x. test x ≡ true) xs
+all-by-test test xs =
+    (Decides-by_and test (λ x. test x ≡ true) (list_all test) (λ x. (λ e. e, λ e. e)) refl (λ x xs. refl) xs).0
+
+is-other : List ℕ → List ℕ → Bool
+is-other name other = not (bytes_eq name other)
+
+are-distinct : List (List ℕ) → Bool
+are-distinct [] = true
+are-distinct (name ∷ names) = list_all (is-other name) names && are-distinct names
+
+other-differs : (name other : List ℕ) → is-other name other ≡ true → name ≢ other
+unfolding is-other
+other-differs name other differs same = absurd (cc (ap not ((bytes_eq-Decides name other).1 same), differs))
+
+distinct-pairs : (names : List (List ℕ)) → are-distinct names ≡ true → AllPairs (λ (first other : List ℕ). first ≢ other) names
+unfolding are-distinct
+distinct-pairs [] distinct = λ i j d before within. absurd (omega (arith, within))
+distinct-pairs (name ∷ names) distinct =
+    let parts = and_parts (list_all (is-other name) names) (are-distinct names) distinct in
+    AllPairs-cons (λ (first other : List ℕ). first ≢ other) name names
+    (λ k d within. other-differs name (get_or names k d) (all-by-test (is-other name) names parts.0 k d within))
+    (distinct-pairs names parts.1)
+
+all-distinct : are-distinct all_names ≡ true
+unfolding are-distinct is-other all_names all_directives
+all-distinct = refl
+
+pub names-once : AllPairs (λ (first other : List ℕ). first ≢ other) all_names
+names-once = distinct-pairs all_names all-distinct
+
+-- each name is found as one of its row's directive
+
+is-that : Directive → Option Directive → Bool
+is-that directive None = false
+is-that directive (Some found) = is_same found directive
+
+leads-to : Directive → List ℕ → Bool
+leads-to directive name = is-that directive (directive_named name)
+
+is-found : Description → Bool
+is-found row = list_all (leads-to row.directive) (names_of row)
+
+all-found : list_all is-found all_directives ≡ true
+unfolding is-that leads-to is-found all_directives directive_named
+all-found = refl
+
+that-one : (directive : Directive) (found : Option Directive) → is-that directive found ≡ true → found ≡ Some directive
+unfolding is-that
+that-one directive None is = absurd (cc is)
+that-one directive (Some found) is = ap Some (same_true the_type (search rules) found directive is)
+
+pub name-found : (row : Description) (name : List ℕ) → Contains all_directives row → Contains (names_of row) name → directive_named name ≡ Some row.directive
+unfolding is-found leads-to
+name-found row name among own =
+    let all : list_all (leads-to row.directive) (names_of row) ≡ true =
+    All-contains (λ r. is-found r ≡ true) all_directives row (all-by-test is-found all_directives all-found) among in
+    that-one row.directive (directive_named name)
+    (All-contains (λ n. leads-to row.directive n ≡ true) (names_of row) name (all-by-test (leads-to row.directive) (names_of row) all) own)
+
+-- what is found by a name has that name
+
+second-name : (other : Option (List ℕ)) (first name : List ℕ) → is_text other name ≡ true → Contains (first ∷ option_to_list other) name
+second-name None first name is = absurd (cc is)
+second-name (Some other) first name is = (1, omega arith, (bytes_eq-Decides other name).0 is)
+
+own-name : (row : Description) (name : List ℕ) → is_named name row ≡ true → Contains (names_of row) name
+own-name row name is = by-test (bytes_eq row.name name) refl
   where
-    by-test : (b : Bool)
-        → ((b && test directive) || list_any test (filter narrow directives))
-        ≡ list_any test (cond b (directive ∷ filter narrow directives) (filter narrow directives))
-    by-test true = refl
-    by-test false = refl
+    by-test : (b : Bool) → bytes_eq row.name name ≡ b → Contains (names_of row) name
+    by-test true same = (0, omega arith, (bytes_eq-Decides row.name name).0 same)
+    by-test false differs = second-name row.other_name row.name name (sym (ap (λ b. b || is_text row.other_name name) differs) ∙ is)
 
--- a name is found among the directives of some passes where it is found among all of them that are of these passes
-pub among_passes : (passes : List Pass) (directives : List Directive) (name : List ℕ) (found : Bool) → directives ≡ all_directives
-    → found ≡ list_any (λ directive. is_of_one passes directive && is_named directive name) directives
-    → found ≡ is_among (directives_of_passes passes) name
-unfolding directives_of_passes
-among_passes passes directives name found is told =
-    told
-    ∙ ap (list_any (λ directive. is_of_one passes directive && is_named directive name)) is
-    ∙ any-filter (is_of_one passes) (λ directive. is_named directive name) all_directives
+abbrev pub RowWith : List Description → Directive → List ℕ → Type 0
+RowWith rows directive name = (row : Description) × Contains rows row × (row.directive ≡ directive) × Contains (names_of row) name
+
+found-has : (name : List ℕ) (rows : List Description) (directive : Directive) → named_in name rows ≡ Some directive → RowWith rows directive name
+found-has name [] directive is = absurd (cc is)
+found-has name (row ∷ rows) directive is = by-test (λ found. found-has name rows directive found) (is_named name row) refl
+  where
+    by-test : (named_in name rows ≡ Some directive → RowWith rows directive name) → (b : Bool) → is_named name row ≡ b → RowWith (row ∷ rows) directive name
+    by-test more true named =
+        let found : Some row.directive ≡ Some directive = sym (ap (λ b. option_map directive_in (cond b (Some row) (find (is_named name) rows))) named) ∙ is in
+        (row, (0, omega arith, refl), cc found, own-name row name named)
+    by-test more false other =
+        let found : named_in name rows ≡ Some directive = sym (ap (λ b. option_map directive_in (cond b (Some row) (find (is_named name) rows))) other) ∙ is in
+        let later = more found in
+        (later.0, (suc later.1.0, omega (arith, later.1.1), later.1.2), later.2, later.3)
+
+pub named-has : (name : List ℕ) (directive : Directive) → directive_named name ≡ Some directive → RowWith all_directives directive name
+unfolding directive_named
+named-has name directive is = found-has name all_directives directive is
+
+-- the code's rows are looked through as the table's
+
+pub named_described : (name : List ℕ) (rows : List Described)
+    → named_in name (map description_of rows) ≡ option_map (λ (row : Described). row.directive) (find (is_described name) rows)
+named_described name [] = refl
+named_described name (row ∷ rows) = by-test (is_described name row) (named_described name rows)
+  where
+    by-test : (b : Bool) → named_in name (map description_of rows) ≡ option_map (λ (row : Described). row.directive) (find (is_described name) rows)
+        → option_map directive_in (cond b (Some (description_of row)) (find (is_named name) (map description_of rows)))
+        ≡ option_map (λ (row : Described). row.directive) (cond b (Some row) (find (is_described name) rows))
+    by-test true rest = refl
+    by-test false rest = rest

@@ -9,15 +9,14 @@ use Rattle.spell_types.specs.declared.flags.Flag.{Flag}
 use Rattle.spell_types.specs.declared.flags.FlagKind.{FlagKind}
 use Rattle.aff_lines.specs.declared.faults.AffWhy.TheVariants.{Twice}
 use Rattle.aff_lines.specs.declared.faults.Fault.{Fault}
-use Rattle.aff_lines.specs.declared.names.Directive.{Directive}
-use Rattle.aff_lines.specs.declared.names.Directive.TheVariants.{FlagType}
+use Rattle.aff_lines.specs.declared.names.Described.{Described}
+use Rattle.aff_lines.specs.declared.names.Directive.TheVariants as Directive
 use Rattle.aff_lines.specs.declared.names.Pass.{Pass}
-use Rattle.aff_lines.specs.declared.names.Pass.TheVariants.{First, Second, Third}
 use Rattle.aff_lines.specs.declared.names.Row.{Row}
-use Rattle.aff_lines.specs.declared.rows.Kept.{Kept}
+use Rattle.aff_lines.specs.declared.rows.DirectiveLine.{DirectiveLine}
 use Rattle.aff_lines.specs.Faults.{sooner, least_of, first_fault}
 use Rattle.aff_lines.specs.Grammar.{at, row_faults, past_faults, rows_faults, place_faults}
-use Rattle.aff_lines.specs.Names.{is_of, all_directives, directives_in}
+use Rattle.aff_lines.specs.Names.{Description, description_of, is_of, all_directives, directives_in}
 use Rattle.aff_lines.specs.Passes.{directive_faults, pass_faults, faults_in, set_in, kind_said, bad_faults, passes_of}
 use Rattle.aff_lines.specs.Rows.{lines_of}
 use Rattle.aff_lines.proofs.FaultLemmas.{found_more, least_append}
@@ -25,7 +24,7 @@ use Rattle.aff_lines.proofs.FaultLemmas.{found_more, least_append}
 some-left : (left : ℕ) → (suc left == 0) ≡ false
 some-left left = grind (arith, nat_tests)
 
-rows-step : (kind : FlagKind) (row : Row) (left next : ℕ) (line : Kept) (more : List Kept) → next ≡ left - 1
+rows-step : (kind : FlagKind) (row : Row) (left next : ℕ) (line : DirectiveLine) (more : List DirectiveLine) → next ≡ left - 1
     → rows_faults kind row left (line ∷ more) ≡ place_faults kind row left line ++ rows_faults kind row next more
 rows-step kind row zero next line more is =
     let none : next ≡ 0 = omega (arith, is) in
@@ -38,7 +37,7 @@ rows-step kind row (suc left) next line more is =
     ∙ ap (λ here. here ++ rows_faults kind row next more) (sym own)
 
 -- a turn of the loop over the rows of a table
-pub rows_turn : (kind : FlagKind) (row : Row) (found here now total : Option Fault) (left next : ℕ) (own more : List Kept) (line : Kept)
+pub rows_turn : (kind : FlagKind) (row : Row) (found here now total : Option Fault) (left next : ℕ) (own more : List DirectiveLine) (line : DirectiveLine)
     → now ≡ sooner found here → here ≡ least_of (place_faults kind row left line) → next ≡ left - 1 → own ≡ line ∷ more
     → sooner found (least_of (rows_faults kind row left own)) ≡ total
     → sooner now (least_of (rows_faults kind row next more)) ≡ total
@@ -47,42 +46,52 @@ rows_turn kind row found here now total left next own more line merged told less
     ∙ found_more found total (place_faults kind row left line) (rows_faults kind row next more) (rows_faults kind row left own)
     (ap (rows_faults kind row left) is ∙ rows-step kind row left next line more less) so_far
 
+-- the faults of a row of the code's table, if it is one of the pass
+abbrev pub described_faults : FlagKind → List DirectiveLine → Pass → Described → List Fault
+described_faults kind rows pass described = faults_in kind rows pass (description_of described)
+
 -- a turn of the loop over the directives
-pub pass_turn : (kind : FlagKind) (rows : List Kept) (pass : Pass) (directives : List Directive) (place : ℕ) (d : Directive) (found here now : Option Fault)
+pub pass_turn : (kind : FlagKind) (rows : List DirectiveLine) (pass : Pass) (directives : List Described) (place : ℕ) (d : Described) (found here now : Option Fault)
     → place < length directives → now ≡ sooner found here
-    → here ≡ least_of (faults_in kind rows pass (get_or directives place d))
-    → found ≡ least_of (flat_map (faults_in kind rows pass) (take place directives))
-    → now ≡ least_of (flat_map (faults_in kind rows pass) (take (place + 1) directives))
+    → here ≡ least_of (described_faults kind rows pass (get_or directives place d))
+    → found ≡ least_of (flat_map (described_faults kind rows pass) (take place directives))
+    → now ≡ least_of (flat_map (described_faults kind rows pass) (take (place + 1) directives))
 pass_turn kind rows pass directives place d found here now within merged told so_far =
-    let directive = get_or directives place d in
-    let own = faults_in kind rows pass directive in
-    let earlier = flat_map (faults_in kind rows pass) (take place directives) in
-    let whole : flat_map (faults_in kind rows pass) (take (place + 1) directives) ≡ earlier ++ own =
-    ap (flat_map (faults_in kind rows pass)) (take_more directives place d within)
-    ∙ flat_map-append (faults_in kind rows pass) (take place directives) (directive ∷ [])
+    let own = described_faults kind rows pass (get_or directives place d) in
+    let earlier = flat_map (described_faults kind rows pass) (take place directives) in
+    let whole : flat_map (described_faults kind rows pass) (take (place + 1) directives) ≡ earlier ++ own =
+    ap (flat_map (described_faults kind rows pass)) (take_more directives place d within)
+    ∙ flat_map-append (described_faults kind rows pass) (take place directives) (get_or directives place d ∷ [])
     ∙ ap (λ faults. earlier ++ faults) (append-nil own) in
     merged
     ∙ ap (λ f. sooner f here) so_far
     ∙ ap (sooner (least_of earlier)) told
     ∙ sym (ap least_of whole ∙ least_append earlier own)
 
+-- the end of that loop
+pub all-described : (kind : FlagKind) (rows : List DirectiveLine) (pass : Pass) (directives : List Described)
+    → flat_map (described_faults kind rows pass) directives ≡ flat_map (faults_in kind rows pass) (map description_of directives)
+all-described kind rows pass [] = refl
+all-described kind rows pass (described ∷ directives) =
+    ap (λ faults. described_faults kind rows pass described ++ faults) (all-described kind rows pass directives)
+
 -- the faults of directives that are of a pass
-faults-of-pass : (kind : FlagKind) (rows : List Kept) (pass : Pass) (directives : List Directive)
+faults-of-pass : (kind : FlagKind) (rows : List DirectiveLine) (pass : Pass) (directives : List Description)
     → flat_map (faults_in kind rows pass) directives ≡ flat_map (directive_faults kind rows) (filter (is_of pass) directives)
 faults-of-pass kind rows pass [] = refl
-faults-of-pass kind rows pass (directive ∷ directives) =
-    ap (λ faults. faults_in kind rows pass directive ++ faults) (faults-of-pass kind rows pass directives)
-    ∙ by-test (is_of pass directive)
+faults-of-pass kind rows pass (row ∷ directives) =
+    ap (λ faults. faults_in kind rows pass row ++ faults) (faults-of-pass kind rows pass directives)
+    ∙ by-test (is_of pass row)
   where
     by-test : (b : Bool)
-        → cond b (directive_faults kind rows directive) [] ++ flat_map (directive_faults kind rows) (filter (is_of pass) directives)
-        ≡ flat_map (directive_faults kind rows) (cond b (directive ∷ filter (is_of pass) directives) (filter (is_of pass) directives))
+        → cond b (directive_faults kind rows row) [] ++ flat_map (directive_faults kind rows) (filter (is_of pass) directives)
+        ≡ flat_map (directive_faults kind rows) (cond b (row ∷ filter (is_of pass) directives) (filter (is_of pass) directives))
     by-test true = refl
     by-test false = refl
 
--- the end of the loop over the directives
-pub pass_all : (kind : FlagKind) (rows : List Kept) (pass : Pass) (directives : List Directive) (found : Option Fault)
-    → directives ≡ all_directives → found ≡ least_of (flat_map (faults_in kind rows pass) directives)
+-- those directives are the ones that the pass looks at
+pub pass_all : (kind : FlagKind) (rows : List DirectiveLine) (pass : Pass) (directives : List Described) (found : Option Fault)
+    → map description_of directives ≡ all_directives → found ≡ least_of (flat_map (faults_in kind rows pass) (map description_of directives))
     → found ≡ least_of (pass_faults kind rows pass)
 unfolding directives_in
 pass_all kind rows pass directives found is told =
@@ -91,7 +100,7 @@ pass_all kind rows pass directives found is told =
     ∙ ap least_of (faults-of-pass kind rows pass all_directives)
 
 -- a turn of the loop over the rows of AF
-pub sets_turn : (kind : FlagKind) (sets pushed total : List (List Flag)) (set : List Flag) (left : ℕ) (own more : List Kept) (line : Kept)
+pub sets_turn : (kind : FlagKind) (sets pushed total : List (List Flag)) (set : List Flag) (left : ℕ) (own more : List DirectiveLine) (line : DirectiveLine)
     → 0 < left → pushed ≡ sets ++ set ∷ [] → set ≡ set_in kind line → own ≡ line ∷ more
     → sets ++ map (set_in kind) (take left own) ≡ total
     → pushed ++ map (set_in kind) (take (left - 1) more) ≡ total
@@ -116,11 +125,11 @@ first_of_three first second third a b c is_a is_b is_c =
     ∙ ap (λ o. option_or (least_of first) (option_or o c)) is_b
     ∙ ap (λ o. option_or (least_of first) (option_or (least_of second) o)) (is_c ∙ sym (or-none (least_of third)))
 
-pub first_of_early : (bad : Option ℕ) (rows : List Kept) (kind : FlagKind) (a b c : Option Fault)
-    → kind ≡ kind_said (lines_of FlagType rows)
-    → a ≡ least_of (pass_faults kind rows First ++ bad_faults bad)
-    → b ≡ least_of (pass_faults kind rows Second) → c ≡ least_of (pass_faults kind rows Third)
+pub first_of_early : (bad : Option ℕ) (rows : List DirectiveLine) (kind : FlagKind) (a b c : Option Fault)
+    → kind ≡ kind_said (lines_of Directive.FlagType rows)
+    → a ≡ least_of (pass_faults kind rows Pass.First ++ bad_faults bad)
+    → b ≡ least_of (pass_faults kind rows Pass.Second) → c ≡ least_of (pass_faults kind rows Pass.Third)
     → option_or a (option_or b c) ≡ first_fault (passes_of bad rows)
 first_of_early bad rows kind a b c same is_a is_b is_c =
-    first_of_three (pass_faults kind rows First ++ bad_faults bad) (pass_faults kind rows Second) (pass_faults kind rows Third) a b c is_a is_b is_c
-    ∙ ap (λ k. first_fault ((pass_faults k rows First ++ bad_faults bad) ∷ pass_faults k rows Second ∷ pass_faults k rows Third ∷ [])) same
+    first_of_three (pass_faults kind rows Pass.First ++ bad_faults bad) (pass_faults kind rows Pass.Second) (pass_faults kind rows Pass.Third) a b c is_a is_b is_c
+    ∙ ap (λ k. first_fault ((pass_faults k rows Pass.First ++ bad_faults bad) ∷ pass_faults k rows Pass.Second ∷ pass_faults k rows Pass.Third ∷ [])) same

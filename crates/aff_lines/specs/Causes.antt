@@ -10,10 +10,8 @@ use Rattle.flag_sets.specs.FlagTexts.{listed_flags, one_flag}
 use Rattle.aff_lines.specs.declared.faults.AffWhy.{AffWhy}
 use Rattle.aff_lines.specs.declared.faults.AffWhy.TheVariants.{OtherEncoding, MissingField, BadNumber, OtherFlag, BadFlag}
 use Rattle.aff_lines.specs.declared.names.Form.{Form}
-use Rattle.aff_lines.specs.declared.names.Form.TheVariants.{Encoding, Kind, Flag, Number}
 use Rattle.aff_lines.specs.declared.names.Row.{Row}
-use Rattle.aff_lines.specs.declared.names.Row.TheVariants.{FlagField, OneText, TwoTexts}
-use Rattle.aff_lines.specs.declared.rows.Kept.{Kept}
+use Rattle.aff_lines.specs.declared.rows.DirectiveLine.{DirectiveLine}
 use Rattle.aff_lines.specs.Rows.{value_of}
 
 -- whether a text is this word, which is in lower case, in any ASCII case
@@ -37,18 +35,18 @@ number_in text = option_and_then (λ number. if nat_lt number (2 ^ 32) then Some
 
 -- whether a value is right for a directive that has one
 abbrev pub fits : FlagKind → Form → List ℕ → Bool
-fits kind Encoding value = is_utf8_name value
-fits kind Kind value = is_some (kind_named value)
-fits kind Flag value = is_some (one_flag kind value)
-fits kind Number value = is_some (number_in value)
+fits kind Form.Encoding value = is_utf8_name value
+fits kind Form.Kind value = is_some (kind_named value)
+fits kind Form.Flag value = is_some (one_flag kind value)
+fits kind Form.Number value = is_some (number_in value)
 fits kind _ value = true
 
 -- the cause where it is not; any text is right as a text
 abbrev pub misfit : Form → AffWhy
-misfit Encoding = OtherEncoding
-misfit Kind = OtherFlag
-misfit Flag = BadFlag
-misfit Number = BadNumber
+misfit Form.Encoding = OtherEncoding
+misfit Form.Kind = OtherFlag
+misfit Form.Flag = BadFlag
+misfit Form.Number = BadNumber
 misfit _ = MissingField
 
 abbrev pub unless : Bool → AffWhy → Option AffWhy
@@ -60,7 +58,7 @@ value_why kind form None = Some MissingField
 value_why kind form (Some value) = unless (fits kind form value) (misfit form)
 
 -- what is wrong with a line of a directive that has a value
-abbrev pub line_why : FlagKind → Form → Kept → Option AffWhy
+abbrev pub line_why : FlagKind → Form → DirectiveLine → Option AffWhy
 line_why kind form line = value_why kind form (value_of line)
 
 abbrev pub flags_why : FlagKind → Option (List ℕ) → Option AffWhy
@@ -68,15 +66,15 @@ flags_why kind None = Some MissingField
 flags_why kind (Some value) = unless (is_some (listed_flags kind value)) BadFlag
 
 -- whether two fields stand behind a line's name
-abbrev pub has_two_texts : Kept → Bool
+abbrev pub has_two_texts : DirectiveLine → Bool
 has_two_texts line = is_some (slice_get (fields line.text) 2)
 
 -- what is wrong with a row of a table
-abbrev pub row_why : FlagKind → Row → Kept → Option AffWhy
-row_why kind FlagField line = flags_why kind (value_of line)
-row_why kind OneText line = unless (is_some (value_of line)) MissingField
-row_why kind TwoTexts line = unless (has_two_texts line) MissingField
+abbrev pub row_why : FlagKind → Row → DirectiveLine → Option AffWhy
+row_why kind Row.FlagField line = flags_why kind (value_of line)
+row_why kind Row.OneText line = unless (is_some (value_of line)) MissingField
+row_why kind Row.TwoTexts line = unless (has_two_texts line) MissingField
 
 -- the number in the field behind a line's name
-abbrev pub number_at : Kept → Option ℕ
+abbrev pub number_at : DirectiveLine → Option ℕ
 number_at line = option_and_then number_in (value_of line)

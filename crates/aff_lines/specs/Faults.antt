@@ -1,5 +1,5 @@
 -- Which faults a file has, and which of them is told.
-use Rattle.std.specs.Prelude.{◌≡◌, ℕ, zero, suc, ◌==◌, ◌||◌, ◌&&◌, ◌⊎◌, nat_lt, Bool, false, List, [], ◌∷◌, Option, None, Some, if◌then◌else◌, codes}
+use Rattle.std.specs.Prelude.{◌≡◌, ℕ, zero, suc, ◌==◌, ◌||◌, ◌&&◌, ◌⊎◌, nat_lt, Bool, false, List, [], ◌∷◌, ◌++◌, Option, None, Some, if◌then◌else◌, codes}
 use Rattle.std.specs.Option.{option_or}
 use Rattle.aff_lines.specs.declared.faults.AffWhy.{AffWhy}
 use Rattle.aff_lines.specs.declared.faults.AffWhy.TheVariants.{NotUtf8, OtherEncoding, LeftOut, MissingField, Twice, BadNumber, TooMany, TableShort, OtherFlag, BadCross, BadFlag, BadAlias, BadCondition, BadPattern}
@@ -57,6 +57,10 @@ abbrev pub least_of : List Fault → Option Fault
 least_of [] = None
 least_of (fault ∷ more) = sooner (Some fault) (least_of more)
 
+-- the earliest fault of two lists is the earlier of those of each
+abbrev pub FaultsJoin : Type 0
+FaultsJoin = (faults more : List Fault) → least_of (faults ++ more) ≡ sooner (least_of faults) (least_of more)
+
 -- the earliest fault of the first pass that has one
 abbrev pub first_fault : List (List Fault) → Option Fault
 first_fault [] = None
@@ -76,6 +80,15 @@ IsFault (faults ∷ later) (suc pass) fault = (faults ≡ []) × IsFault later p
 pub record IsLeast (bad : Fault → Type 0) (fault : Fault) : Type 0 where
   pub among : bad fault
   pub first : (other : Fault) → bad other → is_before other fault ≡ false
+
+-- what is found is the least of these faults, or they are none
+abbrev pub LeastIs : List Fault → Option Fault → Type 0
+LeastIs faults None = faults ≡ []
+LeastIs faults (Some fault) = IsLeast (IsAmong faults) fault
+
+-- what is found of each list is its least fault
+abbrev pub FindsLeast : Type 0
+FindsLeast = (faults : List Fault) → LeastIs faults (least_of faults)
 
 -- what is told of a file whose passes have these faults
 abbrev pub Refuses : List (List Fault) → AffFault → Type 0

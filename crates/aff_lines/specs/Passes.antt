@@ -14,70 +14,68 @@ use Rattle.aff_lines.specs.declared.faults.AffFault.TheVariants.{At, NoMemory}
 use Rattle.aff_lines.specs.declared.faults.AffWhy.TheVariants.{NotUtf8}
 use Rattle.aff_lines.specs.declared.faults.Fault.{Fault}
 use Rattle.aff_lines.specs.declared.names.Directive.{Directive}
-use Rattle.aff_lines.specs.declared.names.Directive.TheVariants.{Set, FlagType, FlagAliases}
 use Rattle.aff_lines.specs.declared.names.Form.{Form}
-use Rattle.aff_lines.specs.declared.names.Form.TheVariants.{Encoding, Kind, Text, Flag as FlagForm, Number, Switch, Table, Class, LeftOut}
 use Rattle.aff_lines.specs.declared.names.Pass.{Pass}
-use Rattle.aff_lines.specs.declared.names.Pass.TheVariants.{First, Second, Third, Fourth}
-use Rattle.aff_lines.specs.declared.rows.Kept.{Kept}
+use Rattle.aff_lines.specs.declared.rows.DirectiveLine.{DirectiveLine}
 use Rattle.aff_lines.specs.Causes.{number_at, number_in, kind_named}
 use Rattle.aff_lines.specs.Faults.{first_fault, IsFault}
 use Rattle.aff_lines.specs.Grammar.{once_faults, table_faults, all_left_out}
-use Rattle.aff_lines.specs.Rows.{rows_of, rows_with, lines_of, value_of}
-use Rattle.aff_lines.specs.Names.{form_of, is_of, directives_in}
+use Rattle.aff_lines.specs.Rows.{rows_of, lines_of, value_of}
+use Rattle.aff_lines.specs.Names.{Description, is_of, directives_in}
 
 -- The faults of a directive of this form that has these lines. A switch has none, and those of affix classes are asked
 -- of the lines of both sides together, not here.
-abbrev pub form_faults : FlagKind → Form → List Kept → List Fault
-form_faults kind Encoding own = once_faults kind Encoding own
-form_faults kind Kind own = once_faults kind Kind own
-form_faults kind Text own = once_faults kind Text own
-form_faults kind FlagForm own = once_faults kind FlagForm own
-form_faults kind Number own = once_faults kind Number own
-form_faults kind Switch own = []
-form_faults kind Class own = []
-form_faults kind (Table row) own = table_faults kind row own
-form_faults kind LeftOut own = all_left_out own
+abbrev pub form_faults : FlagKind → Form → List DirectiveLine → List Fault
+form_faults kind Form.Encoding own = once_faults kind Form.Encoding own
+form_faults kind Form.Kind own = once_faults kind Form.Kind own
+form_faults kind Form.Text own = once_faults kind Form.Text own
+form_faults kind Form.Flag own = once_faults kind Form.Flag own
+form_faults kind Form.Number own = once_faults kind Form.Number own
+form_faults kind Form.Switch own = []
+form_faults kind Form.Class own = []
+form_faults kind (Form.Table row) own = table_faults kind row own
+form_faults kind Form.LeftOut own = all_left_out own
 
-abbrev pub directive_faults : FlagKind → List Kept → Directive → List Fault
-directive_faults kind rows directive = form_faults kind (form_of directive) (lines_of directive rows)
+-- the faults of a directive
+abbrev pub directive_faults : FlagKind → List DirectiveLine → Description → List Fault
+directive_faults kind rows row = form_faults kind row.form (lines_of row.directive rows)
 
 -- the faults of a pass
-abbrev pub pass_faults : FlagKind → List Kept → Pass → List Fault
+abbrev pub pass_faults : FlagKind → List DirectiveLine → Pass → List Fault
 pass_faults kind rows pass = flat_map (directive_faults kind rows) (directives_in pass)
 
 -- the faults of a directive, if it is one of the pass
-abbrev pub faults_in : FlagKind → List Kept → Pass → Directive → List Fault
-faults_in kind rows pass directive = if is_of pass directive then directive_faults kind rows directive else []
+abbrev pub faults_in : FlagKind → List DirectiveLine → Pass → Description → List Fault
+faults_in kind rows pass row = if is_of pass row then directive_faults kind rows row else []
 
 -- the value of the first line, if it is there
-abbrev pub value_said : List Kept → Option (List ℕ)
+abbrev pub value_said : List DirectiveLine → Option (List ℕ)
 value_said [] = None
 value_said (line ∷ later) = value_of line
 
 -- the type of flags that the lines of FLAG say
-abbrev pub kind_said : List Kept → FlagKind
+abbrev pub kind_said : List DirectiveLine → FlagKind
 kind_said own = unwrap_or (option_and_then kind_named (value_said own)) Single
 
 -- the flag of a directive
-abbrev pub flag_said : FlagKind → List Kept → Option Flag
+abbrev pub flag_said : FlagKind → List DirectiveLine → Option Flag
 flag_said kind own = option_and_then (one_flag kind) (value_said own)
 
 -- the number of a directive
-abbrev pub number_said : List Kept → Option ℕ
+abbrev pub number_said : List DirectiveLine → Option ℕ
 number_said own = option_and_then number_in (value_said own)
 
 -- whether a switch is there
-abbrev pub is_said : List Kept → Bool
+abbrev pub is_said : List DirectiveLine → Bool
 is_said own = not (length own == 0)
 
 -- the rows of a table, if it is there
-abbrev pub table_rows : List Kept → Option (List Kept)
+abbrev pub table_rows : List DirectiveLine → Option (List DirectiveLine)
 table_rows [] = None
 table_rows (header ∷ later) = Some (take (unwrap_or (number_at header) 0) later)
 
 -- a table is there, with so many rows at most, which are the first of its other lines among these rows; or it is not there
-abbrev pub IsTable : Directive → List Kept → Option (ℕ × Bor (List Kept)) → Type 0
+abbrev pub IsTable : Directive → List DirectiveLine → Option (ℕ × Bor (List DirectiveLine)) → Type 0
 IsTable directive rows None = table_rows (lines_of directive rows) ≡ None
 IsTable directive rows (Some (count, later)) = table_rows (lines_of directive rows) ≡ Some (take count (lines_of directive later.now))
 
@@ -86,15 +84,15 @@ or_empty (Ok set) = set
 or_empty (Err fault) = []
 
 -- the set in the field behind a line's name
-abbrev pub set_in : FlagKind → Kept → List Flag
+abbrev pub set_in : FlagKind → DirectiveLine → List Flag
 set_in kind line = or_empty (flag_field kind None (unwrap_or (value_of line) []))
 
-abbrev pub sets_in : FlagKind → Option (List Kept) → Option (List (List Flag))
+abbrev pub sets_in : FlagKind → Option (List DirectiveLine) → Option (List (List Flag))
 sets_in kind None = None
 sets_in kind (Some rows) = Some (map (set_in kind) rows)
 
 -- the sets that the lines of AF list
-abbrev pub aliases_said : FlagKind → List Kept → Option (List (List Flag))
+abbrev pub aliases_said : FlagKind → List DirectiveLine → Option (List (List Flag))
 aliases_said kind own = sets_in kind (table_rows own)
 
 -- the fault of the first line that is not UTF-8
@@ -103,16 +101,10 @@ bad_faults None = []
 bad_faults (Some line) = record { line = line; why = NotUtf8 } ∷ []
 
 -- the faults of the first three passes over these rows, where this is the first line that is not UTF-8
-abbrev pub passes_of : Option ℕ → List Kept → List (List Fault)
+abbrev pub passes_of : Option ℕ → List DirectiveLine → List (List Fault)
 passes_of bad rows =
-    let kind = kind_said (lines_of FlagType rows) in
-    (pass_faults kind rows First ++ bad_faults bad) ∷ pass_faults kind rows Second ∷ pass_faults kind rows Third ∷ []
-
--- some rows have the same lines of the first three passes as others
-pub record SameEarly (rows others : List Kept) : Type 0 where
-  pub encoding : lines_of Set rows ≡ lines_of Set others
-  pub kind : lines_of FlagType rows ≡ lines_of FlagType others
-  pub aliases : lines_of FlagAliases rows ≡ lines_of FlagAliases others
+    let kind = kind_said (lines_of Directive.FlagType rows) in
+    (pass_faults kind rows Pass.First ++ bad_faults bad) ∷ pass_faults kind rows Pass.Second ∷ pass_faults kind rows Pass.Third ∷ []
 
 -- the faults of the first three passes over a file
 abbrev pub early_passes : List ℕ → List (List Fault)
@@ -120,9 +112,9 @@ early_passes bytes = passes_of (bad_line bytes) (rows_of bytes)
 
 -- what the first three passes over a file without faults say
 pub record Says (bytes : List ℕ) (found : Directives) : Type 0 where
-  pub kind : found.kind ≡ kind_said (lines_of FlagType (rows_of bytes))
-  pub aliases : found.aliases ≡ aliases_said found.kind (lines_of FlagAliases (rows_of bytes))
-  pub kept : found.kept ≡ rows_with (directives_in Fourth) (rows_of bytes)
+  pub kind : found.kind ≡ kind_said (lines_of Directive.FlagType (rows_of bytes))
+  pub aliases : found.aliases ≡ aliases_said found.kind (lines_of Directive.FlagAliases (rows_of bytes))
+  pub kept : found.kept ≡ rows_of bytes
 
 -- the file has no fault in the first three passes, and this is what they say
 pub record Reads (bytes : List ℕ) (found : Directives) : Type 0 where

@@ -6,7 +6,7 @@ ghost use Rattle.aff_lines.specs.Causes.{is_utf8_name, kind_named, number_in, fi
 
 use crate::faults::AffWhy;
 use crate::names::{Form, Row};
-use crate::rows::{Kept, value_of};
+use crate::rows::{DirectiveLine, value_of};
 use flag_sets::{lists_flags, read_one_flag};
 use spell_types::FlagKind;
 use text_lines::{decimal, field};
@@ -15,7 +15,7 @@ use text_lines::{decimal, field};
 const NUMBERS: u64 = 1 << 32;
 
 /// What is wrong with a line of a directive that has a value.
-pub fn line_why(kind: FlagKind, form: Form, line: &Kept) -> Option<AffWhy>
+pub fn line_why(kind: FlagKind, form: Form, line: &DirectiveLine) -> Option<AffWhy>
     ensures { result ≡ line_why kind form line.now }
 {
     value_why(kind, form, value_of(line))
@@ -66,7 +66,7 @@ pub fn unless(holds: bool, why: AffWhy) -> Option<AffWhy>
 }
 
 /// What is wrong with a row of a table.
-pub(crate) fn row_why(kind: FlagKind, row: Row, line: &Kept) -> Option<AffWhy>
+pub(crate) fn row_why(kind: FlagKind, row: Row, line: &DirectiveLine) -> Option<AffWhy>
     ensures { result ≡ row_why kind row line.now }
 {
     match row {
@@ -77,7 +77,7 @@ pub(crate) fn row_why(kind: FlagKind, row: Row, line: &Kept) -> Option<AffWhy>
 }
 
 /// Whether two fields stand behind a line's name.
-fn has_two_texts(line: &Kept) -> bool
+fn has_two_texts(line: &DirectiveLine) -> bool
     ensures { result ≡ has_two_texts line.now }
 {
     field(line.text.as_str(), 2).is_some()
@@ -121,7 +121,7 @@ pub fn number_in(text: &str) -> Option<u64>
 }
 
 /// The number in the field behind a line's name.
-pub fn number_at(line: &Kept) -> Option<u64>
+pub fn number_at(line: &DirectiveLine) -> Option<u64>
     ensures { result ≡ number_at line.now }
 {
     number_in(value_of(line)?)

@@ -1,26 +1,23 @@
 //! What an .aff file says before its affixes can be read: its encoding, its type of flags, its flag
-//! aliases, and the lines that are left.
+//! aliases, and the lines of all directives.
 //!
-//! Faults are looked for in passes. A directive is a row of a table with its names and a form; the faults
-//! and the values of a directive are asked of all lines of its names at once.
+//! Faults are looked for in passes. A directive is a row of a table with its names, its form and its pass;
+//! a line is kept with the directive that its first field names, and the faults and the values of a directive
+//! are asked of all its lines at once.
 #![tactic(auto)]
 
-ghost use Rattle.std.specs.Prelude.{◌≡◌, ◌++◌, ℕ, List, None, Some, All, IfOk, IfErr, IfSome, filter_map};
-ghost use Rattle.text_lines.specs.Lines.{IsInside};
+ghost use Rattle.std.specs.Prelude.{◌≡◌, ◌++◌, ℕ, List, None, Some, All, IfOk, IfErr, IfSome};
 ghost use Rattle.spell_types.specs.Flags.{AreOrdinary};
 ghost use Rattle.aff_lines.specs.declared.faults.Fault.{Fault};
-ghost use Rattle.aff_lines.specs.Faults.{first_fault, least_of, IsFault, IsLeast, Refuses};
-ghost use Rattle.aff_lines.specs.Passes.{early_passes, passes_of, Says, Reads, IsFirst, SameEarly, bad_faults, pass_faults};
+ghost use Rattle.aff_lines.specs.Faults.{first_fault, least_of, FaultsJoin, FindsLeast, IsFault, IsLeast, Refuses};
+ghost use Rattle.aff_lines.specs.Passes.{early_passes, passes_of, Says, Reads, IsFirst, bad_faults, pass_faults};
 ghost use Rattle.aff_lines.specs.declared.names.Pass.{Pass};
-ghost use Rattle.aff_lines.specs.Names.{directives_in};
-ghost use Rattle.aff_lines.specs.Rows.{row_in, rows_with};
 
 use crate::rows::read_rows;
 use crate::values::{kind_said, read_aliases};
 use lists::{Items, NoMemory};
 use spell_types::{FlagKind, FlagSet};
 use std::alloc::Global;
-use text_lines::found::Line;
 use text_lines::lines;
 
 mod causes;
@@ -35,10 +32,10 @@ mod values;
 pub use causes::{line_why, number_at, number_in, unless};
 pub use faults::{AffFault, AffWhy, Fault, sooner};
 pub use names::{
-    Directive, Form, Pass, Row, every_directive_is_in_one_pass, form_of, is_named, pass_of,
+    Directive, Form, Pass, Row, directive_named, every_directive_has_one_row, no_name_stands_twice,
 };
-pub use passes::{directive_fault, fault_at, find_fault};
-pub use rows::{Kept, next_of, value_of};
+pub use passes::{fault_at, find_fault};
+pub use rows::{DirectiveLine, next_of, rows_begin_with_names, value_of};
 pub use values::{flag_said, is_said, number_said, table_of, value_said};
 
 /// What the first three passes over an .aff file say.
@@ -48,8 +45,8 @@ pub struct Directives {
     pub kind: FlagKind,
     /// The sets that ordinals stand for, if the file has aliases.
     pub aliases: Option<Items<FlagSet>>,
-    /// The lines that the fourth pass looks at, in the order of the file.
-    pub kept: Items<Kept>,
+    /// The lines of all directives, in the order of the file.
+    pub kept: Items<DirectiveLine>,
 }
 
 /// Reads the directives that are needed before all others, or tells the first fault of the first pass that
@@ -73,48 +70,28 @@ fn read_early(alloc: Global, bytes: &[u8]) -> Result<Directives, AffFault>
     ensures first { IfErr result (IsFirst (early_passes bytes.now)) }
 {
     let found = lines(alloc, bytes)?;
-    let rows = early_rows(alloc, bytes, found.good.as_slice())?;
-    if let Some(fault) = early_fault(found.bad, rows.as_slice()) {
+    let rows = read_rows(alloc, bytes, &found.good)?;
+    if let Some(fault) = early_fault(found.bad, &rows) {
         return Err(AffFault::At {
             line: fault.line,
             why: fault.why,
         });
     }
-    let kind = kind_said(rows.as_slice());
-    let aliases = read_aliases(alloc, kind, rows.as_slice())?;
-    let kept = late_rows(alloc, bytes, found.good.as_slice())?;
+    let kind = kind_said(&rows);
+    let aliases = read_aliases(alloc, kind, &rows)?;
     Ok(Directives {
         kind,
         aliases,
-        kept,
+        kept: rows,
     })
 }
 
-/// The rows of the first three passes.
-fn early_rows(alloc: Global, bytes: &[u8], lines: &[Line]) -> Result<Items<Kept>, NoMemory>
-    requires { All (IsInside bytes.now) lines.now }
-    ensures { IfOk result (λ rows. SameEarly rows (filter_map (row_in bytes.now) lines.now)) }
-{
-    let early = [Pass::First, Pass::Second, Pass::Third];
-    let rows = read_rows(alloc, bytes, lines, &early)?;
-    Ok(rows)
-}
-
-/// The rows of the fourth pass.
-fn late_rows(alloc: Global, bytes: &[u8], lines: &[Line]) -> Result<Items<Kept>, NoMemory>
-    requires { All (IsInside bytes.now) lines.now }
-    ensures { IfOk result (λ rows. rows ≡ rows_with (directives_in Pass.Fourth) (filter_map (row_in bytes.now) lines.now)) }
-{
-    let rows = read_rows(alloc, bytes, lines, &[Pass::Fourth])?;
-    Ok(rows)
-}
-
 /// The first fault of the first three passes, where this is the first line that is not UTF-8.
-fn early_fault(bad: Option<u64>, rows: &[Kept]) -> Option<Fault>
+fn early_fault(bad: Option<u64>, rows: &[DirectiveLine]) -> Option<Fault>
     ensures { result ≡ first_fault (passes_of bad rows.now) }
 {
     let kind = kind_said(rows);
-    let first = first_fault(kind, bad, rows);
+    let first = encoding_fault(kind, bad, rows);
     let second = find_fault(kind, rows, Pass::Second);
     let third = find_fault(kind, rows, Pass::Third);
     first.or(second.or(third))
@@ -122,7 +99,7 @@ fn early_fault(bad: Option<u64>, rows: &[Kept]) -> Option<Fault>
 
 /// The earliest fault of the first pass.
 #[tactic(auto, using(crate::proofs::FaultLemmas::least_append))]
-fn first_fault(kind: FlagKind, bad: Option<u64>, rows: &[Kept]) -> Option<Fault>
+fn encoding_fault(kind: FlagKind, bad: Option<u64>, rows: &[DirectiveLine]) -> Option<Fault>
     ensures { result ≡ least_of (pass_faults kind rows.now Pass.First ++ bad_faults bad) }
 {
     sooner(find_fault(kind, rows, Pass::First), bad_fault(bad))
@@ -145,6 +122,13 @@ pub fn first_faults_are_least()
         → (pass : ℕ) (fault : Fault) → ¬ IsFault passes pass fault }
     ensures least { (passes : List (List Fault)) (fault : Fault) → first_fault passes ≡ Some fault
         → (pass : ℕ) × IsLeast (IsFault passes pass) fault }
+{}
+
+/// The earliest fault of two lists of faults is the earlier of the earliest of each, and the earliest of one is its least
+/// fault, or there is none.
+pub fn earliest_faults()
+    ensures join { FaultsJoin }
+    ensures least { FindsLeast }
 {}
 
 impl From<NoMemory> for AffFault {

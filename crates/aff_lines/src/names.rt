@@ -1,15 +1,14 @@
-//! The options of .aff files: their names, their forms and their passes.
+//! The options of .aff files: one row of a table for each.
 
-ghost use Rattle.std.specs.Prelude.{◌≡◌, ◌≢◌, ◌↔◌, ◌&&◌, AllPairs, Contains};
-ghost use Rattle.std.specs.List.{list_any};
+ghost use Rattle.std.specs.Prelude.{◌≡◌, ◌≢◌, ◌↔◌, List, ℕ, AllPairs, Contains, find, map};
 ghost use Rattle.std.specs.Option.{option_copied};
 ghost use Rattle.aff_lines.specs.declared.names.Directive.{Directive};
 ghost use Rattle.aff_lines.specs.declared.names.Pass.{Pass};
-ghost use Rattle.aff_lines.specs.Names.{first_name, second_name, has_second, is_named, is_among, form_of, pass_of, is_of, is_same_pass, all_directives, directives_in, is_of_one, directives_of_passes};
+ghost use Rattle.aff_lines.specs.Names.{Description, description_of, directive_in, names_of, is_described, is_of, named_in, directive_named, all_directives, all_names, directives_in};
 
 /// An option of hunspell(5) that an .aff file is read for, or refused for. A line that begins with another
 /// name is passed over.
-#[derive(Clone, Copy)]
+#[derive(Clone, Copy, Debug, PartialEq, Eq)]
 pub enum Directive {
     Set,
     FlagType,
@@ -87,7 +86,7 @@ pub enum Row {
 }
 
 /// A pass over the lines of a file.
-#[derive(Clone, Copy)]
+#[derive(Clone, Copy, PartialEq, Eq)]
 pub enum Pass {
     /// The encoding, with lines that are not UTF-8.
     First,
@@ -99,272 +98,134 @@ pub enum Pass {
     Fourth,
 }
 
-/// All directives, in the order of the enum.
-const DIRECTIVES: [Directive; 39] = [
-    Directive::Set,
-    Directive::FlagType,
-    Directive::FlagAliases,
-    Directive::WordCharacters,
-    Directive::Ignore,
-    Directive::NeedAffix,
-    Directive::Circumfix,
-    Directive::ForbiddenWord,
-    Directive::KeepCase,
-    Directive::Warn,
-    Directive::CompoundFlag,
-    Directive::CompoundBegin,
-    Directive::CompoundMiddle,
-    Directive::CompoundLast,
-    Directive::CompoundPermitFlag,
-    Directive::CompoundForbidFlag,
-    Directive::OnlyInCompound,
-    Directive::ForceUpperCase,
-    Directive::CompoundMinimum,
-    Directive::CompoundWordMaximum,
-    Directive::FullStrip,
-    Directive::ForbidWarn,
-    Directive::CompoundMoreSuffixes,
-    Directive::CheckCompoundDuplicates,
-    Directive::CheckCompoundCase,
-    Directive::CheckCompoundTriple,
-    Directive::CheckCompoundReplacements,
-    Directive::InputConversion,
-    Directive::Replacement,
-    Directive::Break,
-    Directive::CompoundRule,
-    Directive::CheckCompoundPattern,
-    Directive::Prefix,
-    Directive::Suffix,
-    Directive::ComplexPrefixes,
-    Directive::CompoundSyllable,
-    Directive::SyllableNumber,
-    Directive::CheckSharps,
-    Directive::SimplifiedTriple,
+/// A row of the table of directives: what is fixed of one.
+#[derive(Clone, Copy)]
+pub(crate) struct Described {
+    /// The directive that the row is for.
+    pub(crate) directive: Directive,
+    /// The name that its lines begin with.
+    pub(crate) name: &'static str,
+    /// Another name that they may begin with.
+    pub(crate) other_name: Option<&'static str>,
+    /// What its lines have to look like.
+    pub(crate) form: Form,
+    /// The pass that looks at its lines.
+    pub(crate) pass: Pass,
+}
+
+/// A row of the table, so that it stands in one line.
+macro_rules! described {
+    ($directive:ident => $name:expr, $other_name:expr, $form:expr, $pass:ident) => {
+        Described {
+            directive: Directive::$directive,
+            name: $name,
+            other_name: $other_name,
+            form: $form,
+            pass: Pass::$pass,
+        }
+    };
+}
+
+/// All directives, in the order of the enum. A static, since names are handed out of it.
+static DIRECTIVES: &[Described] = &[
+    described!(Set => "SET", None, Form::Encoding, First),
+    described!(FlagType => "FLAG", None, Form::Kind, Second),
+    described!(FlagAliases => "AF", None, Form::Table(Row::FlagField), Third),
+    described!(WordCharacters => "WORDCHARS", None, Form::Text, Fourth),
+    described!(Ignore => "IGNORE", None, Form::Text, Fourth),
+    described!(NeedAffix => "NEEDAFFIX", Some("PSEUDOROOT"), Form::Flag, Fourth),
+    described!(Circumfix => "CIRCUMFIX", None, Form::Flag, Fourth),
+    described!(ForbiddenWord => "FORBIDDENWORD", None, Form::Flag, Fourth),
+    described!(KeepCase => "KEEPCASE", None, Form::Flag, Fourth),
+    described!(Warn => "WARN", None, Form::Flag, Fourth),
+    described!(CompoundFlag => "COMPOUNDFLAG", None, Form::LeftOut, Fourth),
+    described!(CompoundBegin => "COMPOUNDBEGIN", None, Form::LeftOut, Fourth),
+    described!(CompoundMiddle => "COMPOUNDMIDDLE", None, Form::LeftOut, Fourth),
+    described!(CompoundLast => "COMPOUNDLAST", Some("COMPOUNDEND"), Form::LeftOut, Fourth),
+    described!(CompoundPermitFlag => "COMPOUNDPERMITFLAG", None, Form::LeftOut, Fourth),
+    described!(CompoundForbidFlag => "COMPOUNDFORBIDFLAG", None, Form::LeftOut, Fourth),
+    described!(OnlyInCompound => "ONLYINCOMPOUND", None, Form::Flag, Fourth),
+    described!(ForceUpperCase => "FORCEUCASE", None, Form::LeftOut, Fourth),
+    described!(CompoundMinimum => "COMPOUNDMIN", None, Form::LeftOut, Fourth),
+    described!(CompoundWordMaximum => "COMPOUNDWORDMAX", None, Form::LeftOut, Fourth),
+    described!(FullStrip => "FULLSTRIP", None, Form::Switch, Fourth),
+    described!(ForbidWarn => "FORBIDWARN", None, Form::Switch, Fourth),
+    described!(CompoundMoreSuffixes => "COMPOUNDMORESUFFIXES", None, Form::LeftOut, Fourth),
+    described!(CheckCompoundDuplicates => "CHECKCOMPOUNDDUP", None, Form::LeftOut, Fourth),
+    described!(CheckCompoundCase => "CHECKCOMPOUNDCASE", None, Form::LeftOut, Fourth),
+    described!(CheckCompoundTriple => "CHECKCOMPOUNDTRIPLE", None, Form::LeftOut, Fourth),
+    described!(CheckCompoundReplacements => "CHECKCOMPOUNDREP", None, Form::LeftOut, Fourth),
+    described!(InputConversion => "ICONV", None, Form::Table(Row::TwoTexts), Fourth),
+    described!(Replacement => "REP", None, Form::Table(Row::TwoTexts), Fourth),
+    described!(Break => "BREAK", None, Form::Table(Row::OneText), Fourth),
+    described!(CompoundRule => "COMPOUNDRULE", None, Form::LeftOut, Fourth),
+    described!(CheckCompoundPattern => "CHECKCOMPOUNDPATTERN", None, Form::LeftOut, Fourth),
+    described!(Prefix => "PFX", None, Form::Class, Fourth),
+    described!(Suffix => "SFX", None, Form::Class, Fourth),
+    described!(ComplexPrefixes => "COMPLEXPREFIXES", None, Form::LeftOut, Fourth),
+    described!(CompoundSyllable => "COMPOUNDSYLLABLE", None, Form::LeftOut, Fourth),
+    described!(SyllableNumber => "SYLLABLENUM", None, Form::LeftOut, Fourth),
+    described!(CheckSharps => "CHECKSHARPS", None, Form::LeftOut, Fourth),
+    described!(SimplifiedTriple => "SIMPLIFIEDTRIPLE", None, Form::LeftOut, Fourth),
 ];
 
-/// All directives.
+/// The table of all directives.
 #[tactic(auto, unfolding(crate::specs::Names::all_directives))]
-pub(crate) fn directives() -> &'static [Directive]
-    ensures { result.now ≡ all_directives }
+pub(crate) fn directives() -> &'static [Described]
+    ensures { map description_of result.now ≡ all_directives }
 {
-    &DIRECTIVES
+    DIRECTIVES
 }
 
-/// The first name of a directive.
-#[tactic(auto, unfolding(crate::specs::Names::first_name))]
-fn first_name(directive: Directive) -> &'static str
-    ensures { result.now ≡ first_name directive }
+/// The directive that has a name, if one has it.
+#[tactic(auto, unfolding(crate::specs::Names::directive_named))]
+pub fn directive_named(name: &str) -> Option<Directive>
+    ensures { result ≡ directive_named name.now }
 {
-    match directive {
-        Directive::Set => "SET",
-        Directive::FlagType => "FLAG",
-        Directive::FlagAliases => "AF",
-        Directive::WordCharacters => "WORDCHARS",
-        Directive::Ignore => "IGNORE",
-        Directive::NeedAffix => "NEEDAFFIX",
-        Directive::Circumfix => "CIRCUMFIX",
-        Directive::ForbiddenWord => "FORBIDDENWORD",
-        Directive::KeepCase => "KEEPCASE",
-        Directive::Warn => "WARN",
-        Directive::CompoundFlag => "COMPOUNDFLAG",
-        Directive::CompoundBegin => "COMPOUNDBEGIN",
-        Directive::CompoundMiddle => "COMPOUNDMIDDLE",
-        Directive::CompoundLast => "COMPOUNDLAST",
-        Directive::CompoundPermitFlag => "COMPOUNDPERMITFLAG",
-        Directive::CompoundForbidFlag => "COMPOUNDFORBIDFLAG",
-        Directive::OnlyInCompound => "ONLYINCOMPOUND",
-        Directive::ForceUpperCase => "FORCEUCASE",
-        Directive::CompoundMinimum => "COMPOUNDMIN",
-        Directive::CompoundWordMaximum => "COMPOUNDWORDMAX",
-        Directive::FullStrip => "FULLSTRIP",
-        Directive::ForbidWarn => "FORBIDWARN",
-        Directive::CompoundMoreSuffixes => "COMPOUNDMORESUFFIXES",
-        Directive::CheckCompoundDuplicates => "CHECKCOMPOUNDDUP",
-        Directive::CheckCompoundCase => "CHECKCOMPOUNDCASE",
-        Directive::CheckCompoundTriple => "CHECKCOMPOUNDTRIPLE",
-        Directive::CheckCompoundReplacements => "CHECKCOMPOUNDREP",
-        Directive::InputConversion => "ICONV",
-        Directive::Replacement => "REP",
-        Directive::Break => "BREAK",
-        Directive::CompoundRule => "COMPOUNDRULE",
-        Directive::CheckCompoundPattern => "CHECKCOMPOUNDPATTERN",
-        Directive::Prefix => "PFX",
-        Directive::Suffix => "SFX",
-        Directive::ComplexPrefixes => "COMPLEXPREFIXES",
-        Directive::CompoundSyllable => "COMPOUNDSYLLABLE",
-        Directive::SyllableNumber => "SYLLABLENUM",
-        Directive::CheckSharps => "CHECKSHARPS",
-        Directive::SimplifiedTriple => "SIMPLIFIEDTRIPLE",
-    }
+    named_among(directives(), name)
 }
 
-/// The second name of a directive, if it has two.
-#[tactic(auto, unfolding(crate::specs::Names::second_name))]
-fn second_name(directive: Directive) -> Option<&'static str>
-    ensures { option_copied result ≡ second_name directive }
+/// The directive of the row that has a name among these.
+#[tactic(auto, using(crate::proofs::NameLemmas::named_described))]
+fn named_among(rows: &[Described], name: &str) -> Option<Directive>
+    ensures { result ≡ named_in name.now (map description_of rows.now) }
 {
-    match directive {
-        Directive::NeedAffix => Some("PSEUDOROOT"),
-        Directive::CompoundLast => Some("COMPOUNDEND"),
-        _ => None,
-    }
+    let row = row_named(rows, name)?;
+    Some(row.directive)
 }
 
-/// Whether a name is one of the directive's.
-pub fn is_named(directive: Directive, name: &str) -> bool
-    ensures { result ≡ is_named directive name.now }
+/// The row that has a name among these.
+fn row_named<'a>(rows: &'a [Described], name: &str) -> Option<&'a Described>
+    ensures { option_copied result ≡ find (is_described name.now) rows.now }
 {
-    first_name(directive) == name || has_second(second_name(directive), name)
+    rows.iter().find(|row| is_named(row, name))
 }
 
-fn has_second(second: Option<&str>, name: &str) -> bool
-    ensures { result ≡ has_second (option_copied second.entry) name.now }
+/// Whether a name is one of the row's.
+fn is_named(row: &Described, name: &str) -> bool
+    ensures { result ≡ is_described name.now row.now }
 {
-    match second {
-        Some(second) => second == name,
-        None => false,
-    }
-}
-
-/// Whether a name is one of a directive's of one of these passes.
-pub(crate) fn is_among(passes: &[Pass], name: &str) -> bool
-    ensures { result ≡ is_among (directives_of_passes passes.now) name.now }
-{
-    is_name_of(passes, directives(), name)
-}
-
-/// Whether one of these directives is of one of the passes and has this name.
-fn is_name_of(passes: &[Pass], directives: &[Directive], name: &str) -> bool
-    ensures { result ≡ list_any (λ directive. is_of_one passes.now directive && is_named directive name.now) directives.now }
-{
-    directives.iter().any(|directive| is_of_one(passes, *directive) && is_named(*directive, name))
-}
-
-/// Whether a directive is one of these passes'.
-fn is_of_one(passes: &[Pass], directive: Directive) -> bool
-    ensures { result ≡ is_of_one passes.now directive }
-{
-    passes.iter().any(|pass| is_of(*pass, directive))
+    row.name == name || row.other_name == Some(name)
 }
 
 /// Whether a directive is one of the pass.
-pub(crate) fn is_of(pass: Pass, directive: Directive) -> bool
-    ensures { result ≡ is_of pass directive }
+pub(crate) fn is_of(pass: Pass, row: &Described) -> bool
+    ensures { result ≡ is_of pass (description_of row.now) }
 {
-    is_same_pass(pass_of(directive), pass)
+    row.pass == pass
 }
 
-/// Whether the passes are the same.
-fn is_same_pass(pass: Pass, other: Pass) -> bool
-    ensures { result ≡ is_same_pass pass other }
-{
-    matches!(
-        (pass, other),
-        (Pass::First, Pass::First)
-            | (Pass::Second, Pass::Second)
-            | (Pass::Third, Pass::Third)
-            | (Pass::Fourth, Pass::Fourth)
-    )
-}
+/// No directive is forgotten: each has one row in the table. It is looked at in the pass of its row, and in no other.
+pub fn every_directive_has_one_row()
+    ensures listed { (directive : Directive) → Contains (map directive_in all_directives) directive }
+    ensures once { AllPairs (λ first other. first ≢ other) (map directive_in all_directives) }
+    ensures passes { (pass : Pass) (row : Description)
+        → Contains (directives_in pass) row ↔ (Contains all_directives row × (row.pass ≡ pass)) }
+{}
 
-/// The form of a directive's lines.
-#[tactic(auto, unfolding(crate::specs::Names::form_of))]
-pub fn form_of(directive: Directive) -> Form
-    ensures { result ≡ form_of directive }
-{
-    match directive {
-        Directive::Set => Form::Encoding,
-        Directive::FlagType => Form::Kind,
-        Directive::FlagAliases => Form::Table(Row::FlagField),
-        Directive::WordCharacters => Form::Text,
-        Directive::Ignore => Form::Text,
-        Directive::NeedAffix => Form::Flag,
-        Directive::Circumfix => Form::Flag,
-        Directive::ForbiddenWord => Form::Flag,
-        Directive::KeepCase => Form::Flag,
-        Directive::Warn => Form::Flag,
-        Directive::CompoundFlag => Form::LeftOut,
-        Directive::CompoundBegin => Form::LeftOut,
-        Directive::CompoundMiddle => Form::LeftOut,
-        Directive::CompoundLast => Form::LeftOut,
-        Directive::CompoundPermitFlag => Form::LeftOut,
-        Directive::CompoundForbidFlag => Form::LeftOut,
-        Directive::OnlyInCompound => Form::Flag,
-        Directive::ForceUpperCase => Form::LeftOut,
-        Directive::CompoundMinimum => Form::LeftOut,
-        Directive::CompoundWordMaximum => Form::LeftOut,
-        Directive::FullStrip => Form::Switch,
-        Directive::ForbidWarn => Form::Switch,
-        Directive::CompoundMoreSuffixes => Form::LeftOut,
-        Directive::CheckCompoundDuplicates => Form::LeftOut,
-        Directive::CheckCompoundCase => Form::LeftOut,
-        Directive::CheckCompoundTriple => Form::LeftOut,
-        Directive::CheckCompoundReplacements => Form::LeftOut,
-        Directive::InputConversion => Form::Table(Row::TwoTexts),
-        Directive::Replacement => Form::Table(Row::TwoTexts),
-        Directive::Break => Form::Table(Row::OneText),
-        Directive::CompoundRule => Form::LeftOut,
-        Directive::CheckCompoundPattern => Form::LeftOut,
-        Directive::Prefix => Form::Class,
-        Directive::Suffix => Form::Class,
-        Directive::ComplexPrefixes => Form::LeftOut,
-        Directive::CompoundSyllable => Form::LeftOut,
-        Directive::SyllableNumber => Form::LeftOut,
-        Directive::CheckSharps => Form::LeftOut,
-        Directive::SimplifiedTriple => Form::LeftOut,
-    }
-}
-
-/// The pass that looks at a directive's lines.
-#[tactic(auto, unfolding(crate::specs::Names::pass_of))]
-pub fn pass_of(directive: Directive) -> Pass
-    ensures { result ≡ pass_of directive }
-{
-    match directive {
-        Directive::Set => Pass::First,
-        Directive::FlagType => Pass::Second,
-        Directive::FlagAliases => Pass::Third,
-        Directive::WordCharacters => Pass::Fourth,
-        Directive::Ignore => Pass::Fourth,
-        Directive::NeedAffix => Pass::Fourth,
-        Directive::Circumfix => Pass::Fourth,
-        Directive::ForbiddenWord => Pass::Fourth,
-        Directive::KeepCase => Pass::Fourth,
-        Directive::Warn => Pass::Fourth,
-        Directive::CompoundFlag => Pass::Fourth,
-        Directive::CompoundBegin => Pass::Fourth,
-        Directive::CompoundMiddle => Pass::Fourth,
-        Directive::CompoundLast => Pass::Fourth,
-        Directive::CompoundPermitFlag => Pass::Fourth,
-        Directive::CompoundForbidFlag => Pass::Fourth,
-        Directive::OnlyInCompound => Pass::Fourth,
-        Directive::ForceUpperCase => Pass::Fourth,
-        Directive::CompoundMinimum => Pass::Fourth,
-        Directive::CompoundWordMaximum => Pass::Fourth,
-        Directive::FullStrip => Pass::Fourth,
-        Directive::ForbidWarn => Pass::Fourth,
-        Directive::CompoundMoreSuffixes => Pass::Fourth,
-        Directive::CheckCompoundDuplicates => Pass::Fourth,
-        Directive::CheckCompoundCase => Pass::Fourth,
-        Directive::CheckCompoundTriple => Pass::Fourth,
-        Directive::CheckCompoundReplacements => Pass::Fourth,
-        Directive::InputConversion => Pass::Fourth,
-        Directive::Replacement => Pass::Fourth,
-        Directive::Break => Pass::Fourth,
-        Directive::CompoundRule => Pass::Fourth,
-        Directive::CheckCompoundPattern => Pass::Fourth,
-        Directive::Prefix => Pass::Fourth,
-        Directive::Suffix => Pass::Fourth,
-        Directive::ComplexPrefixes => Pass::Fourth,
-        Directive::CompoundSyllable => Pass::Fourth,
-        Directive::SyllableNumber => Pass::Fourth,
-        Directive::CheckSharps => Pass::Fourth,
-        Directive::SimplifiedTriple => Pass::Fourth,
-    }
-}
-
-/// No directive is forgotten: each is among those of its pass, of no other pass, and stands there once.
-pub fn every_directive_is_in_one_pass()
-    ensures members { (pass : Pass) (directive : Directive) → Contains (directives_in pass) directive ↔ (pass_of directive ≡ pass) }
-    ensures once { (pass : Pass) → AllPairs (λ first other. first ≢ other) (directives_in pass) }
+/// No name stands twice in the table, so none belongs to two directives, and each is found as a name of its row's.
+pub fn no_name_stands_twice()
+    ensures once { AllPairs (λ first other. first ≢ other) all_names }
+    ensures found { (row : Description) (name : List ℕ) → Contains all_directives row → Contains (names_of row) name
+        → directive_named name ≡ Some row.directive }
 {}

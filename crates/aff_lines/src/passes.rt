@@ -1,60 +1,69 @@
 //! The earliest fault of a directive, and of a pass. Finding one takes no memory.
 
-ghost use Rattle.std.specs.Prelude.{◌≡◌, Some, flat_map};
+ghost use Rattle.std.specs.Prelude.{◌≡◌, Some, flat_map, map};
 ghost use Rattle.std.specs.Option.{option_copied};
 ghost use Rattle.aff_lines.specs.Faults.{least_of};
+ghost use Rattle.aff_lines.specs.Names.{description_of};
 ghost use Rattle.aff_lines.specs.Causes.{number_at};
 ghost use Rattle.aff_lines.specs.Grammar.{faults_at, once_faults, later_faults, rows_faults, place_faults, counted_faults, table_faults, all_left_out};
-ghost use Rattle.aff_lines.specs.Passes.{form_faults, directive_faults, pass_faults, faults_in};
+ghost use Rattle.aff_lines.specs.Passes.{form_faults, pass_faults, faults_in};
 ghost use Rattle.aff_lines.specs.Rows.{lines_of};
 
 use crate::causes::{line_why, number_at, row_why, unless};
 use crate::faults::{AffWhy, Fault, sooner};
-use crate::names::{Directive, Form, Pass, Row, directives, form_of, is_of};
-use crate::rows::{Kept, count_of, next_of};
+use crate::names::{Described, Directive, Form, Pass, Row, directives, is_of};
+use crate::rows::{DirectiveLine, count_of, next_of};
 use spell_types::FlagKind;
 
 /// How many rows a table may have.
 const MOST_ROWS: u64 = 65000;
 
 /// The earliest fault of a pass over the rows.
-pub fn find_fault(kind: FlagKind, rows: &[Kept], pass: Pass) -> Option<Fault>
+pub fn find_fault(kind: FlagKind, rows: &[DirectiveLine], pass: Pass) -> Option<Fault>
     ensures { result ≡ least_of (pass_faults kind rows.now pass) }
 {
     fault_among(kind, rows, pass, directives())
 }
 
 /// The earliest fault of those of these directives that are of the pass.
-fn fault_among(kind: FlagKind, rows: &[Kept], pass: Pass, directives: &[Directive]) -> Option<Fault>
-    ensures { result ≡ least_of (flat_map (faults_in kind rows.now pass) directives.now) }
+fn fault_among(
+    kind: FlagKind,
+    rows: &[DirectiveLine],
+    pass: Pass,
+    directives: &[Described],
+) -> Option<Fault>
+    ensures { result ≡ least_of (flat_map (faults_in kind rows.now pass) (map description_of directives.now)) }
 {
     let mut found = None;
-    for directive in directives {
-        found = sooner(found, fault_in(kind, rows, pass, *directive));
+    for described in directives {
+        found = sooner(found, fault_in(kind, rows, pass, described));
     }
     found
 }
 
 /// The earliest fault of a directive among the rows, if it is one of the pass.
-fn fault_in(kind: FlagKind, rows: &[Kept], pass: Pass, directive: Directive) -> Option<Fault>
-    ensures { result ≡ least_of (faults_in kind rows.now pass directive) }
+fn fault_in(
+    kind: FlagKind,
+    rows: &[DirectiveLine],
+    pass: Pass,
+    described: &Described,
+) -> Option<Fault>
+    ensures { result ≡ least_of (faults_in kind rows.now pass (description_of described.now)) }
 {
-    if is_of(pass, directive) {
-        directive_fault(kind, rows, directive)
+    if is_of(pass, described) {
+        form_fault(kind, described.form, described.directive, rows)
     } else {
         None
     }
 }
 
-/// The earliest fault of a directive among the rows.
-pub fn directive_fault(kind: FlagKind, rows: &[Kept], directive: Directive) -> Option<Fault>
-    ensures { result ≡ least_of (directive_faults kind rows.now directive) }
-{
-    form_fault(kind, form_of(directive), directive, rows)
-}
-
-/// The earliest fault of a directive, if it had this form.
-fn form_fault(kind: FlagKind, form: Form, directive: Directive, rows: &[Kept]) -> Option<Fault>
+/// The earliest fault of a directive that has this form.
+fn form_fault(
+    kind: FlagKind,
+    form: Form,
+    directive: Directive,
+    rows: &[DirectiveLine],
+) -> Option<Fault>
     ensures { result ≡ least_of (form_faults kind form (lines_of directive rows.now)) }
 {
     match form {
@@ -70,7 +79,7 @@ fn form_fault(kind: FlagKind, form: Form, directive: Directive, rows: &[Kept]) -
 }
 
 /// The fault at a line, if there is a cause.
-pub fn fault_at(why: Option<AffWhy>, line: &Kept) -> Option<Fault>
+pub fn fault_at(why: Option<AffWhy>, line: &DirectiveLine) -> Option<Fault>
     ensures { result ≡ least_of (faults_at why line.now) }
 {
     let why = why?;
@@ -80,7 +89,12 @@ pub fn fault_at(why: Option<AffWhy>, line: &Kept) -> Option<Fault>
     })
 }
 
-fn once_fault(kind: FlagKind, form: Form, directive: Directive, rows: &[Kept]) -> Option<Fault>
+fn once_fault(
+    kind: FlagKind,
+    form: Form,
+    directive: Directive,
+    rows: &[DirectiveLine],
+) -> Option<Fault>
     ensures { result ≡ least_of (once_faults kind form (lines_of directive rows.now)) }
 {
     let (first, later) = next_of(directive, rows)?;
@@ -93,14 +107,14 @@ fn once_fault(kind: FlagKind, form: Form, directive: Directive, rows: &[Kept]) -
     found
 }
 
-fn later_fault(kind: FlagKind, form: Form, line: &Kept) -> Option<Fault>
+fn later_fault(kind: FlagKind, form: Form, line: &DirectiveLine) -> Option<Fault>
     ensures { result ≡ least_of (later_faults kind form line.now) }
 {
     let twice = fault_at(Some(AffWhy::Twice), line);
     sooner(twice, fault_at(line_why(kind, form, line), line))
 }
 
-fn left_out_fault(directive: Directive, rows: &[Kept]) -> Option<Fault>
+fn left_out_fault(directive: Directive, rows: &[DirectiveLine]) -> Option<Fault>
     ensures { result ≡ least_of (all_left_out (lines_of directive rows.now)) }
 {
     let mut found = None;
@@ -112,7 +126,12 @@ fn left_out_fault(directive: Directive, rows: &[Kept]) -> Option<Fault>
     found
 }
 
-fn table_fault(kind: FlagKind, row: Row, directive: Directive, rows: &[Kept]) -> Option<Fault>
+fn table_fault(
+    kind: FlagKind,
+    row: Row,
+    directive: Directive,
+    rows: &[DirectiveLine],
+) -> Option<Fault>
     ensures { result ≡ least_of (table_faults kind row (lines_of directive rows.now)) }
 {
     let (header, later) = next_of(directive, rows)?;
@@ -125,8 +144,8 @@ fn counted_fault(
     kind: FlagKind,
     row: Row,
     directive: Directive,
-    header: &Kept,
-    later: &[Kept],
+    header: &DirectiveLine,
+    later: &[DirectiveLine],
 ) -> Option<Fault>
     ensures { result ≡ least_of (counted_faults kind row header.now (lines_of directive later.now) (number_at header.now)) }
 {
@@ -145,7 +164,7 @@ fn rows_fault(
     row: Row,
     directive: Directive,
     count: u64,
-    rows: &[Kept],
+    rows: &[DirectiveLine],
 ) -> Option<Fault>
     ensures { result ≡ least_of (rows_faults kind row count (lines_of directive rows.now)) }
 {
@@ -160,7 +179,7 @@ fn rows_fault(
     found
 }
 
-fn place_fault(kind: FlagKind, row: Row, left: u64, line: &Kept) -> Option<Fault>
+fn place_fault(kind: FlagKind, row: Row, left: u64, line: &DirectiveLine) -> Option<Fault>
     ensures { result ≡ least_of (place_faults kind row left line.now) }
 {
     if left == 0 {

@@ -1,98 +1,97 @@
-//! The lines of an .aff file that say something, and the lines of one directive.
+//! The lines of directives in an .aff file, and the lines of one directive.
 
-ghost use Rattle.std.specs.Prelude.{◌≡◌, ◌++◌, All, IfOk, OnOk, filter, filter_map, length};
+ghost use Rattle.std.specs.Prelude.{◌≡◌, ◌++◌, ◌↔◌, ℕ, List, Some, All, IfOk, OnOk, filter, filter_map, length};
 ghost use Rattle.std.specs.Option.{option_copied, option_to_list};
 ghost use Rattle.text_lines.specs.Lines.{IsInside};
-ghost use Rattle.aff_lines.specs.Names.{directives_of_passes};
-ghost use Rattle.aff_lines.specs.Rows.{row_of, row_in, rows_with, lines_of, value_of, IsNext, is_comment};
+ghost use Rattle.aff_lines.specs.declared.names.Directive.{Directive};
+ghost use Rattle.aff_lines.specs.Rows.{row_of, row_in, row_with, directive_of, lines_of, value_of, BeginsWith, IsNext};
 
-use crate::names::{Directive, Pass, is_among, is_named};
+use crate::names::{Directive, directive_named};
 use lists::{Copied, Items, NoMemory};
 use std::alloc::Global;
 use text_lines::found::Line;
 use text_lines::{Text, field, line_text};
 
-/// A line that is neither blank nor a comment.
+/// A line that begins with a name of a directive.
 #[derive(Debug, Drop)]
-pub struct Kept {
+pub struct DirectiveLine {
     /// The line's number.
     pub number: u64,
-    /// Its first field.
-    pub name: Text,
+    /// The directive that its first field names.
+    pub directive: Directive,
     /// The whole line.
     pub text: Text,
 }
 
-impl Copied for Kept {
-    fn copy(&self, alloc: Global) -> Result<Kept, NoMemory> {
-        Ok(Kept {
+impl Copied for DirectiveLine {
+    fn copy(&self, alloc: Global) -> Result<DirectiveLine, NoMemory> {
+        Ok(DirectiveLine {
             number: self.number,
-            name: self.name.copy(alloc)?,
+            directive: self.directive,
             text: self.text.copy(alloc)?,
         })
     }
 }
 
-/// The lines that begin with a name of a directive of one of these passes.
+/// The lines that begin with a name of a directive. All others are passed over: blank lines, comments, since no name
+/// begins with `#`, and lines that begin with another name.
 pub(crate) fn read_rows(
     alloc: Global,
     bytes: &[u8],
     lines: &[Line],
-    passes: &[Pass],
-) -> Result<Items<Kept>, NoMemory>
+) -> Result<Items<DirectiveLine>, NoMemory>
     requires { All (IsInside bytes.now) lines.now }
-    ensures { IfOk result (λ rows. rows ≡ rows_with (directives_of_passes passes.now) (filter_map (row_in bytes.now) lines.now)) }
+    ensures { IfOk result (λ rows. rows ≡ filter_map (row_in bytes.now) lines.now) }
 {
     let mut rows = Items::new(alloc);
     for line in lines {
-        push_row(
-            alloc,
-            &mut rows,
-            passes,
-            line.number,
-            line_text(bytes, line),
-        )?;
+        push_row(alloc, &mut rows, line.number, line_text(bytes, line))?;
     }
     Ok(rows)
 }
 
-/// Adds the row of a line, if it has one and it begins with a name of a directive of one of these passes.
+/// Adds the row of a line, if it has one.
 fn push_row(
     alloc: Global,
-    rows: &mut Items<Kept>,
-    passes: &[Pass],
+    rows: &mut Items<DirectiveLine>,
     number: u64,
     text: &str,
 ) -> Result<(), NoMemory>
-    ensures { OnOk result (rows.new ≡ rows.old ++ rows_with (directives_of_passes passes.now) (option_to_list (row_of number text.now))) }
+    ensures { OnOk result (rows.new ≡ rows.old ++ option_to_list (row_of number text.now)) }
 {
-    let Some(name) = field(text, 0) else {
+    let Some(directive) = directive_of(text) else {
         return Ok(());
     };
-    if is_comment(name) || !is_among(passes, name) {
-        return Ok(());
-    }
-    rows.push(Kept {
+    rows.push(DirectiveLine {
         number,
-        name: Text::from_str(alloc, name)?,
+        directive,
         text: Text::from_str(alloc, text)?,
     })
 }
 
-/// Whether a line that begins with this field is a comment.
-fn is_comment(name: &str) -> bool
-    ensures { result ≡ is_comment name.now }
+/// The directive that the first field of a line names.
+fn directive_of(text: &str) -> Option<Directive>
+    ensures { result ≡ directive_of text.now }
 {
-    name.as_bytes().starts_with(b"#")
+    directive_named(field(text, 0)?)
 }
 
+/// A line is a row exactly where its first field is a name of the directive that the row is of.
+pub fn rows_begin_with_names()
+    ensures { (number : ℕ) (text : List ℕ) (directive : Directive)
+        → (row_of number text ≡ Some (row_with number text directive)) ↔ BeginsWith directive text }
+{}
+
 /// The first line of a directive, and the rows behind it, in which the directive's other lines are.
-pub fn next_of<'a>(directive: Directive, rows: &'a [Kept]) -> Option<(&'a Kept, &'a [Kept])>
+pub fn next_of<'a>(
+    directive: Directive,
+    rows: &'a [DirectiveLine],
+) -> Option<(&'a DirectiveLine, &'a [DirectiveLine])>
     ensures { IsNext directive rows.now result }
 {
     let mut rest = rows;
     while let Some((row, more)) = rest.split_first() {
-        if is_named(directive, row.name.as_str()) {
+        if row.directive == directive {
             return Some((row, more));
         }
         rest = more;
@@ -101,16 +100,14 @@ pub fn next_of<'a>(directive: Directive, rows: &'a [Kept]) -> Option<(&'a Kept, 
 }
 
 /// How many lines a directive has.
-pub(crate) fn count_of(directive: Directive, rows: &[Kept]) -> usize
+pub(crate) fn count_of(directive: Directive, rows: &[DirectiveLine]) -> usize
     ensures { result ≡ length (lines_of directive rows.now) }
 {
-    rows.iter()
-        .filter(|row| is_named(directive, row.name.as_str()))
-        .count()
+    rows.iter().filter(|row| row.directive == directive).count()
 }
 
 /// The field behind a line's name.
-pub fn value_of(line: &Kept) -> Option<&str>
+pub fn value_of(line: &DirectiveLine) -> Option<&str>
     ensures { option_copied result ≡ value_of line.now }
 {
     field(line.text.as_str(), 1)

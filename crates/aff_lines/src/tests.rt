@@ -4,7 +4,7 @@ use std::process::Abort;
 use std::test::Fail;
 use text_lines::Text;
 
-/// The lines that are kept of a file without faults, as number and name, and its type of flags and aliases.
+/// The lines of directives of a file without faults, as number and name, and its type of flags and aliases.
 fn assert_read(
     rt: &impl Abort,
     alloc: Global,
@@ -19,14 +19,15 @@ fn assert_read(
         Ok(found) => {
             assert_eq!(rt; found.kind, kind, "in {text:?}");
             assert_eq!(rt; found.aliases.is_some(), aliases.is_some(), "in {text:?}");
-            let own = found.kept.as_slice();
-            assert_eq!(rt; own.len(), kept.len(), "in {text:?}");
-            for (line, want) in own.iter().zip(kept) {
-                assert_eq!(rt; (line.number, line.name.as_str()), *want, "in {text:?}");
+            assert_eq!(rt; found.kept.len(), kept.len(), "in {text:?}");
+            for (line, (number, name)) in found.kept.iter().zip(kept) {
+                assert_eq!(rt; line.number, *number, "in {text:?}");
+                assert_eq!(rt; Some(line.directive), directive_named(name), "in {text:?}");
+                assert_eq!(rt; text_lines::field(line.text.as_str(), 0), Some(*name));
             }
             if let (Some(sets), Some(sizes)) = (found.aliases, aliases) {
-                assert_eq!(rt; sets.as_slice().len(), sizes.len(), "in {text:?}");
-                for (set, size) in sets.as_slice().iter().zip(sizes) {
+                assert_eq!(rt; sets.len(), sizes.len(), "in {text:?}");
+                for (set, size) in sets.iter().zip(sizes) {
                     assert_eq!(rt; set.as_slice().len() as u64, *size, "in {text:?}");
                 }
             }
@@ -47,16 +48,21 @@ fn reads_files(rt: HostRuntime) -> Result<(), Fail> {
             None,
             none,
         ),
-        ("SET UTF-8\n", FlagKind::Single, None, none),
+        ("SET UTF-8\n", FlagKind::Single, None, &[(1, "SET")]),
         (
             "\u{feff}SET utf-8\r\nFLAG UTF-8\r\n",
             FlagKind::Utf8,
             None,
-            none,
+            &[(1, "SET"), (2, "FLAG")],
         ),
-        ("FLAG utf-8", FlagKind::Utf8, None, none),
-        ("FLAG LONG more fields", FlagKind::Long, None, none),
-        (" FLAG\tnum ", FlagKind::Num, None, none),
+        ("FLAG utf-8", FlagKind::Utf8, None, &[(1, "FLAG")]),
+        (
+            "FLAG LONG more fields",
+            FlagKind::Long,
+            None,
+            &[(1, "FLAG")],
+        ),
+        (" FLAG\tnum ", FlagKind::Num, None, &[(1, "FLAG")]),
         // Names that are no option's are passed over.
         (
             "set\nSETS x\nTRY abc\nKEY\nFLAGS\n",
@@ -64,29 +70,41 @@ fn reads_files(rt: HostRuntime) -> Result<(), Fail> {
             None,
             none,
         ),
-        ("AF 0", FlagKind::Single, Some(&[]), none),
+        ("AF 0", FlagKind::Single, Some(&[]), &[(1, "AF")]),
         (
             "AF 2\nAF ABA\nAF C\n",
             FlagKind::Single,
             Some(&[2, 1]),
-            none,
+            &[(1, "AF"), (2, "AF"), (3, "AF")],
         ),
         // FLAG counts for the whole file, also for lines before it.
         (
             "AF 002 x\n#\nAF 1,2,3\n\nFLAG num\nAF 7 # 8",
             FlagKind::Num,
             Some(&[3, 1]),
-            none,
+            &[(1, "AF"), (3, "AF"), (5, "FLAG"), (6, "AF")],
         ),
-        ("AF 1\nAF AaBb\nFLAG long", FlagKind::Long, Some(&[2]), none),
+        (
+            "AF 1\nAF AaBb\nFLAG long",
+            FlagKind::Long,
+            Some(&[2]),
+            &[(1, "AF"), (2, "AF"), (3, "FLAG")],
+        ),
         // The lines of two names between one another.
         (
             "AF 2\nWARN !\nAF A\n\nSET UTF-8\nPSEUDOROOT X\nAF B",
             FlagKind::Single,
             Some(&[1, 1]),
-            &[(2, "WARN"), (6, "PSEUDOROOT")],
+            &[
+                (1, "AF"),
+                (2, "WARN"),
+                (3, "AF"),
+                (5, "SET"),
+                (6, "PSEUDOROOT"),
+                (7, "AF"),
+            ],
         ),
-        // Lines of the fourth pass are kept whatever is wrong with them.
+        // Lines of the fourth pass are kept, whatever is wrong with them.
         (
             "WORDCHARS\nCOMPLEXPREFIXES\nIGNORE\nFORBIDWARN\nSFX\nTRY\nNEEDAFFIX",
             FlagKind::Single,
@@ -111,7 +129,7 @@ fn reads_files(rt: HostRuntime) -> Result<(), Fail> {
             "SET UTF-8 # yes\nWORDCHARSX a",
             FlagKind::Single,
             None,
-            none,
+            &[(1, "SET")],
         ),
         ("  WARN  !  ", FlagKind::Single, None, &[(1, "WARN")]),
     ];
@@ -183,16 +201,17 @@ fn refuses_files(rt: HostRuntime) -> Result<(), Fail> {
 }
 
 /// Some rows, for the readers of one directive.
-fn rows_of(alloc: Global, texts: &[&str]) -> Result<Items<Kept>, NoMemory> {
+fn rows_of(alloc: Global, texts: &[&str]) -> Result<Items<DirectiveLine>, NoMemory> {
     let mut rows = Items::new(alloc);
     let mut number = 1;
     for text in texts.iter().take(100) {
-        let name = text_lines::field(text, 0).unwrap_or("");
-        rows.push(Kept {
-            number,
-            name: Text::from_str(alloc, name)?,
-            text: Text::from_str(alloc, text)?,
-        })?;
+        if let Some(directive) = directive_named(text_lines::field(text, 0).unwrap_or("")) {
+            rows.push(DirectiveLine {
+                number,
+                directive,
+                text: Text::from_str(alloc, text)?,
+            })?;
+        }
         number = number.saturating_add(1);
     }
     Ok(rows)
@@ -232,7 +251,7 @@ fn finds_faults_of_a_pass(rt: HostRuntime) -> Result<(), Fail> {
     ];
     for (texts, want) in table {
         let rows = rows_of(rt.alloc(), texts)?;
-        let found = find_fault(FlagKind::Single, rows.as_slice(), Pass::Fourth);
+        let found = find_fault(FlagKind::Single, &rows, Pass::Fourth);
         let want = want.map(|(line, why)| Fault { line, why });
         assert_eq!(rt; found, want, "in {texts:?}");
     }
@@ -252,7 +271,7 @@ fn reads_values(rt: HostRuntime) -> Result<(), Fail> {
             "AF A",
         ],
     )?;
-    let rows = rows.as_slice();
+    let rows: &[DirectiveLine] = &rows;
     assert_eq!(rt;
         flag_said(FlagKind::Single, Directive::NeedAffix, rows),
         Some(spell_types::Flag(88))
@@ -270,6 +289,9 @@ fn reads_values(rt: HostRuntime) -> Result<(), Fail> {
         (6, Some("A"), 0)
     );
     first_faults_are_least();
-    every_directive_is_in_one_pass();
+    earliest_faults();
+    every_directive_has_one_row();
+    no_name_stands_twice();
+    rows_begin_with_names();
     Ok(())
 }

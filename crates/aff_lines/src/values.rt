@@ -10,14 +10,14 @@ ghost use Rattle.aff_lines.specs.Rows.{lines_of};
 
 use crate::causes::{kind_named, number_at, number_in};
 use crate::names::Directive;
-use crate::rows::{Kept, next_of, value_of};
+use crate::rows::{DirectiveLine, next_of, value_of};
 use flag_sets::{FlagFault, read_flags, read_one_flag};
 use lists::{Items, NoMemory};
 use spell_types::{Flag, FlagKind, FlagSet};
 use std::alloc::Global;
 
 /// The value of a directive: that of its first line.
-pub fn value_said(directive: Directive, rows: &[Kept]) -> Option<&str>
+pub fn value_said(directive: Directive, rows: &[DirectiveLine]) -> Option<&str>
     ensures { option_copied result ≡ value_said (lines_of directive rows.now) }
 {
     let (line, _) = next_of(directive, rows)?;
@@ -25,7 +25,7 @@ pub fn value_said(directive: Directive, rows: &[Kept]) -> Option<&str>
 }
 
 /// The flag of a directive.
-pub fn flag_said(kind: FlagKind, directive: Directive, rows: &[Kept]) -> Option<Flag>
+pub fn flag_said(kind: FlagKind, directive: Directive, rows: &[DirectiveLine]) -> Option<Flag>
     ensures flag { result ≡ flag_said kind (lines_of directive rows.now) }
     ensures ordinary { IfSome result IsOrdinary }
 {
@@ -33,21 +33,21 @@ pub fn flag_said(kind: FlagKind, directive: Directive, rows: &[Kept]) -> Option<
 }
 
 /// The number of a directive.
-pub fn number_said(directive: Directive, rows: &[Kept]) -> Option<u64>
+pub fn number_said(directive: Directive, rows: &[DirectiveLine]) -> Option<u64>
     ensures { result ≡ number_said (lines_of directive rows.now) }
 {
     number_in(value_said(directive, rows)?)
 }
 
 /// Whether a switch is there.
-pub fn is_said(directive: Directive, rows: &[Kept]) -> bool
+pub fn is_said(directive: Directive, rows: &[DirectiveLine]) -> bool
     ensures { result ≡ is_said (lines_of directive rows.now) }
 {
     next_of(directive, rows).is_some()
 }
 
 /// How many rows a table has, and the lines behind its header, of which they are the first.
-pub fn table_of(directive: Directive, rows: &[Kept]) -> Option<(u64, &[Kept])>
+pub fn table_of(directive: Directive, rows: &[DirectiveLine]) -> Option<(u64, &[DirectiveLine])>
     ensures { IsTable directive rows.now result }
 {
     let (header, later) = next_of(directive, rows)?;
@@ -55,7 +55,7 @@ pub fn table_of(directive: Directive, rows: &[Kept]) -> Option<(u64, &[Kept])>
 }
 
 /// The type of flags that the rows say.
-pub(crate) fn kind_said(rows: &[Kept]) -> FlagKind
+pub(crate) fn kind_said(rows: &[DirectiveLine]) -> FlagKind
     ensures { result ≡ kind_said (lines_of Directive.FlagType rows.now) }
 {
     match value_said(Directive::FlagType, rows) {
@@ -68,7 +68,7 @@ pub(crate) fn kind_said(rows: &[Kept]) -> FlagKind
 pub(crate) fn read_aliases(
     alloc: Global,
     kind: FlagKind,
-    rows: &[Kept],
+    rows: &[DirectiveLine],
 ) -> Result<Option<Items<FlagSet>>, NoMemory>
     ensures said { IfOk result (λ aliases. aliases ≡ aliases_said kind (lines_of Directive.FlagAliases rows.now)) }
     ensures ordinary { IfOk result (λ aliases. IfSome aliases (All AreOrdinary)) }
@@ -84,7 +84,7 @@ fn read_sets(
     alloc: Global,
     kind: FlagKind,
     count: u64,
-    rows: &[Kept],
+    rows: &[DirectiveLine],
 ) -> Result<Items<FlagSet>, NoMemory>
     ensures said { IfOk result (λ sets. sets ≡ map (set_in kind) (take count (lines_of Directive.FlagAliases rows.now))) }
     ensures ordinary { IfOk result (All AreOrdinary) }
@@ -104,7 +104,7 @@ fn read_sets(
 }
 
 /// The set in the field behind a line's name.
-fn read_set(alloc: Global, kind: FlagKind, line: &Kept) -> Result<FlagSet, NoMemory>
+fn read_set(alloc: Global, kind: FlagKind, line: &DirectiveLine) -> Result<FlagSet, NoMemory>
     ensures said { IfOk result (λ set. set ≡ set_in kind line.now) }
     ensures ordinary { IfOk result AreOrdinary }
 {

@@ -11,11 +11,10 @@ use Rattle.spell_types.specs.declared.flags.FlagKind.{FlagKind}
 use Rattle.spell_types.specs.declared.rules.Rule.{Rule}
 use Rattle.aff_lines.specs.declared.faults.AffWhy.TheVariants.{TooMany}
 use Rattle.aff_lines.specs.declared.faults.Fault.{Fault}
-use Rattle.aff_lines.specs.declared.rows.Kept.{Kept}
+use Rattle.aff_lines.specs.declared.rows.DirectiveLine.{DirectiveLine}
 use Rattle.aff_lines.specs.Causes.{unless}
-use Rattle.aff_lines.specs.Faults.{least_of}
+use Rattle.aff_lines.specs.Faults.{least_of, FindsLeast, LeastIs}
 use Rattle.aff_lines.specs.Grammar.{faults_at}
-use Rattle.aff_lines.proofs.FaultLemmas.{LeastIs, least_law}
 use Rattle.aff_reader.specs.declared.class_lines.Class.{Class}
 use Rattle.aff_reader.specs.declared.class_lines.Placed.{Placed}
 use Rattle.aff_reader.specs.declared.class_lines.Role.TheVariants.{Member, Past}
@@ -68,14 +67,14 @@ abbrev still : Option Standing → ℕ
 still None = 0
 still (Some standing) = unwrap_or standing.wanted 0
 
-abbrev still_in : FlagKind → List Kept → Class → ℕ
+abbrev still_in : FlagKind → List DirectiveLine → Class → ℕ
 still_in kind rows class = still (standing_of (lines_in kind class rows))
 
 wanted-less : (count : Option ℕ) (behind : ℕ) → unwrap_or (wanted_behind (behind + 1) count) 0 ≡ unwrap_or (wanted_behind behind count) 0 - 1
 wanted-less None behind = omega arith
 wanted-less (Some n) behind = omega arith
 
-still-less : (header : Kept) (behind : List Kept) (line : Kept) → still (standing_of ((header ∷ behind) ++ line ∷ [])) ≡ still (standing_of (header ∷ behind)) - 1
+still-less : (header : DirectiveLine) (behind : List DirectiveLine) (line : DirectiveLine) → still (standing_of ((header ∷ behind) ++ line ∷ [])) ≡ still (standing_of (header ∷ behind)) - 1
 still-less header behind line =
     let longer : length (behind ++ line ∷ []) ≡ length behind + 1 = length-append behind (line ∷ []) in
     ap (λ n. unwrap_or (wanted_behind n (count_of header)) 0) longer ∙ wanted-less (count_of header) (length behind)
@@ -89,7 +88,7 @@ one-at-most (Some x) = omega arith
 some-wanted : (wanted : ℕ) → (wanted == 0) ≡ false → 1 ≤ wanted
 some-wanted wanted h = grind (arith, nat_tests)
 
-rules-drop : (kind : FlagKind) (aliases : Option (List (List Flag))) (line : Kept) (class : Class) (crossed : Bool) (wanted : Option ℕ)
+rules-drop : (kind : FlagKind) (aliases : Option (List (List Flag))) (line : DirectiveLine) (class : Class) (crossed : Bool) (wanted : Option ℕ)
     → length (role_rules kind aliases line class (role_wanted crossed wanted)) + (unwrap_or wanted 0 - 1) ≤ unwrap_or wanted 0
 rules-drop kind aliases line class crossed None = omega arith
 rules-drop kind aliases line class crossed (Some wanted) = by-test (wanted == 0) refl
@@ -103,49 +102,49 @@ rules-drop kind aliases line class crossed (Some wanted) = by-test (wanted == 0)
 
 -- the classes that have lines
 
-abbrev has_lines : FlagKind → List Kept → Class → Bool
+abbrev has_lines : FlagKind → List DirectiveLine → Class → Bool
 has_lines kind rows class = is_some (standing_of (lines_in kind class rows))
 
-abbrev AllHave : FlagKind → List Kept → List Class → Type 0
+abbrev AllHave : FlagKind → List DirectiveLine → List Class → Type 0
 AllHave kind rows [] = Unit {0}
 AllHave kind rows (class ∷ more) = (has_lines kind rows class ≡ true) × AllHave kind rows more
 
 -- the classes with lines among these rows
-record Covers (kind : FlagKind) (rows : List Kept) (classes : List Class) : Type 0 where
+record Covers (kind : FlagKind) (rows : List DirectiveLine) (classes : List Class) : Type 0 where
   all : AllHave kind rows classes
   each : (class : Class) → has_lines kind rows class ≡ true → Among classes class
 
-some-standing : (own : List Kept) (line : Kept) → is_some (standing_of (own ++ line ∷ [])) ≡ true
+some-standing : (own : List DirectiveLine) (line : DirectiveLine) → is_some (standing_of (own ++ line ∷ [])) ≡ true
 some-standing [] line = refl
 some-standing (header ∷ behind) line = refl
 
-have-more : (kind : FlagKind) (rows : List Kept) (line : Kept) (class : Class) → has_lines kind rows class ≡ true → has_lines kind (rows ++ line ∷ []) class ≡ true
+have-more : (kind : FlagKind) (rows : List DirectiveLine) (line : DirectiveLine) (class : Class) → has_lines kind rows class ≡ true → has_lines kind (rows ++ line ∷ []) class ≡ true
 have-more kind rows line class has = by-test (is_that_class class (class_of kind line)) refl
   where
     by-test : (own : Bool) → is_that_class class (class_of kind line) ≡ own → has_lines kind (rows ++ line ∷ []) class ≡ true
     by-test true own = ap (λ o. is_some (standing_of o)) (lines-own kind class rows line own) ∙ some-standing (lines_in kind class rows) line
     by-test false other = ap (λ o. is_some (standing_of o)) (lines-other kind class rows line other) ∙ has
 
-all-more : (kind : FlagKind) (rows : List Kept) (line : Kept) (classes : List Class) → AllHave kind rows classes → AllHave kind (rows ++ line ∷ []) classes
+all-more : (kind : FlagKind) (rows : List DirectiveLine) (line : DirectiveLine) (classes : List Class) → AllHave kind rows classes → AllHave kind (rows ++ line ∷ []) classes
 all-more kind rows line [] all = tt
 all-more kind rows line (class ∷ more) all = (have-more kind rows line class all.0, all-more kind rows line more all.1)
 
 -- a class that has lines already, or none of this line
 
-still-other : (kind : FlagKind) (rows : List Kept) (line : Kept) (class : Class) → is_that_class class (class_of kind line) ≡ false
+still-other : (kind : FlagKind) (rows : List DirectiveLine) (line : DirectiveLine) (class : Class) → is_that_class class (class_of kind line) ≡ false
     → still_in kind (rows ++ line ∷ []) class ≡ still_in kind rows class
 still-other kind rows line class other = ap (λ own. still (standing_of own)) (lines-other kind class rows line other)
 
-less-still : (own : List Kept) (line : Kept) → is_some (standing_of own) ≡ true → still (standing_of (own ++ line ∷ [])) ≡ still (standing_of own) - 1
+less-still : (own : List DirectiveLine) (line : DirectiveLine) → is_some (standing_of own) ≡ true → still (standing_of (own ++ line ∷ [])) ≡ still (standing_of own) - 1
 less-still [] line has = absurd cc
 less-still (header ∷ behind) line has = still-less header behind line
 
-still-own : (kind : FlagKind) (rows : List Kept) (line : Kept) (class : Class) → is_that_class class (class_of kind line) ≡ true → has_lines kind rows class ≡ true
+still-own : (kind : FlagKind) (rows : List DirectiveLine) (line : DirectiveLine) (class : Class) → is_that_class class (class_of kind line) ≡ true → has_lines kind rows class ≡ true
     → still_in kind (rows ++ line ∷ []) class ≡ still_in kind rows class - 1
 still-own kind rows line class own has =
     ap (λ lines. still (standing_of lines)) (lines-own kind class rows line own) ∙ less-still (lines_in kind class rows) line has
 
-still-le : (kind : FlagKind) (rows : List Kept) (line : Kept) (class : Class) → has_lines kind rows class ≡ true
+still-le : (kind : FlagKind) (rows : List DirectiveLine) (line : DirectiveLine) (class : Class) → has_lines kind rows class ≡ true
     → still_in kind (rows ++ line ∷ []) class ≤ still_in kind rows class
 still-le kind rows line class has = by-test (is_that_class class (class_of kind line)) refl
   where
@@ -153,20 +152,20 @@ still-le kind rows line class has = by-test (is_that_class class (class_of kind 
     by-test true own = let less = still-own kind rows line class own has in omega arith
     by-test false other = let same = still-other kind rows line class other in omega arith
 
-all-le : (kind : FlagKind) (rows : List Kept) (line : Kept) (classes : List Class) → AllHave kind rows classes
+all-le : (kind : FlagKind) (rows : List DirectiveLine) (line : DirectiveLine) (classes : List Class) → AllHave kind rows classes
     → AllLe (still_in kind (rows ++ line ∷ [])) (still_in kind rows) classes
 all-le kind rows line [] all = tt
 all-le kind rows line (class ∷ more) all = (still-le kind rows line class all.0, all-le kind rows line more all.1)
 
 -- One line more: what it adds to the rules, with what is still wanted behind it, is no more than what it announces,
 -- with what was wanted before.
-record Step (kind : FlagKind) (aliases : Option (List (List Flag))) (rows : List Kept) (line : Kept) (classes : List Class) : Type 0 where
+record Step (kind : FlagKind) (aliases : Option (List (List Flag))) (rows : List DirectiveLine) (line : DirectiveLine) (classes : List Class) : Type 0 where
   next : List Class
   covers : Covers kind (rows ++ line ∷ []) next
   small : length (placed_rules kind aliases line (placed_after kind rows line)) + total (still_in kind (rows ++ line ∷ [])) next
       ≤ announced_by line (placed_after kind rows line) + total (still_in kind rows) classes
 
-step-none : (kind : FlagKind) (aliases : Option (List (List Flag))) (rows : List Kept) (line : Kept) (classes : List Class)
+step-none : (kind : FlagKind) (aliases : Option (List (List Flag))) (rows : List DirectiveLine) (line : DirectiveLine) (classes : List Class)
     → Covers kind rows classes → class_of kind line ≡ None → Step kind aliases rows line classes
 step-none kind aliases rows line classes covers none =
     let other : (class : Class) → is_that_class class (class_of kind line) ≡ false = λ class. ap (is_that_class class) none in
@@ -183,14 +182,14 @@ step-none kind aliases rows line classes covers none =
           (sym placed) (omega (arith, le));
     }
 
-placed-is : (kind : FlagKind) (rows : List Kept) (line : Kept) (class : Class) (standing : Option Standing) → class_of kind line ≡ Some class
+placed-is : (kind : FlagKind) (rows : List DirectiveLine) (line : DirectiveLine) (class : Class) (standing : Option Standing) → class_of kind line ≡ Some class
     → standing_of (lines_in kind class rows) ≡ standing → placed_after kind rows line ≡ Some (record { class = class; role = role_after standing })
 unfolding placed_after
 placed-is kind rows line class standing is comes_to =
     ap (option_map (placed_in kind rows)) is
     ∙ ap (λ s. Some (record { class = class; role = role_after s })) comes_to
 
-no-lines : (own : List Kept) → standing_of own ≡ None → own ≡ []
+no-lines : (own : List DirectiveLine) → standing_of own ≡ None → own ≡ []
 no-lines [] h = refl
 no-lines (header ∷ behind) h = absurd cc
 
@@ -198,10 +197,10 @@ wanted-first : (count : Option ℕ) → unwrap_or (wanted_behind 0 count) 0 ≡ 
 wanted-first None = refl
 wanted-first (Some n) = omega arith
 
-own-class : (kind : FlagKind) (line : Kept) (class : Class) → class_of kind line ≡ Some class → is_that_class class (class_of kind line) ≡ true
+own-class : (kind : FlagKind) (line : DirectiveLine) (class : Class) → class_of kind line ≡ Some class → is_that_class class (class_of kind line) ≡ true
 own-class kind line class is = ap (is_that_class class) is ∙ same-self class
 
-step-header : (kind : FlagKind) (aliases : Option (List (List Flag))) (rows : List Kept) (line : Kept) (classes : List Class) (class : Class)
+step-header : (kind : FlagKind) (aliases : Option (List (List Flag))) (rows : List DirectiveLine) (line : DirectiveLine) (classes : List Class) (class : Class)
     → Covers kind rows classes → class_of kind line ≡ Some class → standing_of (lines_in kind class rows) ≡ None
     → Step kind aliases rows line classes
 step-header kind aliases rows line classes class covers is none =
@@ -225,7 +224,7 @@ step-header kind aliases rows line classes class covers is none =
     by-test other has false apart =
         inr (covers.each other (sym (ap (λ l. is_some (standing_of l)) (lines-other kind other rows line (ap (is_that_class other) is ∙ apart))) ∙ has))
 
-step-later : (kind : FlagKind) (aliases : Option (List (List Flag))) (rows : List Kept) (line : Kept) (classes : List Class) (class : Class) (standing : Standing)
+step-later : (kind : FlagKind) (aliases : Option (List (List Flag))) (rows : List DirectiveLine) (line : DirectiveLine) (classes : List Class) (class : Class) (standing : Standing)
     → Covers kind rows classes → class_of kind line ≡ Some class → standing_of (lines_in kind class rows) ≡ Some standing
     → Step kind aliases rows line classes
 step-later kind aliases rows line classes class standing covers is comes_to =
@@ -251,7 +250,7 @@ step-later kind aliases rows line classes class standing covers is comes_to =
     by-test other is_there false apart =
         covers.each other (sym (ap (λ l. is_some (standing_of l)) (lines-other kind other rows line (ap (is_that_class other) is ∙ apart))) ∙ is_there)
 
-step : (kind : FlagKind) (aliases : Option (List (List Flag))) (rows : List Kept) (line : Kept) (classes : List Class)
+step : (kind : FlagKind) (aliases : Option (List (List Flag))) (rows : List DirectiveLine) (line : DirectiveLine) (classes : List Class)
     → Covers kind rows classes → Step kind aliases rows line classes
 step kind aliases rows line classes covers = of-class (class_of kind line) refl
   where
@@ -266,13 +265,13 @@ step kind aliases rows line classes covers = of-class (class_of kind line) refl
 
 -- all lines
 
-abbrev pub rules_each : FlagKind → Option (List (List Flag)) → List Kept → Kept → List Rule
+abbrev pub rules_each : FlagKind → Option (List (List Flag)) → List DirectiveLine → DirectiveLine → List Rule
 rules_each kind aliases before line = placed_rules kind aliases line (placed_after kind before line)
 
-abbrev counts_each : FlagKind → List Kept → Kept → List ℕ
+abbrev counts_each : FlagKind → List DirectiveLine → DirectiveLine → List ℕ
 counts_each kind before line = announced_by line (placed_after kind before line) ∷ []
 
-bound : (kind : FlagKind) (aliases : Option (List (List Flag))) (before rows : List Kept) (classes : List Class) → Covers kind before classes
+bound : (kind : FlagKind) (aliases : Option (List (List Flag))) (before rows : List DirectiveLine) (classes : List Class) → Covers kind before classes
     → length (each_after (rules_each kind aliases) before rows) ≤ sum (each_after (counts_each kind) before rows) + total (still_in kind before) classes
 bound kind aliases before [] classes covers = omega arith
 bound kind aliases before (line ∷ more) classes covers =
@@ -287,7 +286,7 @@ covers-none : (kind : FlagKind) → Covers kind [] []
 unfolding lines_in
 covers-none kind = record { all = tt; each = λ class has. absurd (cc has) }
 
-pub rules-announced : (kind : FlagKind) (aliases : Option (List (List Flag))) (rows : List Kept) → length (rules_said kind aliases rows) ≤ announced kind rows
+pub rules-announced : (kind : FlagKind) (aliases : Option (List (List Flag))) (rows : List DirectiveLine) → length (rules_said kind aliases rows) ≤ announced kind rows
 unfolding rules_said announced
 rules-announced kind aliases rows = omega (arith, bound kind aliases [] rows [] (covers-none kind))
 
@@ -304,7 +303,7 @@ second-none (x ∷ xs) ys h = absurd cc
 test-within : (total limit : ℕ) → nat_le total limit ≡ true → total ≤ limit
 test-within total limit h = grind (arith, nat_tests)
 
-here-within : (kind : FlagKind) (limit : ℕ) (before : List Kept) (line : Kept) → announced kind before ≤ limit → limit_faults kind limit before line ≡ []
+here-within : (kind : FlagKind) (limit : ℕ) (before : List DirectiveLine) (line : DirectiveLine) → announced kind before ≤ limit → limit_faults kind limit before line ≡ []
     → announced kind (before ++ line ∷ []) ≤ limit
 unfolding limit_faults
 here-within kind limit before line so_far none = by-test (heads (placed_after kind before line)) refl
@@ -322,30 +321,30 @@ here-within kind limit before line so_far none = by-test (heads (placed_after ki
         let own : announced_by line (placed_after kind before line) ≡ 0 = ap (λ t. cond t (unwrap_or (count_of line) 0) 0) h in
         omega (arith, more, own)
 
-all-within : (kind : FlagKind) (limit : ℕ) (before rows : List Kept) → announced kind before ≤ limit → each_after (limit_faults kind limit) before rows ≡ []
+all-within : (kind : FlagKind) (limit : ℕ) (before rows : List DirectiveLine) → announced kind before ≤ limit → each_after (limit_faults kind limit) before rows ≡ []
     → announced kind (before ++ rows) ≤ limit
-all-within kind limit before [] so_far none = subst (λ (lines : List Kept). announced kind lines ≤ limit) (sym (append-nil before)) so_far
+all-within kind limit before [] so_far none = subst (λ (lines : List DirectiveLine). announced kind lines ≤ limit) (sym (append-nil before)) so_far
 all-within kind limit before (line ∷ more) so_far none =
     let faults = limit_faults kind limit before line in
     let rest = each_after (limit_faults kind limit) (before ++ line ∷ []) more in
-    subst (λ (lines : List Kept). announced kind lines ≤ limit) (append_assoc before (line ∷ []) more)
+    subst (λ (lines : List DirectiveLine). announced kind lines ≤ limit) (append_assoc before (line ∷ []) more)
     (all-within kind limit (before ++ line ∷ []) more (here-within kind limit before line so_far (first-none faults rest none)) (second-none faults rest none))
 
 nothing-announced : (kind : FlagKind) (limit : ℕ) → announced kind [] ≤ limit
 unfolding announced
 nothing-announced kind limit = omega arith
 
-within-limit : (kind : FlagKind) (limit : ℕ) (rows : List Kept) → many_faults kind limit rows ≡ [] → announced kind rows ≤ limit
+within-limit : (kind : FlagKind) (limit : ℕ) (rows : List DirectiveLine) → many_faults kind limit rows ≡ [] → announced kind rows ≤ limit
 unfolding many_faults
 within-limit kind limit rows none = all-within kind limit [] rows (nothing-announced kind limit) none
 
-none-least : (faults : List Fault) → least_of faults ≡ None → faults ≡ []
-none-least faults none = subst (λ (o : Option Fault). LeastIs faults o) none (least_law faults)
+none-least : FindsLeast → (faults : List Fault) → least_of faults ≡ None → faults ≡ []
+none-least least faults none = subst (λ (o : Option Fault). LeastIs faults o) none (least faults)
 
-pub rules-few : (kind : FlagKind) (aliases : Option (List (List Flag))) (rows : List Kept) → least_of (class_faults kind aliases rows) ≡ None
+pub rules-few : FindsLeast → (kind : FlagKind) (aliases : Option (List (List Flag))) (rows : List DirectiveLine) → least_of (class_faults kind aliases rows) ≡ None
     → length (rules_said kind aliases rows) ≤ rule_limit
-rules-few kind aliases rows none =
-    let no_faults = none-least (class_faults kind aliases rows) none in
+rules-few least kind aliases rows none =
+    let no_faults = none-least least (class_faults kind aliases rows) none in
     let few = within-limit kind rule_limit rows (second-none (each_after (line_faults kind aliases rows) [] rows) (many_faults kind rule_limit rows) no_faults) in
     let said = rules-announced kind aliases rows in
     omega (arith, few, said)

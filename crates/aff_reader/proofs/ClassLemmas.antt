@@ -9,7 +9,7 @@ use Rattle.spell_types.specs.declared.flags.FlagKind.{FlagKind}
 use Rattle.spell_types.specs.declared.rules.Side.{Side}
 use Rattle.spell_types.specs.declared.rules.Side.TheVariants.{Prefix, Suffix}
 use Rattle.spell_types.specs.Derivations.{is_same_side}
-use Rattle.aff_lines.specs.declared.rows.Kept.{Kept}
+use Rattle.aff_lines.specs.declared.rows.DirectiveLine.{DirectiveLine}
 use Rattle.aff_reader.specs.declared.class_lines.Class.{Class}
 use Rattle.aff_reader.specs.declared.class_lines.Classes.{Classes}
 use Rattle.aff_reader.specs.declared.class_lines.Placed.{Placed}
@@ -54,19 +54,19 @@ same-self class = self-test (is_same_side class.side class.side) class.flag.0 (s
 
 -- the lines of a class, with one more
 
-pub lines-more : (kind : FlagKind) (class : Class) (before : List Kept) (line : Kept)
+pub lines-more : (kind : FlagKind) (class : Class) (before : List DirectiveLine) (line : DirectiveLine)
     → lines_in kind class (before ++ line ∷ []) ≡ lines_in kind class before ++ cond (is_that_class class (class_of kind line)) (line ∷ []) []
 unfolding lines_in
 lines-more kind class before line = filter-append (λ row. is_that_class class (class_of kind row)) before (line ∷ [])
 
-pub lines-other : (kind : FlagKind) (class : Class) (before : List Kept) (line : Kept) → is_that_class class (class_of kind line) ≡ false
+pub lines-other : (kind : FlagKind) (class : Class) (before : List DirectiveLine) (line : DirectiveLine) → is_that_class class (class_of kind line) ≡ false
     → lines_in kind class (before ++ line ∷ []) ≡ lines_in kind class before
 lines-other kind class before line other =
     lines-more kind class before line
     ∙ ap (λ b. lines_in kind class before ++ cond b (line ∷ []) []) other
     ∙ append-nil (lines_in kind class before)
 
-pub lines-own : (kind : FlagKind) (class : Class) (before : List Kept) (line : Kept) → is_that_class class (class_of kind line) ≡ true
+pub lines-own : (kind : FlagKind) (class : Class) (before : List DirectiveLine) (line : DirectiveLine) → is_that_class class (class_of kind line) ≡ true
     → lines_in kind class (before ++ line ∷ []) ≡ lines_in kind class before ++ line ∷ []
 lines-own kind class before line own =
     lines-more kind class before line
@@ -86,23 +86,23 @@ knows-nothing kind prefixes suffixes p s = record { each = λ class. none-on cla
 
 -- a line of no class
 
-pub knows-other : (kind : FlagKind) (before : List Kept) (line : Kept) (classes : Classes) → class_of kind line ≡ None
+pub knows-other : (kind : FlagKind) (before : List DirectiveLine) (line : DirectiveLine) (classes : Classes) → class_of kind line ≡ None
     → Knows kind before classes → Knows kind (before ++ line ∷ []) classes
 knows-other kind before line classes none known = record {
   each = λ class. known.each class
       ∙ ap standing_of (sym (lines-other kind class before line (ap (is_that_class class) none)));
 }
 
-pub placed-none : (kind : FlagKind) (before : List Kept) (line : Kept) → class_of kind line ≡ None → None ≡ placed_after kind before line
+pub placed-none : (kind : FlagKind) (before : List DirectiveLine) (line : DirectiveLine) → class_of kind line ≡ None → None ≡ placed_after kind before line
 unfolding placed_after
 placed-none kind before line none = sym (ap (option_map (placed_in kind before)) none)
 
 -- a line of a class
 
-pub knows-more : (kind : FlagKind) (before : List Kept) (line : Kept) (class : Class) (old new : Classes) (standing : Option Standing) (longer : Standing)
+pub knows-more : (kind : FlagKind) (before : List DirectiveLine) (line : DirectiveLine) (class : Class) (old new : Classes) (standing : Option Standing) (longer : Standing)
     → class_of kind line ≡ Some class
     → standing ≡ standing_in old class
-    → ((own : List Kept) → standing ≡ standing_of own → Some longer ≡ standing_of (own ++ line ∷ []))
+    → ((own : List DirectiveLine) → standing ≡ standing_of own → Some longer ≡ standing_of (own ++ line ∷ []))
     → ((other : Class) → standing_in new other ≡ cond (is_same_class other class) (Some longer) (standing_in old other))
     → Knows kind before old → Knows kind (before ++ line ∷ []) new
 knows-more kind before line class old new standing longer is found grown set known = record { each = λ other. at other (is_same_class other class) refl }
@@ -120,7 +120,7 @@ knows-more kind before line class old new standing longer is found grown set kno
         ∙ known.each other
         ∙ ap standing_of (sym (lines-other kind other before line (ap (is_that_class other) is ∙ apart)))
 
-pub placed-some : (kind : FlagKind) (before : List Kept) (line : Kept) (class : Class) (classes : Classes) (standing : Option Standing)
+pub placed-some : (kind : FlagKind) (before : List DirectiveLine) (line : DirectiveLine) (class : Class) (classes : Classes) (standing : Option Standing)
     → class_of kind line ≡ Some class → standing ≡ standing_in classes class → Knows kind before classes
     → Some (record { class = class; role = role_after standing }) ≡ placed_after kind before line
 unfolding placed_after

@@ -13,7 +13,7 @@ use Rattle.spell_types.specs.declared.rules.Side.{Side}
 use Rattle.aff_lines.specs.declared.faults.AffWhy.{AffWhy}
 use Rattle.aff_lines.specs.declared.faults.AffWhy.TheVariants.{MissingField, BadNumber, TableShort, BadCross}
 use Rattle.aff_lines.specs.declared.faults.Fault.{Fault}
-use Rattle.aff_lines.specs.declared.rows.Kept.{Kept}
+use Rattle.aff_lines.specs.declared.rows.DirectiveLine.{DirectiveLine}
 use Rattle.aff_lines.specs.Causes.{unless}
 use Rattle.aff_lines.specs.Grammar.{at, faults_at}
 use Rattle.aff_reader.specs.declared.class_lines.Class.{Class}
@@ -29,7 +29,7 @@ use Rattle.aff_reader.proofs.MemberLemmas.{said_by, role_in, none-left, one-left
 
 -- a line of a class without a fault has none by its place in the class
 
-in-class : (kind : FlagKind) (aliases : Option (List (List Flag))) (rows : List Kept) (class : Class) (before : List Kept) (line : Kept) (side : Option Side) (flag : Option Flag)
+in-class : (kind : FlagKind) (aliases : Option (List (List Flag))) (rows : List DirectiveLine) (class : Class) (before : List DirectiveLine) (line : DirectiveLine) (side : Option Side) (flag : Option Flag)
     → is_that_class class (option_and_then (class_from flag) side) ≡ true
     → side_faults kind aliases rows line (option_map (placed_in kind before) (option_and_then (class_from flag) side)) side ≡ []
     → role_faults kind aliases (standing_of (lines_in kind class rows)) line class (role_in kind class before) ≡ []
@@ -47,24 +47,24 @@ in-class kind aliases rows class before line (Some side) (Some flag) own none = 
         ∙ none
     by-field false missing = absurd (cc (sym (ap (λ b. cond b (at-place (class_with side flag)) (at MissingField line ∷ [])) missing) ∙ none))
 
-line-fine : (kind : FlagKind) (aliases : Option (List (List Flag))) (rows : List Kept) (class : Class) (before : List Kept) (line : Kept)
+line-fine : (kind : FlagKind) (aliases : Option (List (List Flag))) (rows : List DirectiveLine) (class : Class) (before : List DirectiveLine) (line : DirectiveLine)
     → is_that_class class (class_of kind line) ≡ true → line_faults kind aliases rows before line ≡ []
     → role_faults kind aliases (standing_of (lines_in kind class rows)) line class (role_in kind class before) ≡ []
 unfolding line_faults class_of placed_after
-line-fine kind aliases rows class before line own none = in-class kind aliases rows class before line (side_of line.name) (flag_at kind line) own none
+line-fine kind aliases rows class before line own none = in-class kind aliases rows class before line (side_of line.directive) (flag_at kind line) own none
 
 -- lines of a class none of which has a fault, behind these of it
 
-abbrev AreFine : FlagKind → Option (List (List Flag)) → Class → Option Standing → List Kept → List Kept → Type 0
+abbrev AreFine : FlagKind → Option (List (List Flag)) → Class → Option Standing → List DirectiveLine → List DirectiveLine → Type 0
 AreFine kind aliases class standing own [] = Unit {0}
 AreFine kind aliases class standing own (line ∷ more) =
     (role_faults kind aliases standing line class (role_after (standing_of own)) ≡ []) × AreFine kind aliases class standing (own ++ line ∷ []) more
 
-lines-fine : (kind : FlagKind) (aliases : Option (List (List Flag))) (rows : List Kept) (class : Class) (before lines : List Kept)
+lines-fine : (kind : FlagKind) (aliases : Option (List (List Flag))) (rows : List DirectiveLine) (class : Class) (before lines : List DirectiveLine)
     → each_after (line_faults kind aliases rows) before lines ≡ []
     → AreFine kind aliases class (standing_of (lines_in kind class rows)) (lines_in kind class before) (lines_in kind class lines)
 lines-fine kind aliases rows class before [] none =
-    subst (λ (own : List Kept). AreFine kind aliases class (standing_of (lines_in kind class rows)) (lines_in kind class before) own) (sym (lines-none kind class)) tt
+    subst (λ (own : List DirectiveLine). AreFine kind aliases class (standing_of (lines_in kind class rows)) (lines_in kind class before) own) (sym (lines-none kind class)) tt
 lines-fine kind aliases rows class before (line ∷ more) none =
     by-test
     (lines-fine kind aliases rows class (before ++ line ∷ []) more
@@ -80,25 +80,25 @@ lines-fine kind aliases rows class before (line ∷ more) none =
     by-test : AreFine kind aliases class standing (lines_in kind class (before ++ line ∷ [])) (lines_in kind class more)
         → (b : Bool) → is_that_class class (class_of kind line) ≡ b → AreFine kind aliases class standing (lines_in kind class before) (lines_in kind class (line ∷ more))
     by-test later true own =
-        subst (λ (lines : List Kept). AreFine kind aliases class standing (lines_in kind class before) lines) (sym (lines-first kind class line more own)) (
+        subst (λ (lines : List DirectiveLine). AreFine kind aliases class standing (lines_in kind class before) lines) (sym (lines-first kind class line more own)) (
           line-fine kind aliases rows class before line own here,
-          subst (λ (lines : List Kept). AreFine kind aliases class standing lines (lines_in kind class more)) (lines-own kind class before line own) later,
+          subst (λ (lines : List DirectiveLine). AreFine kind aliases class standing lines (lines_in kind class more)) (lines-own kind class before line own) later,
         )
     by-test later false apart =
-        subst (λ (lines : List Kept). AreFine kind aliases class standing (lines_in kind class before) lines) (sym (lines-later kind class line more apart))
-        (subst (λ (lines : List Kept). AreFine kind aliases class standing lines (lines_in kind class more)) (lines-other kind class before line apart) later)
+        subst (λ (lines : List DirectiveLine). AreFine kind aliases class standing (lines_in kind class before) lines) (sym (lines-later kind class line more apart))
+        (subst (λ (lines : List DirectiveLine). AreFine kind aliases class standing lines (lines_in kind class more)) (lines-other kind class before line apart) later)
 
 -- each of the rules that are wanted is said
 
-holds : (b : Bool) (why : AffWhy) (line : Kept) → faults_at (unless b why) line ≡ [] → b ≡ true
+holds : (b : Bool) (why : AffWhy) (line : DirectiveLine) → faults_at (unless b why) line ≡ [] → b ≡ true
 holds true why line none = refl
 holds false why line none = absurd cc
 
-one-said : (read : Result Rule AffWhy) (line : Kept) (rules : List Rule) → faults_at (result_err read) line ≡ [] → length (cons_option (result_ok read) rules) ≡ length rules + 1
+one-said : (read : Result Rule AffWhy) (line : DirectiveLine) (rules : List Rule) → faults_at (result_err read) line ≡ [] → length (cons_option (result_ok read) rules) ≡ length rules + 1
 one-said (Ok rule) line rules none = omega arith
 one-said (Err why) line rules none = absurd cc
 
-all-said : (kind : FlagKind) (aliases : Option (List (List Flag))) (class : Class) (standing : Option Standing) (header : Kept) (count : ℕ) (passed more : List Kept)
+all-said : (kind : FlagKind) (aliases : Option (List (List Flag))) (class : Class) (standing : Option Standing) (header : DirectiveLine) (count : ℕ) (passed more : List DirectiveLine)
     → count_of header ≡ Some count → AreFine kind aliases class standing (header ∷ passed) more → count - length passed ≤ length more
     → length (filter_map (said_by kind aliases class (is_crossed header)) (take (count - length passed) more)) ≡ count - length passed
 all-said kind aliases class standing header count passed [] is fine short =
@@ -106,7 +106,7 @@ all-said kind aliases class standing header count passed [] is fine short =
 all-said kind aliases class standing header count passed (line ∷ more) is fine short =
     by-test (all-said kind aliases class standing header count (passed ++ line ∷ []) more is fine.1) (count - length passed == 0) refl
   where
-    f : Kept → Option Rule
+    f : DirectiveLine → Option Rule
     f = said_by kind aliases class (is_crossed header)
 
     place : role_faults kind aliases standing line class (role_wanted (is_crossed header) (wanted_behind (length passed) (Some count))) ≡ []
@@ -136,7 +136,7 @@ all-said kind aliases class standing header count passed (line ∷ more) is fine
 enough : (count behind : ℕ) → wants_none (Some (count - behind)) ≡ true → count ≤ behind
 enough count behind h = grind (arith, nat_tests)
 
-all-of : (kind : FlagKind) (aliases : Option (List (List Flag))) (class : Class) (header : Kept) (behind : List Kept)
+all-of : (kind : FlagKind) (aliases : Option (List (List Flag))) (class : Class) (header : DirectiveLine) (behind : List DirectiveLine)
     → AreFine kind aliases class (standing_of (header ∷ behind)) [] (header ∷ behind)
     → count_of header ≡ Some (length (rules_in kind aliases class (header ∷ behind)))
 all-of kind aliases class header behind fine = by-count (count_of header) refl
@@ -155,7 +155,7 @@ all-of kind aliases class header behind fine = by-count (count_of header) refl
     by-count (Some count) is =
         let all = holds (has_rules (standing_of (header ∷ behind))) TableShort header (first-none short cross (second-none number (short ++ cross) fine.0)) in
         let within : count ≤ length behind = enough count (length behind) (sym (ap (λ n. wants_none (wanted_behind (length behind) n)) is) ∙ all) in
-        let none : length {A = Kept} [] ≡ 0 = refl in
+        let none : length {A = DirectiveLine} [] ≡ 0 = refl in
         let said : length (filter_map (said_by kind aliases class (is_crossed header)) (take (count - 0) behind)) ≡ count - 0 =
         all-said kind aliases class (standing_of (header ∷ behind)) header count [] behind is fine.1 (omega (arith, within)) in
         let left : count - 0 ≡ count = omega arith in
@@ -163,7 +163,7 @@ all-of kind aliases class header behind fine = by-count (count_of header) refl
         ∙ ap (λ n. Some n) (sym (subst (λ (n : ℕ). length (filter_map (said_by kind aliases class (is_crossed header)) (take n behind)) ≡ n) left said)
         ∙ ap (λ n. length (filter_map (said_by kind aliases class (is_crossed header)) (take (unwrap_or n 0) behind))) (sym is))
 
-pub class-counted : (kind : FlagKind) (aliases : Option (List (List Flag))) (class : Class) (rows : List Kept) (header : Kept) (behind : List Kept)
+pub class-counted : (kind : FlagKind) (aliases : Option (List (List Flag))) (class : Class) (rows : List DirectiveLine) (header : DirectiveLine) (behind : List DirectiveLine)
     → class_faults kind aliases rows ≡ [] → lines_in kind class rows ≡ header ∷ behind
     → count_of header ≡ Some (length (filter (is_rule_of class) (rules_said kind aliases rows)))
 class-counted kind aliases class rows header behind none is =
@@ -171,7 +171,7 @@ class-counted kind aliases class rows header behind none is =
     let fine : AreFine kind aliases class (standing_of (lines_in kind class rows)) (lines_in kind class []) (lines_in kind class rows) =
     lines-fine kind aliases rows class [] rows (first-none each (many_faults kind _ rows) none) in
     let own : AreFine kind aliases class (standing_of (header ∷ behind)) [] (header ∷ behind) =
-    subst (λ (lines : List Kept). AreFine kind aliases class (standing_of lines) [] lines) is
-    (subst (λ (before : List Kept). AreFine kind aliases class (standing_of (lines_in kind class rows)) before (lines_in kind class rows)) (lines-none kind class) fine) in
+    subst (λ (lines : List DirectiveLine). AreFine kind aliases class (standing_of lines) [] lines) is
+    (subst (λ (before : List DirectiveLine). AreFine kind aliases class (standing_of (lines_in kind class rows)) before (lines_in kind class rows)) (lines-none kind class) fine) in
     all-of kind aliases class header behind own
     ∙ ap (λ rules. Some (length rules)) (sym (class-rules kind aliases class rows ∙ ap (rules_in kind aliases class) is))

@@ -12,7 +12,7 @@ use Rattle.spell_types.specs.declared.flags.FlagKind.{FlagKind}
 use Rattle.spell_types.specs.declared.rules.Piece.{Piece}
 use Rattle.spell_types.specs.declared.rules.Rule.{Rule}
 use Rattle.aff_lines.specs.declared.faults.AffWhy.{AffWhy}
-use Rattle.aff_lines.specs.declared.rows.Kept.{Kept}
+use Rattle.aff_lines.specs.declared.rows.DirectiveLine.{DirectiveLine}
 use Rattle.aff_reader.specs.declared.class_lines.Class.{Class}
 use Rattle.aff_reader.specs.declared.class_lines.Role.{Role}
 use Rattle.aff_reader.specs.declared.class_lines.Role.TheVariants.{Header, Member, Past, Unplaced}
@@ -57,14 +57,14 @@ other-rule : (kind : FlagKind) (aliases : Option (List (List Flag))) (of class :
 unfolding rule_from
 other-rule kind aliases of class crossed strip affix condition apart = other-with of class crossed _ _ _ _ apart
 
-own-role : (kind : FlagKind) (aliases : Option (List (List Flag))) (of class : Class) (line : Kept) (role : Role) → is_same_class of class ≡ true
+own-role : (kind : FlagKind) (aliases : Option (List (List Flag))) (of class : Class) (line : DirectiveLine) (role : Role) → is_same_class of class ≡ true
     → filter (is_rule_of of) (role_rules kind aliases line class role) ≡ role_rules kind aliases line class role
 own-role kind aliases of class line Header same = refl
 own-role kind aliases of class line (Member crossed) same = own-rule kind aliases of class crossed _ _ _ same
 own-role kind aliases of class line Past same = refl
 own-role kind aliases of class line Unplaced same = refl
 
-other-role : (kind : FlagKind) (aliases : Option (List (List Flag))) (of class : Class) (line : Kept) (role : Role) → is_same_class of class ≡ false
+other-role : (kind : FlagKind) (aliases : Option (List (List Flag))) (of class : Class) (line : DirectiveLine) (role : Role) → is_same_class of class ≡ false
     → filter (is_rule_of of) (role_rules kind aliases line class role) ≡ []
 other-role kind aliases of class line Header apart = refl
 other-role kind aliases of class line (Member crossed) apart = other-rule kind aliases of class crossed _ _ _ apart
@@ -73,10 +73,10 @@ other-role kind aliases of class line Unplaced apart = refl
 
 -- the rule of a line, behind these
 
-abbrev pub role_in : FlagKind → Class → List Kept → Role
+abbrev pub role_in : FlagKind → Class → List DirectiveLine → Role
 role_in kind class before = role_after (standing_of (lines_in kind class before))
 
-own-found : (kind : FlagKind) (aliases : Option (List (List Flag))) (class : Class) (before : List Kept) (line : Kept) (found : Option Class)
+own-found : (kind : FlagKind) (aliases : Option (List (List Flag))) (class : Class) (before : List DirectiveLine) (line : DirectiveLine) (found : Option Class)
     → is_that_class class found ≡ true
     → filter (is_rule_of class) (placed_rules kind aliases line (option_map (placed_in kind before) found))
     ≡ role_rules kind aliases line class (role_in kind class before)
@@ -85,19 +85,19 @@ own-found kind aliases class before line (Some other) own =
     own-role kind aliases class other line (role_in kind other before) own
     ∙ ap (λ c. role_rules kind aliases line c (role_in kind c before)) (sym (same-class class other own))
 
-other-found : (kind : FlagKind) (aliases : Option (List (List Flag))) (class : Class) (before : List Kept) (line : Kept) (found : Option Class)
+other-found : (kind : FlagKind) (aliases : Option (List (List Flag))) (class : Class) (before : List DirectiveLine) (line : DirectiveLine) (found : Option Class)
     → is_that_class class found ≡ false
     → filter (is_rule_of class) (placed_rules kind aliases line (option_map (placed_in kind before) found)) ≡ []
 other-found kind aliases class before line None apart = refl
 other-found kind aliases class before line (Some other) apart = other-role kind aliases class other line (role_in kind other before) apart
 
-own-line : (kind : FlagKind) (aliases : Option (List (List Flag))) (class : Class) (before : List Kept) (line : Kept)
+own-line : (kind : FlagKind) (aliases : Option (List (List Flag))) (class : Class) (before : List DirectiveLine) (line : DirectiveLine)
     → is_that_class class (class_of kind line) ≡ true
     → filter (is_rule_of class) (rules_each kind aliases before line) ≡ role_rules kind aliases line class (role_in kind class before)
 unfolding placed_after
 own-line kind aliases class before line own = own-found kind aliases class before line (class_of kind line) own
 
-other-line : (kind : FlagKind) (aliases : Option (List (List Flag))) (class : Class) (before : List Kept) (line : Kept)
+other-line : (kind : FlagKind) (aliases : Option (List (List Flag))) (class : Class) (before : List DirectiveLine) (line : DirectiveLine)
     → is_that_class class (class_of kind line) ≡ false
     → filter (is_rule_of class) (rules_each kind aliases before line) ≡ []
 unfolding placed_after
@@ -105,17 +105,17 @@ other-line kind aliases class before line apart = other-found kind aliases class
 
 -- the rules of lines of a class, behind these of it
 
-abbrev rules_behind : FlagKind → Option (List (List Flag)) → Class → List Kept → List Kept → List Rule
+abbrev rules_behind : FlagKind → Option (List (List Flag)) → Class → List DirectiveLine → List DirectiveLine → List Rule
 rules_behind kind aliases class own [] = []
 rules_behind kind aliases class own (line ∷ more) =
     role_rules kind aliases line class (role_after (standing_of own)) ++ rules_behind kind aliases class (own ++ line ∷ []) more
 
-pub lines-first : (kind : FlagKind) (class : Class) (line : Kept) (more : List Kept) → is_that_class class (class_of kind line) ≡ true
+pub lines-first : (kind : FlagKind) (class : Class) (line : DirectiveLine) (more : List DirectiveLine) → is_that_class class (class_of kind line) ≡ true
     → lines_in kind class (line ∷ more) ≡ line ∷ lines_in kind class more
 unfolding lines_in
 lines-first kind class line more own = ap (λ b. cond b (line ∷ lines_in kind class more) (lines_in kind class more)) own
 
-pub lines-later : (kind : FlagKind) (class : Class) (line : Kept) (more : List Kept) → is_that_class class (class_of kind line) ≡ false
+pub lines-later : (kind : FlagKind) (class : Class) (line : DirectiveLine) (more : List DirectiveLine) → is_that_class class (class_of kind line) ≡ false
     → lines_in kind class (line ∷ more) ≡ lines_in kind class more
 unfolding lines_in
 lines-later kind class line more apart = ap (λ b. cond b (line ∷ lines_in kind class more) (lines_in kind class more)) apart
@@ -124,7 +124,7 @@ pub lines-none : (kind : FlagKind) (class : Class) → lines_in kind class [] �
 unfolding lines_in
 lines-none kind class = refl
 
-members : (kind : FlagKind) (aliases : Option (List (List Flag))) (class : Class) (before rows : List Kept)
+members : (kind : FlagKind) (aliases : Option (List (List Flag))) (class : Class) (before rows : List DirectiveLine)
     → filter (is_rule_of class) (each_after (rules_each kind aliases) before rows)
     ≡ rules_behind kind aliases class (lines_in kind class before) (lines_in kind class rows)
 members kind aliases class before [] = sym (ap (rules_behind kind aliases class (lines_in kind class before)) (lines-none kind class))
@@ -148,7 +148,7 @@ members kind aliases class before (line ∷ more) =
 
 -- so many of the lines behind the header as it announces are its rules
 
-abbrev pub said_by : FlagKind → Option (List (List Flag)) → Class → Bool → Kept → Option Rule
+abbrev pub said_by : FlagKind → Option (List (List Flag)) → Class → Bool → DirectiveLine → Option Rule
 said_by kind aliases class crossed line = result_ok (rule_of kind aliases class crossed line)
 
 one-more : {A : Type 0} (found : Option A) (xs : List A) → option_to_list found ++ xs ≡ cons_option found xs
@@ -167,7 +167,7 @@ one-left count behind h = grind (arith, nat_tests)
 nothing-left : (behind : ℕ) → 0 - behind ≡ 0
 nothing-left behind = omega arith
 
-counted : (kind : FlagKind) (aliases : Option (List (List Flag))) (class : Class) (crossed : Bool) (count : Option ℕ) (behind : ℕ) (line : Kept) (more : List Kept)
+counted : (kind : FlagKind) (aliases : Option (List (List Flag))) (class : Class) (crossed : Bool) (count : Option ℕ) (behind : ℕ) (line : DirectiveLine) (more : List DirectiveLine)
     → role_rules kind aliases line class (role_wanted crossed (wanted_behind behind count))
     ++ filter_map (said_by kind aliases class crossed) (take (unwrap_or count 0 - (behind + 1)) more)
     ≡ filter_map (said_by kind aliases class crossed) (take (unwrap_or count 0 - behind) (line ∷ more))
@@ -187,7 +187,7 @@ counted kind aliases class crossed (Some count) behind line more = by-test (coun
         one-more (said_by kind aliases class crossed line) (filter_map (said_by kind aliases class crossed) (take (count - (behind + 1)) more))
         ∙ sym (ap (λ n. filter_map (said_by kind aliases class crossed) (take n (line ∷ more))) (one-left count behind h))
 
-behind-header : (kind : FlagKind) (aliases : Option (List (List Flag))) (class : Class) (header : Kept) (passed more : List Kept)
+behind-header : (kind : FlagKind) (aliases : Option (List (List Flag))) (class : Class) (header : DirectiveLine) (passed more : List DirectiveLine)
     → rules_behind kind aliases class (header ∷ passed) more
     ≡ filter_map (said_by kind aliases class (is_crossed header)) (take (unwrap_or (count_of header) 0 - length passed) more)
 behind-header kind aliases class header passed [] = sym (nothing (unwrap_or (count_of header) 0 - length passed))
@@ -204,14 +204,14 @@ behind-header kind aliases class header passed (line ∷ more) =
 all-left : (count : ℕ) → count - 0 ≡ count
 all-left count = omega arith
 
-from-header : (kind : FlagKind) (aliases : Option (List (List Flag))) (class : Class) (lines : List Kept)
+from-header : (kind : FlagKind) (aliases : Option (List (List Flag))) (class : Class) (lines : List DirectiveLine)
     → rules_behind kind aliases class [] lines ≡ rules_in kind aliases class lines
 from-header kind aliases class [] = refl
 from-header kind aliases class (header ∷ behind) =
     behind-header kind aliases class header [] behind
     ∙ ap (λ n. filter_map (said_by kind aliases class (is_crossed header)) (take n behind)) (all-left (unwrap_or (count_of header) 0))
 
-pub class-rules : (kind : FlagKind) (aliases : Option (List (List Flag))) (class : Class) (rows : List Kept)
+pub class-rules : (kind : FlagKind) (aliases : Option (List (List Flag))) (class : Class) (rows : List DirectiveLine)
     → filter (is_rule_of class) (rules_said kind aliases rows) ≡ rules_in kind aliases class (lines_in kind class rows)
 unfolding rules_said
 class-rules kind aliases class rows =

@@ -8,10 +8,11 @@ use Rattle.spell_types.specs.declared.flags.FlagKind.{FlagKind}
 use Rattle.aff_lines.specs.declared.faults.AffFault.{AffFault}
 use Rattle.aff_lines.specs.declared.faults.AffFault.TheVariants.{At, NoMemory}
 use Rattle.aff_lines.specs.declared.faults.Fault.{Fault}
-use Rattle.aff_lines.specs.declared.rows.Kept.{Kept}
+use Rattle.aff_lines.specs.declared.rows.DirectiveLine.{DirectiveLine}
 use Rattle.aff_lines.specs.Faults.{least_of, first_fault, is_before, sooner, IsFault, IsLeast}
 use Rattle.aff_lines.specs.Passes.{early_passes, IsFirst}
-use Rattle.aff_reader.specs.Grammar.{kind_of, aliases_of, kept_of, late_faults, aff_passes, aff_said, unless_fault, aff_read, AffReads, AffRefuses, IsRead}
+use Rattle.aff_lines.specs.Rows.{rows_of}
+use Rattle.aff_reader.specs.Grammar.{kind_of, aliases_of, late_faults, aff_passes, aff_said, unless_fault, aff_read, AffReads, AffRefuses, IsRead}
 
 or-none : (found : Option Fault) → option_or found None ≡ found
 or-none None = refl
@@ -28,15 +29,15 @@ first_behind (faults ∷ passes) late =
     ap (option_or (least_of faults)) (first_behind passes late) ∙ or-assoc (least_of faults) (first_fault passes) (least_of late)
 
 -- a file whose first fault is one of the fourth pass
-pub read_late : (bytes : List ℕ) (kind : FlagKind) (aliases : Option (List (List Flag))) (rows : List Kept) (fault : Fault)
-    → kind ≡ kind_of bytes → aliases ≡ aliases_of bytes → rows ≡ kept_of bytes
+pub read_late : (bytes : List ℕ) (kind : FlagKind) (aliases : Option (List (List Flag))) (rows : List DirectiveLine) (fault : Fault)
+    → kind ≡ kind_of bytes → aliases ≡ aliases_of bytes → rows ≡ rows_of bytes
     → first_fault (early_passes bytes) ≡ None → least_of (late_faults kind aliases rows) ≡ Some fault → aff_read bytes ≡ Err fault
 unfolding aff_read
 read_late bytes kind aliases rows fault same_kind same_aliases same_rows fine late =
-    let whole = late_faults (kind_of bytes) (aliases_of bytes) (kept_of bytes) in
+    let whole = late_faults (kind_of bytes) (aliases_of bytes) (rows_of bytes) in
     let own : whole ≡ late_faults kind aliases rows =
-    ap (λ k. late_faults k (aliases_of bytes) (kept_of bytes)) (sym same_kind)
-    ∙ ap (λ a. late_faults kind a (kept_of bytes)) (sym same_aliases)
+    ap (λ k. late_faults k (aliases_of bytes) (rows_of bytes)) (sym same_kind)
+    ∙ ap (λ a. late_faults kind a (rows_of bytes)) (sym same_aliases)
     ∙ ap (late_faults kind aliases) (sym same_rows) in
     ap (λ found. unless_fault found (aff_said bytes))
     (first_behind (early_passes bytes) whole ∙ ap (λ found. option_or found (least_of whole)) fine ∙ ap least_of own ∙ late)
@@ -46,7 +47,7 @@ pub read_early : (bytes : List ℕ) (fault : AffFault) → IsFirst (early_passes
 unfolding aff_read
 read_early bytes NoMemory first = tt
 read_early bytes (At line why) first =
-    let whole = late_faults (kind_of bytes) (aliases_of bytes) (kept_of bytes) in
+    let whole = late_faults (kind_of bytes) (aliases_of bytes) (rows_of bytes) in
     ap (λ found. unless_fault found (aff_said bytes))
     (first_behind (early_passes bytes) whole ∙ ap (λ found. option_or found (least_of whole)) first)
 

@@ -9,7 +9,7 @@ use Rattle.std.proofs.lemmas.List.Elements.{filter_passes}
 use Rattle.std.proofs.lemmas.Option.{slice_get_within, get_or_from_slice_get}
 use Rattle.std.proofs.lemmas.Str.{encodes-chars}
 use Rattle.text_lines.specs.Fields.{fields, has_bytes, is_blank}
-use Rattle.aff_lines.specs.declared.rows.Kept.{Kept}
+use Rattle.aff_lines.specs.declared.rows.DirectiveLine.{DirectiveLine}
 
 bytes-some : (piece : List ℕ) → has_bytes piece ≡ true → 0 < length piece
 bytes-some piece h = grind (arith, nat_tests)
@@ -40,7 +40,7 @@ listed-first None more = refl
 listed-first (Some own) more = refl
 
 -- a turn of a loop over the rows of a table
-pub table-turn : {A : Type 0} (said : Kept → Option A) (made pushed total : List A) (left : ℕ) (own more : List Kept) (row : Kept)
+pub table-turn : {A : Type 0} (said : DirectiveLine → Option A) (made pushed total : List A) (left : ℕ) (own more : List DirectiveLine) (row : DirectiveLine)
     → 0 < left → pushed ≡ made ++ option_to_list (said row) → own ≡ row ∷ more
     → made ++ filter_map said (take left own) ≡ total
     → pushed ++ filter_map said (take (left - 1) more) ≡ total

@@ -8,13 +8,11 @@ use Rattle.text_lines.specs.Fields.{fields}
 use Rattle.spell_types.specs.declared.flags.FlagKind.{FlagKind}
 use Rattle.spell_types.specs.declared.flags.Flag.{Flag}
 use Rattle.spell_types.specs.declared.rules.Side.{Side}
-use Rattle.spell_types.specs.declared.rules.Side.TheVariants.{Prefix, Suffix}
 use Rattle.spell_types.specs.Derivations.{is_same_side}
 use Rattle.flag_sets.specs.FlagTexts.{one_flag}
-use Rattle.aff_lines.specs.declared.names.Directive.TheVariants.{Prefix as PrefixName, Suffix as SuffixName}
-use Rattle.aff_lines.specs.declared.rows.Kept.{Kept}
+use Rattle.aff_lines.specs.declared.names.Directive.{Directive}
+use Rattle.aff_lines.specs.declared.rows.DirectiveLine.{DirectiveLine}
 use Rattle.aff_lines.specs.Causes.{number_in}
-use Rattle.aff_lines.specs.Names.{is_named}
 use Rattle.aff_reader.specs.declared.class_lines.Class.{Class}
 use Rattle.aff_reader.specs.declared.class_lines.Classes.{Classes}
 use Rattle.aff_reader.specs.declared.class_lines.Standing.{Standing}
@@ -23,15 +21,17 @@ use Rattle.aff_reader.specs.declared.class_lines.Role.TheVariants.{Header, Membe
 use Rattle.aff_reader.specs.declared.class_lines.Placed.{Placed}
 
 -- a field of a line; its name is field 0
-abbrev pub field_of : Kept → ℕ → Option (List ℕ)
+abbrev pub field_of : DirectiveLine → ℕ → Option (List ℕ)
 field_of line k = slice_get (fields line.text) k
 
--- the side of the classes that a name is for
-abbrev pub side_of : List ℕ → Option Side
-side_of name = if is_named PrefixName name then Some Prefix else (if is_named SuffixName name then Some Suffix else None)
+-- the side of the classes that a directive is for
+abbrev pub side_of : Directive → Option Side
+side_of Directive.Prefix = Some Side.Prefix
+side_of Directive.Suffix = Some Side.Suffix
+side_of _ = None
 
 -- the flag of a class line, if its field 1 is one flag
-abbrev pub flag_at : FlagKind → Kept → Option Flag
+abbrev pub flag_at : FlagKind → DirectiveLine → Option Flag
 flag_at kind line = option_and_then (one_flag kind) (field_of line 1)
 
 abbrev pub class_with : Side → Flag → Class
@@ -40,9 +40,9 @@ class_with side flag = record { side = side; flag = flag }
 abbrev pub class_from : Option Flag → Side → Option Class
 class_from flag side = option_map (class_with side) flag
 
--- the class that a line belongs to: it begins with PFX or SFX, and its field 1 is one flag
-unfoldable pub class_of : FlagKind → Kept → Option Class
-class_of kind line = option_and_then (class_from (flag_at kind line)) (side_of line.name)
+-- the class that a line belongs to: it is one of PFX or SFX, and its field 1 is one flag
+unfoldable pub class_of : FlagKind → DirectiveLine → Option Class
+class_of kind line = option_and_then (class_from (flag_at kind line)) (side_of line.directive)
 
 -- whether the classes are the same: a prefix class and a suffix class may have one flag
 abbrev pub is_same_class : Class → Class → Bool
@@ -53,7 +53,7 @@ is_that_class class None = false
 is_that_class class (Some other) = is_same_class class other
 
 -- the lines of a class
-unfoldable pub lines_in : FlagKind → Class → List Kept → List Kept
+unfoldable pub lines_in : FlagKind → Class → List DirectiveLine → List DirectiveLine
 lines_in kind class rows = filter (λ row. is_that_class class (class_of kind row)) rows
 
 -- whether a field is there and is this word
@@ -62,11 +62,11 @@ is_text word None = false
 is_text word (Some text) = bytes_eq word text
 
 -- whether a header lets the rules of its class be crossed
-abbrev pub is_crossed : Kept → Bool
+abbrev pub is_crossed : DirectiveLine → Bool
 is_crossed header = is_text (codes "Y") (field_of header 2)
 
 -- how many rules a header announces
-unfoldable pub count_of : Kept → Option ℕ
+unfoldable pub count_of : DirectiveLine → Option ℕ
 count_of header = option_and_then number_in (field_of header 3)
 
 -- how many of the rules that a header announces are wanted still, where so many lines stand behind it
@@ -74,7 +74,7 @@ abbrev pub wanted_behind : ℕ → Option ℕ → Option ℕ
 wanted_behind behind count = option_map (λ n. n - behind) count
 
 -- what the first lines of a class come to: there is none, or the first is its header
-abbrev pub standing_of : List Kept → Option Standing
+abbrev pub standing_of : List DirectiveLine → Option Standing
 standing_of [] = None
 standing_of (header ∷ behind) = Some (record { crossed = is_crossed header; wanted = wanted_behind (length behind) (count_of header) })
 
@@ -88,26 +88,26 @@ abbrev pub role_after : Option Standing → Role
 role_after None = Header
 role_after (Some standing) = role_wanted standing.crossed standing.wanted
 
-abbrev pub placed_in : FlagKind → List Kept → Class → Placed
+abbrev pub placed_in : FlagKind → List DirectiveLine → Class → Placed
 placed_in kind before class = record { class = class; role = role_after (standing_of (lines_in kind class before)) }
 
 -- the class of a line, and what the line is in it; these are the lines before it
-unfoldable pub placed_after : FlagKind → List Kept → Kept → Option Placed
+unfoldable pub placed_after : FlagKind → List DirectiveLine → DirectiveLine → Option Placed
 placed_after kind before line = option_map (placed_in kind before) (class_of kind line)
 
 -- what is made of some lines, each seen with all lines before it; before the first of them stand these
-abbrev pub each_after : {A : Type 0} → (List Kept → Kept → List A) → List Kept → List Kept → List A
+abbrev pub each_after : {A : Type 0} → (List DirectiveLine → DirectiveLine → List A) → List DirectiveLine → List DirectiveLine → List A
 each_after f before [] = []
 each_after f before (line ∷ more) = f before line ++ each_after f (before ++ line ∷ []) more
 
 -- what is kept of a class, by its flag, for each side
 abbrev pub standing_on : Side → BTreeMap ℕ Standing → BTreeMap ℕ Standing → ℕ → Option Standing
-standing_on Prefix prefixes suffixes flag = get nat_cmp prefixes flag
-standing_on Suffix prefixes suffixes flag = get nat_cmp suffixes flag
+standing_on Side.Prefix prefixes suffixes flag = get nat_cmp prefixes flag
+standing_on Side.Suffix prefixes suffixes flag = get nat_cmp suffixes flag
 
 abbrev pub standing_in : Classes → Class → Option Standing
 standing_in classes class = standing_on class.side classes.prefixes classes.suffixes class.flag.0
 
 -- what is kept of each class is what its lines among these come to
-pub record Knows (kind : FlagKind) (rows : List Kept) (classes : Classes) : Type 0 where
+pub record Knows (kind : FlagKind) (rows : List DirectiveLine) (classes : Classes) : Type 0 where
   pub each : (class : Class) → standing_in classes class ≡ standing_of (lines_in kind class rows)

@@ -14,7 +14,7 @@ use Rattle.flag_sets.specs.Slashes.{before_slash, behind_slash}
 use Rattle.affix_classes.specs.ConditionTexts.{condition_of}
 use Rattle.aff_lines.specs.declared.faults.AffWhy.{AffWhy}
 use Rattle.aff_lines.specs.declared.faults.AffWhy.TheVariants.{BadFlag, BadAlias, BadCondition}
-use Rattle.aff_lines.specs.declared.rows.Kept.{Kept}
+use Rattle.aff_lines.specs.declared.rows.DirectiveLine.{DirectiveLine}
 use Rattle.aff_reader.specs.declared.class_lines.Class.{Class}
 use Rattle.aff_reader.specs.ClassLines.{field_of}
 
@@ -59,7 +59,7 @@ rule_from kind aliases class crossed strip affix condition =
     rule_with class crossed (strip_of strip) (add_of affix) (carried_of kind aliases (behind_slash affix)) (asked_of condition)
 
 -- the rule that a line of a class says, or what is wrong with it
-abbrev pub rule_of : FlagKind → Option (List (List Flag)) → Class → Bool → Kept → Result Rule AffWhy
+abbrev pub rule_of : FlagKind → Option (List (List Flag)) → Class → Bool → DirectiveLine → Result Rule AffWhy
 rule_of kind aliases class crossed line =
     rule_from kind aliases class crossed (unwrap_or (field_of line 2) []) (unwrap_or (field_of line 3) []) (field_of line 4)
 

@@ -9,7 +9,7 @@ use Rattle.spell_types.specs.declared.rules.Rule.{Rule}
 use Rattle.spell_types.specs.declared.rules.Side.{Side}
 use Rattle.aff_lines.specs.declared.faults.AffWhy.TheVariants.{MissingField, BadNumber, TooMany, TableShort, BadCross, BadFlag}
 use Rattle.aff_lines.specs.declared.faults.Fault.{Fault}
-use Rattle.aff_lines.specs.declared.rows.Kept.{Kept}
+use Rattle.aff_lines.specs.declared.rows.DirectiveLine.{DirectiveLine}
 use Rattle.aff_lines.specs.Causes.{unless}
 use Rattle.aff_lines.specs.Grammar.{at, faults_at, past_faults}
 use Rattle.aff_reader.specs.declared.class_lines.Class.{Class}
@@ -21,7 +21,7 @@ use Rattle.aff_reader.specs.ClassLines.{field_of, side_of, is_text, is_crossed, 
 use Rattle.aff_reader.specs.ClassRules.{rule_of}
 
 -- whether a header says that its class may be crossed, or that it may not
-abbrev pub says_cross : Kept → Bool
+abbrev pub says_cross : DirectiveLine → Bool
 says_cross header = is_crossed header || is_text (codes "N") (field_of header 2)
 
 abbrev pub wants_none : Option ℕ → Bool
@@ -33,37 +33,37 @@ has_rules None = true
 has_rules (Some standing) = wants_none standing.wanted
 
 -- the faults of a header where all lines of its class come to this
-abbrev pub header_faults : Option Standing → Kept → List Fault
+abbrev pub header_faults : Option Standing → DirectiveLine → List Fault
 header_faults standing header =
     faults_at (unless (is_some (count_of header)) BadNumber) header
     ++ (faults_at (unless (has_rules standing) TableShort) header
     ++ faults_at (unless (says_cross header) BadCross) header)
 
-abbrev pub member_faults : FlagKind → Option (List (List Flag)) → Class → Bool → Kept → List Fault
+abbrev pub member_faults : FlagKind → Option (List (List Flag)) → Class → Bool → DirectiveLine → List Fault
 member_faults kind aliases class crossed line = faults_at (result_err (rule_of kind aliases class crossed line)) line
 
 -- The faults of a line of a class all lines of which come to this. Behind a header without a number nothing is looked at.
-abbrev pub role_faults : FlagKind → Option (List (List Flag)) → Option Standing → Kept → Class → Role → List Fault
+abbrev pub role_faults : FlagKind → Option (List (List Flag)) → Option Standing → DirectiveLine → Class → Role → List Fault
 role_faults kind aliases standing line class Header = header_faults standing line
 role_faults kind aliases standing line class (Member crossed) = member_faults kind aliases class crossed line
 role_faults kind aliases standing line class Past = past_faults line
 role_faults kind aliases standing line class Unplaced = []
 
 -- a line whose field 1 is no flag is of no class
-abbrev pub placed_faults : FlagKind → Option (List (List Flag)) → List Kept → Kept → Option Placed → List Fault
+abbrev pub placed_faults : FlagKind → Option (List (List Flag)) → List DirectiveLine → DirectiveLine → Option Placed → List Fault
 placed_faults kind aliases rows line None = at BadFlag line ∷ []
 placed_faults kind aliases rows line (Some placed) =
     role_faults kind aliases (standing_of (lines_in kind placed.class rows)) line placed.class placed.role
 
 -- a line that begins with PFX or SFX needs three fields more
-abbrev pub side_faults : FlagKind → Option (List (List Flag)) → List Kept → Kept → Option Placed → Option Side → List Fault
+abbrev pub side_faults : FlagKind → Option (List (List Flag)) → List DirectiveLine → DirectiveLine → Option Placed → Option Side → List Fault
 side_faults kind aliases rows line placed None = []
 side_faults kind aliases rows line placed (Some side) =
     if is_some (field_of line 3) then placed_faults kind aliases rows line placed else at MissingField line ∷ []
 
 -- the faults of a line among these rows that stands behind some of them
-unfoldable pub line_faults : FlagKind → Option (List (List Flag)) → List Kept → List Kept → Kept → List Fault
-line_faults kind aliases rows before line = side_faults kind aliases rows line (placed_after kind before line) (side_of line.name)
+unfoldable pub line_faults : FlagKind → Option (List (List Flag)) → List DirectiveLine → List DirectiveLine → DirectiveLine → List Fault
+line_faults kind aliases rows before line = side_faults kind aliases rows line (placed_after kind before line) (side_of line.directive)
 
 abbrev pub is_header : Role → Bool
 is_header Header = true
@@ -75,22 +75,22 @@ heads None = false
 heads (Some placed) = is_header placed.role
 
 -- how many rules a line announces: none, if it is no header or its number is none
-abbrev pub announced_by : Kept → Option Placed → ℕ
+abbrev pub announced_by : DirectiveLine → Option Placed → ℕ
 announced_by line placed = if heads placed then unwrap_or (count_of line) 0 else 0
 
 -- how many rules the headers among these lines announce, those of prefix and of suffix classes together
-unfoldable pub announced : FlagKind → List Kept → ℕ
+unfoldable pub announced : FlagKind → List DirectiveLine → ℕ
 announced kind rows = sum (each_after (λ before line. announced_by line (placed_after kind before line) ∷ []) [] rows)
 
-abbrev pub total_faults : ℕ → ℕ → Kept → Option Placed → List Fault
+abbrev pub total_faults : ℕ → ℕ → DirectiveLine → Option Placed → List Fault
 total_faults limit total line placed = if heads placed then faults_at (unless (nat_le total limit) TooMany) line else []
 
 -- the fault of a header where those up to it announce more rules than the limit
-unfoldable pub limit_faults : FlagKind → ℕ → List Kept → Kept → List Fault
+unfoldable pub limit_faults : FlagKind → ℕ → List DirectiveLine → DirectiveLine → List Fault
 limit_faults kind limit before line = total_faults limit (announced kind (before ++ line ∷ [])) line (placed_after kind before line)
 
 -- the faults of headers where so many rules may be announced
-unfoldable pub many_faults : FlagKind → ℕ → List Kept → List Fault
+unfoldable pub many_faults : FlagKind → ℕ → List DirectiveLine → List Fault
 many_faults kind limit rows = each_after (limit_faults kind limit) [] rows
 
 -- how many rules the headers of a file may announce
@@ -98,17 +98,17 @@ abbrev pub rule_limit : ℕ
 rule_limit = 200000
 
 -- the faults of the lines of affix classes
-abbrev pub class_faults : FlagKind → Option (List (List Flag)) → List Kept → List Fault
+abbrev pub class_faults : FlagKind → Option (List (List Flag)) → List DirectiveLine → List Fault
 class_faults kind aliases rows = each_after (line_faults kind aliases rows) [] rows ++ many_faults kind rule_limit rows
 
-abbrev pub role_rules : FlagKind → Option (List (List Flag)) → Kept → Class → Role → List Rule
+abbrev pub role_rules : FlagKind → Option (List (List Flag)) → DirectiveLine → Class → Role → List Rule
 role_rules kind aliases line class (Member crossed) = option_to_list (result_ok (rule_of kind aliases class crossed line))
 role_rules kind aliases line class _ = []
 
-abbrev pub placed_rules : FlagKind → Option (List (List Flag)) → Kept → Option Placed → List Rule
+abbrev pub placed_rules : FlagKind → Option (List (List Flag)) → DirectiveLine → Option Placed → List Rule
 placed_rules kind aliases line None = []
 placed_rules kind aliases line (Some placed) = role_rules kind aliases line placed.class placed.role
 
 -- the rules that lines without faults say, in the order of the file, those of all classes together
-unfoldable pub rules_said : FlagKind → Option (List (List Flag)) → List Kept → List Rule
+unfoldable pub rules_said : FlagKind → Option (List (List Flag)) → List DirectiveLine → List Rule
 rules_said kind aliases rows = each_after (λ before line. placed_rules kind aliases line (placed_after kind before line)) [] rows

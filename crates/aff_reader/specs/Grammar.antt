@@ -9,62 +9,60 @@ use Rattle.spell_types.specs.declared.signs.Signs.{Signs}
 use Rattle.aff_lines.specs.declared.faults.AffFault.{AffFault}
 use Rattle.aff_lines.specs.declared.faults.AffFault.TheVariants.{At, NoMemory}
 use Rattle.aff_lines.specs.declared.faults.Fault.{Fault}
-use Rattle.aff_lines.specs.declared.names.Directive.TheVariants.{FlagType, FlagAliases, WordCharacters, Ignore, NeedAffix, Circumfix, ForbiddenWord, KeepCase, Warn, OnlyInCompound, FullStrip, ForbidWarn, InputConversion, Break}
-use Rattle.aff_lines.specs.declared.names.Pass.TheVariants.{Fourth}
-use Rattle.aff_lines.specs.declared.rows.Kept.{Kept}
+use Rattle.aff_lines.specs.declared.names.Directive.TheVariants as Directive
+use Rattle.aff_lines.specs.declared.names.Pass.TheVariants as Pass
+use Rattle.aff_lines.specs.declared.rows.DirectiveLine.{DirectiveLine}
 use Rattle.aff_lines.specs.Faults.{first_fault, IsFault, Refuses}
-use Rattle.aff_lines.specs.Names.{directives_in}
 use Rattle.aff_lines.specs.Passes.{early_passes, pass_faults, kind_said, aliases_said, flag_said, is_said, value_said}
-use Rattle.aff_lines.specs.Rows.{rows_of, rows_with, lines_of}
+use Rattle.aff_lines.specs.Rows.{rows_of, lines_of}
 use Rattle.aff_reader.specs.ClassRules.{rule_without}
 use Rattle.aff_reader.specs.Classes.{class_faults, rules_said}
 use Rattle.aff_reader.specs.Tables.{conversions_said, breaks_said}
 
 -- the type of flags of a file
 abbrev pub kind_of : List ℕ → FlagKind
-kind_of bytes = kind_said (lines_of FlagType (rows_of bytes))
-
--- the rows of the fourth pass
-abbrev pub kept_of : List ℕ → List Kept
-kept_of bytes = rows_with (directives_in Fourth) (rows_of bytes)
+kind_of bytes = kind_said (lines_of Directive.FlagType (rows_of bytes))
 
 -- the flag aliases of a file, if it has any
 abbrev pub aliases_of : List ℕ → Option (List (List Flag))
-aliases_of bytes = aliases_said (kind_of bytes) (lines_of FlagAliases (rows_of bytes))
+aliases_of bytes = aliases_said (kind_of bytes) (lines_of Directive.FlagAliases (rows_of bytes))
 
 -- the faults of the fourth pass: those of each option, and those of affix classes
-abbrev pub late_faults : FlagKind → Option (List (List Flag)) → List Kept → List Fault
-late_faults kind aliases rows = pass_faults kind rows Fourth ++ class_faults kind aliases rows
+abbrev pub late_faults : FlagKind → Option (List (List Flag)) → List DirectiveLine → List Fault
+late_faults kind aliases rows = pass_faults kind rows Pass.Fourth ++ class_faults kind aliases rows
 
 -- the faults of a file, pass by pass
 abbrev pub aff_passes : List ℕ → List (List Fault)
-aff_passes bytes = early_passes bytes ++ late_faults (kind_of bytes) (aliases_of bytes) (kept_of bytes) ∷ []
+aff_passes bytes = early_passes bytes ++ late_faults (kind_of bytes) (aliases_of bytes) (rows_of bytes) ∷ []
 
 -- the flags with a meaning
-abbrev pub signs_said : FlagKind → List Kept → Signs
+abbrev pub signs_said : FlagKind → List DirectiveLine → Signs
 signs_said kind rows = record {
-  need_affix = flag_said kind (lines_of NeedAffix rows);
-  circumfix = flag_said kind (lines_of Circumfix rows);
-  forbidden = flag_said kind (lines_of ForbiddenWord rows);
-  keep_case = flag_said kind (lines_of KeepCase rows);
-  warn = flag_said kind (lines_of Warn rows);
-  only_inside = flag_said kind (lines_of OnlyInCompound rows);
+  need_affix = flag_said kind (lines_of Directive.NeedAffix rows);
+  circumfix = flag_said kind (lines_of Directive.Circumfix rows);
+  forbidden = flag_said kind (lines_of Directive.ForbiddenWord rows);
+  keep_case = flag_said kind (lines_of Directive.KeepCase rows);
+  warn = flag_said kind (lines_of Directive.Warn rows);
+  only_inside = flag_said kind (lines_of Directive.OnlyInCompound rows);
 }
 
 -- the switches
-abbrev pub options_said : List Kept → Options
-options_said rows = record { full_strip = is_said (lines_of FullStrip rows); forbid_warn = is_said (lines_of ForbidWarn rows) }
+abbrev pub options_said : List DirectiveLine → Options
+options_said rows = record {
+  full_strip = is_said (lines_of Directive.FullStrip rows);
+  forbid_warn = is_said (lines_of Directive.ForbidWarn rows);
+}
 
 -- the characters of a text that may be there
 abbrev pub characters_said : Option (List ℕ) → List ℕ
 characters_said value = chars (unwrap_or value [])
 
 -- the characters to ignore
-abbrev pub ignored_said : List Kept → List ℕ
-ignored_said rows = characters_said (value_said (lines_of Ignore rows))
+abbrev pub ignored_said : List DirectiveLine → List ℕ
+ignored_said rows = characters_said (value_said (lines_of Directive.Ignore rows))
 
--- what the rows of the fourth pass say, beside the type of flags and the aliases
-abbrev pub affixes_said : FlagKind → Option (List (List Flag)) → List Kept → Affixes
+-- what the rows say, beside the type of flags and the aliases
+abbrev pub affixes_said : FlagKind → Option (List (List Flag)) → List DirectiveLine → Affixes
 affixes_said kind aliases rows = record {
   kind = kind;
   aliases = aliases;
@@ -72,14 +70,14 @@ affixes_said kind aliases rows = record {
   signs = signs_said kind rows;
   options = options_said rows;
   ignore = ignored_said rows;
-  wordchars = characters_said (value_said (lines_of WordCharacters rows));
-  iconv = conversions_said (lines_of InputConversion rows);
-  breaks = breaks_said (lines_of Break rows);
+  wordchars = characters_said (value_said (lines_of Directive.WordCharacters rows));
+  iconv = conversions_said (lines_of Directive.InputConversion rows);
+  breaks = breaks_said (lines_of Directive.Break rows);
 }
 
 -- what a file without faults says
 abbrev pub aff_said : List ℕ → Affixes
-aff_said bytes = affixes_said (kind_of bytes) (aliases_of bytes) (kept_of bytes)
+aff_said bytes = affixes_said (kind_of bytes) (aliases_of bytes) (rows_of bytes)
 
 abbrev pub unless_fault : Option Fault → Affixes → Result Affixes Fault
 unless_fault None affixes = Ok affixes

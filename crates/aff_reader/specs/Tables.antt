@@ -5,13 +5,13 @@ use Rattle.std.specs.Option.{option_map}
 use Rattle.std.specs.Str.{chars}
 use Rattle.spell_types.specs.declared.breaks.Anchored.{Anchored}
 use Rattle.spell_types.specs.declared.conversions.Conversion.{Conversion}
-use Rattle.aff_lines.specs.declared.rows.Kept.{Kept}
+use Rattle.aff_lines.specs.declared.rows.DirectiveLine.{DirectiveLine}
 use Rattle.aff_lines.specs.Passes.{table_rows}
 use Rattle.aff_reader.specs.AnchoredTexts.{anchored_of}
 use Rattle.aff_reader.specs.ClassLines.{field_of}
 
 -- the characters of a field of a row; where the file has no fault each row has those that it needs
-abbrev pub text_at : Kept → ℕ → Option (List ℕ)
+abbrev pub text_at : DirectiveLine → ℕ → Option (List ℕ)
 text_at row k = option_map chars (field_of row k)
 
 abbrev pub conversion_of : Option (List ℕ) → Option (List ℕ) → Option Conversion
@@ -19,25 +19,25 @@ conversion_of (Some from) (Some to) = Some (record { from = from; to = to })
 conversion_of _ _ = None
 
 -- the conversion that a row of ICONV says
-abbrev pub conversion_in : Kept → Option Conversion
+abbrev pub conversion_in : DirectiveLine → Option Conversion
 conversion_in row = conversion_of (text_at row 1) (text_at row 2)
 
 -- the conversions that the lines of ICONV list, in their order
-abbrev pub conversions_said : List Kept → List Conversion
+abbrev pub conversions_said : List DirectiveLine → List Conversion
 conversions_said own = filter_map conversion_in (unwrap_or (table_rows own) [])
 
 -- the break pattern that a row of BREAK says
-abbrev pub break_in : Kept → Option Anchored
+abbrev pub break_in : DirectiveLine → Option Anchored
 break_in row = option_map anchored_of (text_at row 1)
 
 -- where words are broken if the file doesn't say: at a dash, and a dash at either end is left out
 abbrev pub default_breaks : List Anchored
 default_breaks = anchored_of (codes "-") ∷ anchored_of (codes "^-") ∷ anchored_of (codes "-$") ∷ []
 
-abbrev pub breaks_of : Option (List Kept) → List Anchored
+abbrev pub breaks_of : Option (List DirectiveLine) → List Anchored
 breaks_of None = default_breaks
 breaks_of (Some rows) = filter_map break_in rows
 
 -- the break patterns that the lines of BREAK list, in their order; a table without rows leaves none
-abbrev pub breaks_said : List Kept → List Anchored
+abbrev pub breaks_said : List DirectiveLine → List Anchored
 breaks_said own = breaks_of (table_rows own)

@@ -4,11 +4,11 @@ ghost use Rattle.std.specs.Prelude.{◌≡◌, ◌++◌, ◌∷◌, [], List, Op
 ghost use Rattle.std.specs.Option.{option_copied};
 ghost use Rattle.spell_types.specs.declared.flags.FlagKind.{FlagKind};
 ghost use Rattle.spell_types.specs.Flags.{IsOrdinary};
-ghost use Rattle.aff_lines.specs.declared.rows.Kept.{Kept};
+ghost use Rattle.aff_lines.specs.declared.rows.DirectiveLine.{DirectiveLine};
 ghost use Rattle.aff_reader.specs.declared.class_lines.Class.{Class};
 ghost use Rattle.aff_reader.specs.ClassLines.{field_of, side_of, flag_at, class_of, is_same_class, is_text, is_crossed, count_of, standing_of, role_after, placed_after, standing_in, Knows};
 
-use aff_lines::{Directive, Kept, is_named, number_in};
+use aff_lines::{Directive, DirectiveLine, number_in};
 use flag_sets::read_one_flag;
 use lists::NoMemory;
 use spell_types::{Flag, FlagKind, Side};
@@ -71,10 +71,14 @@ impl Classes {
     }
 
     /// Tells what a line is behind those that are known, and takes it in.
-    pub(crate) fn place(&mut self, kind: FlagKind, line: &Kept) -> Result<Option<Placed>, NoMemory>
-        ensures knows { (before : List Kept) → Knows kind before self.old
+    pub(crate) fn place(
+        &mut self,
+        kind: FlagKind,
+        line: &DirectiveLine,
+    ) -> Result<Option<Placed>, NoMemory>
+        ensures knows { (before : List DirectiveLine) → Knows kind before self.old
             → OnOk result (Knows kind (before ++ line.now ∷ []) self.new) }
-        ensures placed { (before : List Kept) → Knows kind before self.old
+        ensures placed { (before : List DirectiveLine) → Knows kind before self.old
             → IfOk result (λ placed. placed ≡ placed_after kind before line.now) }
         ensures ordinary { IfOk result (λ found. IfSome found (λ placed. IsOrdinary placed.class.flag)) }
     {
@@ -112,8 +116,8 @@ impl Classes {
 }
 
 /// What the lines of a class come to with one line more.
-fn with_line(standing: Option<Standing>, line: &Kept) -> Standing
-    ensures { (own : List Kept) → standing ≡ standing_of own → Some result ≡ standing_of (own ++ line.now ∷ []) }
+fn with_line(standing: Option<Standing>, line: &DirectiveLine) -> Standing
+    ensures { (own : List DirectiveLine) → standing ≡ standing_of own → Some result ≡ standing_of (own ++ line.now ∷ []) }
 {
     match standing {
         None => Standing {
@@ -146,29 +150,27 @@ fn role_after(standing: Option<Standing>) -> Role
 
 /// The class that a line belongs to.
 #[tactic(auto, unfolding(crate::specs::ClassLines::class_of))]
-fn class_of(kind: FlagKind, line: &Kept) -> Option<Class>
+fn class_of(kind: FlagKind, line: &DirectiveLine) -> Option<Class>
     ensures class { result ≡ class_of kind line.now }
     ensures ordinary { IfSome result (λ class. IsOrdinary class.flag) }
 {
-    let side = side_of(line.name.as_str())?;
+    let side = side_of(line.directive)?;
     let flag = flag_at(kind, line)?;
     Some(Class { side, flag })
 }
 
-/// The side of the classes that a name is for.
-pub(crate) fn side_of(name: &str) -> Option<Side>
-    ensures { result ≡ side_of name.now }
+/// The side of the classes that a directive is for.
+pub(crate) fn side_of(directive: Directive) -> Option<Side>
+    ensures { result ≡ side_of directive }
 {
-    if is_named(Directive::Prefix, name) {
-        Some(Side::Prefix)
-    } else if is_named(Directive::Suffix, name) {
-        Some(Side::Suffix)
-    } else {
-        None
+    match directive {
+        Directive::Prefix => Some(Side::Prefix),
+        Directive::Suffix => Some(Side::Suffix),
+        _ => None,
     }
 }
 
-fn flag_at(kind: FlagKind, line: &Kept) -> Option<Flag>
+fn flag_at(kind: FlagKind, line: &DirectiveLine) -> Option<Flag>
     ensures flag { result ≡ flag_at kind line.now }
     ensures ordinary { IfSome result IsOrdinary }
 {
@@ -176,7 +178,7 @@ fn flag_at(kind: FlagKind, line: &Kept) -> Option<Flag>
 }
 
 /// A field of a line; its name is field 0.
-pub(crate) fn field_of(line: &Kept, k: usize) -> Option<&str>
+pub(crate) fn field_of(line: &DirectiveLine, k: usize) -> Option<&str>
     ensures { option_copied result ≡ field_of line.now k }
 {
     field(line.text.as_str(), k)
@@ -193,7 +195,7 @@ pub(crate) fn is_text(word: &str, field: Option<&str>) -> bool
 }
 
 /// Whether a header lets the rules of its class be crossed.
-pub(crate) fn is_crossed(header: &Kept) -> bool
+pub(crate) fn is_crossed(header: &DirectiveLine) -> bool
     ensures { result ≡ is_crossed header.now }
 {
     is_text("Y", field_of(header, 2))
@@ -201,7 +203,7 @@ pub(crate) fn is_crossed(header: &Kept) -> bool
 
 /// How many rules a header announces.
 #[tactic(auto, unfolding(crate::specs::ClassLines::count_of))]
-pub(crate) fn count_of(header: &Kept) -> Option<u64>
+pub(crate) fn count_of(header: &DirectiveLine) -> Option<u64>
     ensures { result ≡ count_of header.now }
 {
     number_in(field_of(header, 3)?)

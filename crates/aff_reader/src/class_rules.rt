@@ -7,7 +7,7 @@ ghost use Rattle.spell_types.specs.Sanity.{IsOrdinaryRule};
 ghost use Rattle.aff_reader.specs.ClassRules.{unless_zero, carried_of, asked_of, rule_of, rule_without};
 
 use crate::class_lines::{Class, field_of};
-use aff_lines::{AffWhy, Kept};
+use aff_lines::{AffWhy, DirectiveLine};
 use affix_classes::{ConditionFault, read_condition};
 use conversions::drop_ignored;
 use flag_sets::{FlagFault, push_before_slash, read_flags};
@@ -23,7 +23,7 @@ pub(crate) fn read_rule(
     aliases: Option<&[FlagSet]>,
     class: Class,
     crossed: bool,
-    line: &Kept,
+    line: &DirectiveLine,
 ) -> Result<Result<Rule, AffWhy>, NoMemory>
     ensures rule { IfOk result (λ read. read ≡ rule_of kind (option_copied aliases.entry) class crossed line.now) }
     ensures ordinary { IfSome (option_copied aliases.entry) (All AreOrdinary) → IsOrdinary class.flag

@@ -1,6 +1,6 @@
 //! What no clause says of affix classes: that the rules are those of the definitions, and that calls succeed.
 use crate::classes::{class_fault, classes_have_their_rules, many_fault, read_rules};
-use aff_lines::{AffWhy, Fault, Kept};
+use aff_lines::{AffWhy, DirectiveLine, Fault, directive_named};
 use flag_sets::read_flags;
 use lists::{Items, NoMemory};
 use spell_types::{Condition, FlagKind, FlagSet, Piece, Rule, Side};
@@ -10,15 +10,17 @@ use std::test::Fail;
 use text_lines::{Text, field};
 
 /// The rows of a text, which are numbered from 1.
-fn rows_of(alloc: Global, text: &str) -> Result<Items<Kept>, NoMemory> {
+fn rows_of(alloc: Global, text: &str) -> Result<Items<DirectiveLine>, NoMemory> {
     let mut rows = Items::new(alloc);
     let mut number = 1u64;
     for line in text.split('\n') {
-        rows.push(Kept {
-            number,
-            name: Text::from_str(alloc, field(line, 0).unwrap_or(""))?,
-            text: Text::from_str(alloc, line)?,
-        })?;
+        if let Some(directive) = directive_named(field(line, 0).unwrap_or("")) {
+            rows.push(DirectiveLine {
+                number,
+                directive,
+                text: Text::from_str(alloc, line)?,
+            })?;
+        }
         number = number.saturating_add(1);
     }
     Ok(rows)

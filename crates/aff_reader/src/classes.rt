@@ -6,7 +6,7 @@ ghost use Rattle.spell_types.specs.declared.flags.Flag.{Flag};
 ghost use Rattle.spell_types.specs.declared.flags.FlagKind.{FlagKind};
 ghost use Rattle.spell_types.specs.Flags.{IsOrdinary, AreOrdinary};
 ghost use Rattle.spell_types.specs.Sanity.{IsOrdinaryRule};
-ghost use Rattle.aff_lines.specs.declared.rows.Kept.{Kept};
+ghost use Rattle.aff_lines.specs.declared.rows.DirectiveLine.{DirectiveLine};
 ghost use Rattle.aff_lines.specs.Faults.{least_of};
 ghost use Rattle.aff_reader.specs.declared.class_lines.Class.{Class};
 ghost use Rattle.aff_reader.specs.ClassLines.{side_of, lines_in, count_of, standing_of, each_after, Knows};
@@ -18,7 +18,7 @@ use crate::class_lines::{
     Classes, Placed, Role, Standing, count_of, field_of, is_crossed, is_text, side_of,
 };
 use crate::class_rules::{read_rule, without_ignored};
-use aff_lines::{AffWhy, Fault, Kept, fault_at, sooner, unless};
+use aff_lines::{AffWhy, DirectiveLine, Fault, earliest_faults, fault_at, sooner, unless};
 use lists::{Items, NoMemory};
 use spell_types::{FlagKind, FlagSet, Rule};
 use std::alloc::Global;
@@ -31,11 +31,12 @@ pub(crate) fn class_fault(
     alloc: Global,
     kind: FlagKind,
     aliases: Option<&[FlagSet]>,
-    rows: &[Kept],
+    rows: &[DirectiveLine],
 ) -> Result<Option<Fault>, NoMemory>
     ensures { IfOk result
         (λ fault. fault ≡ least_of (class_faults kind (option_copied aliases.entry) rows.now)) }
 {
+    earliest_faults();
     let all = read_classes(alloc, kind, rows)?;
     let fault = lines_fault(alloc, kind, aliases, &all, rows)?;
     Ok(sooner(fault, many_fault(alloc, kind, MOST_RULES, rows)?))
@@ -49,7 +50,7 @@ pub(crate) fn read_rules(
     kind: FlagKind,
     aliases: Option<&[FlagSet]>,
     ignore: &[char],
-    rows: &[Kept],
+    rows: &[DirectiveLine],
 ) -> Result<Items<Rule>, NoMemory>
     ensures rules { IfOk result
         (λ rules. rules ≡ map (rule_without ignore.now) (rules_said kind (option_copied aliases.entry) rows.now)) }
@@ -57,6 +58,7 @@ pub(crate) fn read_rules(
         → IfOk result (λ rules. length rules ≤ rule_limit) }
     ensures ordinary { IfSome (option_copied aliases.entry) (All AreOrdinary) → IfOk result (All IsOrdinaryRule) }
 {
+    earliest_faults();
     let mut classes = Classes::new(alloc);
     let mut rules = Items::new(alloc);
     for line in rows {
@@ -70,15 +72,15 @@ pub(crate) fn read_rules(
 /// as the header announces, the next behind it. This holds for lines with faults, too. Where no line has a fault they are
 /// exactly so many.
 pub fn classes_have_their_rules()
-    ensures members { (kind : FlagKind) (aliases : Option (List (List Flag))) (class : Class) (rows : List Kept)
+    ensures members { (kind : FlagKind) (aliases : Option (List (List Flag))) (class : Class) (rows : List DirectiveLine)
         → filter (is_rule_of class) (rules_said kind aliases rows) ≡ rules_in kind aliases class (lines_in kind class rows) }
-    ensures count { (kind : FlagKind) (aliases : Option (List (List Flag))) (class : Class) (rows : List Kept) (header : Kept) (behind : List Kept)
+    ensures count { (kind : FlagKind) (aliases : Option (List (List Flag))) (class : Class) (rows : List DirectiveLine) (header : DirectiveLine) (behind : List DirectiveLine)
         → class_faults kind aliases rows ≡ [] → lines_in kind class rows ≡ header ∷ behind
         → count_of header ≡ Some (length (filter (is_rule_of class) (rules_said kind aliases rows))) }
 {}
 
 /// What the lines say of each class.
-fn read_classes(alloc: Global, kind: FlagKind, rows: &[Kept]) -> Result<Classes, NoMemory>
+fn read_classes(alloc: Global, kind: FlagKind, rows: &[DirectiveLine]) -> Result<Classes, NoMemory>
     ensures { IfOk result (Knows kind rows.now) }
 {
     let mut classes = Classes::new(alloc);
@@ -94,12 +96,13 @@ fn lines_fault(
     kind: FlagKind,
     aliases: Option<&[FlagSet]>,
     all: &Classes,
-    rows: &[Kept],
+    rows: &[DirectiveLine],
 ) -> Result<Option<Fault>, NoMemory>
     requires { Knows kind rows.now all.now }
     ensures { IfOk result (λ fault. fault
         ≡ least_of (each_after (line_faults kind (option_copied aliases.entry) rows.now) [] rows.now)) }
 {
+    earliest_faults();
     let mut classes = Classes::new(alloc);
     let mut found = None;
     for line in rows {
@@ -116,13 +119,13 @@ fn line_fault(
     kind: FlagKind,
     aliases: Option<&[FlagSet]>,
     all: &Classes,
-    line: &Kept,
+    line: &DirectiveLine,
     placed: Option<Placed>,
 ) -> Result<Option<Fault>, NoMemory>
-    ensures { (rows : List Kept) → Knows kind rows all.now → IfOk result (λ fault. fault
-        ≡ least_of (side_faults kind (option_copied aliases.entry) rows line.now placed (side_of line.now.name))) }
+    ensures { (rows : List DirectiveLine) → Knows kind rows all.now → IfOk result (λ fault. fault
+        ≡ least_of (side_faults kind (option_copied aliases.entry) rows line.now placed (side_of line.now.directive))) }
 {
-    if side_of(line.name.as_str()).is_none() {
+    if side_of(line.directive).is_none() {
         return Ok(None);
     }
     if field_of(line, 3).is_none() {
@@ -147,7 +150,7 @@ fn role_fault(
     kind: FlagKind,
     aliases: Option<&[FlagSet]>,
     standing: Option<Standing>,
-    line: &Kept,
+    line: &DirectiveLine,
     placed: Placed,
 ) -> Result<Option<Fault>, NoMemory>
     ensures { IfOk result (λ fault. fault
@@ -165,10 +168,10 @@ fn role_fault(
 }
 
 /// The earliest fault of a header of a class that comes to this.
-#[tactic(auto, using(aff_lines::proofs::FaultLemmas::least_append))]
-fn header_fault(standing: Option<Standing>, header: &Kept) -> Option<Fault>
+fn header_fault(standing: Option<Standing>, header: &DirectiveLine) -> Option<Fault>
     ensures { result ≡ least_of (header_faults standing header.now) }
 {
+    earliest_faults();
     let number = unless(count_of(header).is_some(), AffWhy::BadNumber);
     let short = unless(has_rules(standing), AffWhy::TableShort);
     let cross = unless(says_cross(header), AffWhy::BadCross);
@@ -179,7 +182,7 @@ fn header_fault(standing: Option<Standing>, header: &Kept) -> Option<Fault>
 }
 
 /// Whether a header says that its class may be crossed, or that it may not.
-fn says_cross(header: &Kept) -> bool
+fn says_cross(header: &DirectiveLine) -> bool
     ensures { result ≡ says_cross header.now }
 {
     is_crossed(header) || is_text("N", field_of(header, 2))
@@ -201,11 +204,12 @@ pub(crate) fn many_fault(
     alloc: Global,
     kind: FlagKind,
     limit: u64,
-    rows: &[Kept],
+    rows: &[DirectiveLine],
 ) -> Result<Option<Fault>, NoMemory>
     requires { limit < 2 ^ 32 }
     ensures { IfOk result (λ fault. fault ≡ least_of (many_faults kind limit rows.now)) }
 {
+    earliest_faults();
     let mut classes = Classes::new(alloc);
     let mut total = 0u64;
     let mut found = None;
@@ -218,7 +222,7 @@ pub(crate) fn many_fault(
 }
 
 /// How many rules a line announces.
-fn announced_by(line: &Kept, placed: Option<Placed>) -> u64
+fn announced_by(line: &DirectiveLine, placed: Option<Placed>) -> u64
     ensures { result ≡ announced_by line.now placed }
 {
     if heads(placed) {
@@ -229,7 +233,12 @@ fn announced_by(line: &Kept, placed: Option<Placed>) -> u64
 }
 
 /// The fault of a header where so many rules are announced up to it.
-fn total_fault(limit: u64, total: u64, line: &Kept, placed: Option<Placed>) -> Option<Fault>
+fn total_fault(
+    limit: u64,
+    total: u64,
+    line: &DirectiveLine,
+    placed: Option<Placed>,
+) -> Option<Fault>
     ensures { result ≡ least_of (total_faults limit total line.now placed) }
 {
     if heads(placed) {
@@ -261,7 +270,7 @@ fn push_rule(
     kind: FlagKind,
     aliases: Option<&[FlagSet]>,
     ignore: &[char],
-    line: &Kept,
+    line: &DirectiveLine,
     placed: Option<Placed>,
 ) -> Result<(), NoMemory>
     ensures rules { OnOk result (rules.new

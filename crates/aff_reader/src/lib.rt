@@ -10,8 +10,8 @@ ghost use Rattle.aff_reader.specs.Classes.{rule_limit, class_faults};
 ghost use Rattle.aff_reader.specs.Grammar.{AffReads, AffRefuses, IsRead, aff_read, late_faults, affixes_said, signs_said, options_said, characters_said};
 
 use aff_lines::{
-    AffFault, Directive, Directives, Fault, Kept, Pass, find_fault, first_faults_are_least,
-    flag_said, is_said, read_directives, sooner, value_said,
+    AffFault, Directive, DirectiveLine, Directives, Fault, Pass, earliest_faults, find_fault,
+    first_faults_are_least, flag_said, is_said, read_directives, sooner, value_said,
 };
 pub use classes::classes_have_their_rules;
 use classes::{class_fault, read_rules};
@@ -70,16 +70,17 @@ fn read_passes(alloc: Global, bytes: &[u8]) -> Result<Affixes, AffFault>
 }
 
 /// The first fault of the fourth pass.
-#[tactic(auto, using(aff_lines::proofs::FaultLemmas::least_append, crate::proofs::PassLemmas::later_none))]
+#[tactic(auto, using(crate::proofs::PassLemmas::later_none))]
 fn late_fault(
     alloc: Global,
     kind: FlagKind,
     aliases: Option<&[FlagSet]>,
-    rows: &[Kept],
+    rows: &[DirectiveLine],
 ) -> Result<Option<Fault>, NoMemory>
     ensures least { IfOk result (λ fault. fault ≡ least_of (late_faults kind (option_copied aliases.entry) rows.now)) }
     ensures classes { IfOk result (λ fault. fault ≡ None → least_of (class_faults kind (option_copied aliases.entry) rows.now) ≡ None) }
 {
+    earliest_faults();
     let fault = class_fault(alloc, kind, aliases, rows)?;
     Ok(sooner(find_fault(kind, rows, Pass::Fourth), fault))
 }
@@ -89,7 +90,7 @@ fn read_affixes(
     alloc: Global,
     kind: FlagKind,
     aliases: Option<Items<FlagSet>>,
-    rows: &[Kept],
+    rows: &[DirectiveLine],
 ) -> Result<Affixes, NoMemory>
     requires { least_of (class_faults kind aliases rows.now) ≡ None }
     ensures said { IfOk result (λ affixes. affixes ≡ affixes_said kind aliases rows.now) }
@@ -113,7 +114,7 @@ fn read_affixes(
 }
 
 /// The flags with a meaning.
-fn signs_of(kind: FlagKind, rows: &[Kept]) -> Signs
+fn signs_of(kind: FlagKind, rows: &[DirectiveLine]) -> Signs
     ensures signs { result ≡ signs_said kind rows.now }
     ensures ordinary { AreOrdinarySigns result }
 {
@@ -128,7 +129,7 @@ fn signs_of(kind: FlagKind, rows: &[Kept]) -> Signs
 }
 
 /// The switches.
-fn options_of(rows: &[Kept]) -> Options
+fn options_of(rows: &[DirectiveLine]) -> Options
     ensures { result ≡ options_said rows.now }
 {
     Options {

@@ -9,13 +9,16 @@ ghost use Rattle.aff_reader.specs.Tables.{text_at, conversion_in, conversions_sa
 
 use crate::anchored_texts::read_anchored;
 use crate::class_lines::field_of;
-use aff_lines::{Directive, Kept, next_of, table_of};
+use aff_lines::{Directive, DirectiveLine, next_of, table_of};
 use lists::{Items, NoMemory};
 use spell_types::{Anchored, Chars, Conversion, chars_of};
 use std::alloc::Global;
 
 /// The conversions of input: the rows of ICONV.
-pub(crate) fn read_conversions(alloc: Global, rows: &[Kept]) -> Result<Items<Conversion>, NoMemory>
+pub(crate) fn read_conversions(
+    alloc: Global,
+    rows: &[DirectiveLine],
+) -> Result<Items<Conversion>, NoMemory>
     ensures said { IfOk result
         (λ made. made ≡ conversions_said (lines_of Directive.InputConversion rows.now)) }
     ensures some { IfOk result (All (λ row. 0 < length row.from)) }
@@ -27,7 +30,10 @@ pub(crate) fn read_conversions(alloc: Global, rows: &[Kept]) -> Result<Items<Con
 }
 
 /// Where words may be broken: the rows of BREAK, or what holds without that option.
-pub(crate) fn read_breaks(alloc: Global, rows: &[Kept]) -> Result<Items<Anchored>, NoMemory>
+pub(crate) fn read_breaks(
+    alloc: Global,
+    rows: &[DirectiveLine],
+) -> Result<Items<Anchored>, NoMemory>
     ensures said { IfOk result (λ made. made ≡ breaks_said (lines_of Directive.Break rows.now)) }
     ensures some { IfOk result (All (λ anchored. 0 < length anchored.text)) }
 {
@@ -41,7 +47,7 @@ pub(crate) fn read_breaks(alloc: Global, rows: &[Kept]) -> Result<Items<Anchored
 fn listed_conversions(
     alloc: Global,
     count: u64,
-    rows: &[Kept],
+    rows: &[DirectiveLine],
 ) -> Result<Items<Conversion>, NoMemory>
     ensures said { IfOk result (λ made. made
         ≡ filter_map conversion_in (take count (lines_of Directive.InputConversion rows.now))) }
@@ -62,7 +68,11 @@ fn listed_conversions(
 }
 
 /// Adds the conversion that a row says.
-fn push_conversion(alloc: Global, made: &mut Items<Conversion>, row: &Kept) -> Result<(), NoMemory>
+fn push_conversion(
+    alloc: Global,
+    made: &mut Items<Conversion>,
+    row: &DirectiveLine,
+) -> Result<(), NoMemory>
     ensures said { OnOk result (made.new ≡ made.old ++ option_to_list (conversion_in row.now)) }
     ensures some { All (λ row. 0 < length row.from) made.old
         → OnOk result (All (λ row. 0 < length row.from) made.new) }
@@ -74,7 +84,11 @@ fn push_conversion(alloc: Global, made: &mut Items<Conversion>, row: &Kept) -> R
 }
 
 /// The break patterns of the first lines of BREAK, of so many.
-fn listed_breaks(alloc: Global, count: u64, rows: &[Kept]) -> Result<Items<Anchored>, NoMemory>
+fn listed_breaks(
+    alloc: Global,
+    count: u64,
+    rows: &[DirectiveLine],
+) -> Result<Items<Anchored>, NoMemory>
     ensures said { IfOk result
         (λ made. made ≡ filter_map break_in (take count (lines_of Directive.Break rows.now))) }
     ensures some { IfOk result (All (λ anchored. 0 < length anchored.text)) }
@@ -94,7 +108,11 @@ fn listed_breaks(alloc: Global, count: u64, rows: &[Kept]) -> Result<Items<Ancho
 }
 
 /// Adds the break pattern that a row says.
-fn push_break(alloc: Global, made: &mut Items<Anchored>, row: &Kept) -> Result<(), NoMemory>
+fn push_break(
+    alloc: Global,
+    made: &mut Items<Anchored>,
+    row: &DirectiveLine,
+) -> Result<(), NoMemory>
     ensures said { OnOk result (made.new ≡ made.old ++ option_to_list (break_in row.now)) }
     ensures some { All (λ anchored. 0 < length anchored.text) made.old
         → OnOk result (All (λ anchored. 0 < length anchored.text) made.new) }
@@ -118,7 +136,7 @@ fn default_breaks(alloc: Global) -> Result<Items<Anchored>, NoMemory>
 }
 
 /// The characters of a field of a row, if it is there. A field is never empty.
-fn text_at(alloc: Global, row: &Kept, k: usize) -> Result<Option<Chars>, NoMemory>
+fn text_at(alloc: Global, row: &DirectiveLine, k: usize) -> Result<Option<Chars>, NoMemory>
     ensures value { IfOk result (λ text. text ≡ text_at row.now k) }
     ensures some { IfOk result (λ text. (own : List ℕ) → text ≡ Some own → 0 < length own) }
 {

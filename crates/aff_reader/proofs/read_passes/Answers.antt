@@ -13,6 +13,6 @@ returns-in-Some-clause-read c =
     read_late c.args.bytes.now c.in_ok-kind.kind c.in_ok-kind.aliases c.as_slice-rows.result.now c.in-Some.fault
     (cc (c.in_ok-kind.kind-is, c.in_ok-kind.ensures.read.says.kind))
     (cc (c.in_ok-kind.aliases-is, c.in_ok-kind.ensures.read.says.kind, c.in_ok-kind.ensures.read.says.aliases))
-    (cc (c.as_slice-rows.ensures, c.kept.view_is, c.in_ok-kind.kept-is, c.in_ok-kind.ensures.read.says.kept))
+    (cc (c.as_slice-rows.ensures, c.in_ok-kind.ensures.read.says.kept))
     c.in_ok-kind.ensures.fine
     (cc (c.in-Some.is, c.in_ok-fault.ensures.least, c.alias_sets.ensures))

@@ -2,7 +2,6 @@
 use Rattle.std.proofs.Common.{◌∙◌, ap, sym, []}
 use Rattle.std.specs.Option.{option_copied}
 use Rattle.aff_lines.specs.Faults.{sooner, least_of}
-use Rattle.aff_lines.proofs.FaultLemmas.{least_append}
 use Rattle.aff_reader.specs.ClassLines.{each_after}
 use Rattle.aff_reader.specs.Classes.{line_faults, many_faults, rule_limit}
 use Rattle.aff_reader.proofs.classes.class_fault.Goals as goal
@@ -14,4 +13,4 @@ returns c =
     c.sooner.ensures
     ∙ ap (λ found. sooner found c.in_ok-many_fault.field-0) c.in_ok-fault.ensures
     ∙ ap (sooner (least_of lines)) c.in_ok-many_fault.ensures
-    ∙ sym (least_append lines many)
+    ∙ sym (c.earliest_faults.ensures.join lines many)

@@ -13,7 +13,7 @@ loop-line-preserved c =
     record {
       known = knows-turn c.args.kind lines longer c.line-item.result c.loop-line.classes c.place.new.self more
           c.in_ok-placed.ensures.knows c.loop-line.invariant.known;
-      least = fault-turn (line_faults c.args.kind (option_copied c.args.aliases) c.args.rows.now) lines longer c.line-item.result
+      least = fault-turn c.earliest_faults.ensures.join (line_faults c.args.kind (option_copied c.args.aliases) c.args.rows.now) lines longer c.line-item.result
           c.loop-line.found c.in_ok-fault.fault c.sooner-found.result more c.sooner-found.ensures
           (line-told c.args.kind (option_copied c.args.aliases) c.args.rows.now lines c.line-item.result c.loop-line.classes c.in_ok-placed.placed c.in_ok-fault.fault
           c.in_ok-placed.ensures.placed c.loop-line.invariant.known (c.in_ok-fault.ensures c.args.rows.now c.requires))

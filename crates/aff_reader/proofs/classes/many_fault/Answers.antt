@@ -23,7 +23,7 @@ loop-line-preserved c =
       known = knows-turn c.args.kind lines longer c.line-item.result c.loop-line.classes c.place.new.self more
           c.in_ok-placed.ensures.knows c.loop-line.invariant.known;
       total = total;
-      least = fault-turn (limit_faults c.args.kind c.args.limit) lines longer c.line-item.result
+      least = fault-turn c.earliest_faults.ensures.join (limit_faults c.args.kind c.args.limit) lines longer c.line-item.result
           c.loop-line.found c.total_fault.result c.sooner-found.result more c.sooner-found.ensures
           (limit-told c.args.kind lines longer c.line-item.result c.loop-line.classes c.in_ok-placed.placed c.args.limit c.saturating_add-total.result c.total_fault.result
           more c.in_ok-placed.ensures.placed c.loop-line.invariant.known total c.total_fault.ensures)

@@ -28,4 +28,4 @@ returns-clause-few c = λ none.
     let same : length c.loop-line.rules ≡ length whole =
     ap length (c.loop-line.invariant.said ∙ ap (λ rows. map (rule_without c.args.ignore.now) (rules_said c.args.kind (option_copied c.args.aliases) rows)) all)
     ∙ length-map whole (rule_without c.args.ignore.now) in
-    subst (λ n. n ≤ rule_limit) (sym same) (rules-few c.args.kind (option_copied c.args.aliases) c.args.rows.now none)
+    subst (λ n. n ≤ rule_limit) (sym same) (rules-few c.earliest_faults.ensures.least c.args.kind (option_copied c.args.aliases) c.args.rows.now none)
