@@ -3,7 +3,7 @@
 
 ghost use Rattle.std.specs.Prelude.{◌≡◌};
 ghost use Rattle.std.specs.Option.{option_copied};
-ghost use Rattle.spell_types.specs.Empty.{no_affixes};
+ghost use Rattle.spell_types.specs.Empty.{SaysNothing};
 
 mod attaching;
 mod breaks;
@@ -71,14 +71,14 @@ impl Affixes {
     /// No rule, no sign, no option and no table, where flags are written so. The .aff file that says nothing has break
     /// points beside.
     pub fn none(alloc: Global, kind: FlagKind) -> Affixes
-        ensures { result ≡ no_affixes kind }
+        ensures { SaysNothing kind result }
     {
         Affixes {
             kind,
             aliases: None,
             rules: Items::new(alloc),
-            signs: Signs::none(),
-            options: Options::none(),
+            signs: Signs::default(),
+            options: Options::default(),
             ignore: Items::new(alloc),
             wordchars: Items::new(alloc),
             iconv: Items::new(alloc),

@@ -95,7 +95,7 @@ fn lexicon_of(
         forbidden: Some(flag_of('f')),
         warn: Some(flag_of('w')),
         only_inside: Some(flag_of('o')),
-        ..Signs::none()
+        ..Signs::default()
     };
     affixes.options.forbid_warn = forbid_warn;
     Ok(Lexicon {
