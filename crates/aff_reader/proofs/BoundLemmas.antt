@@ -16,9 +16,10 @@ use Rattle.aff_lines.specs.Causes.{unless}
 use Rattle.aff_lines.specs.Faults.{least_of, FindsLeast, LeastIs}
 use Rattle.aff_lines.specs.Grammar.{faults_at}
 use Rattle.aff_reader.specs.declared.class_lines.Class.{Class}
+use Rattle.aff_reader.specs.declared.class_lines.Crossing.{Crossing}
 use Rattle.aff_reader.specs.declared.class_lines.Placed.{Placed}
 use Rattle.aff_reader.specs.declared.class_lines.Role.TheVariants.{Member, Past}
-use Rattle.aff_reader.specs.declared.class_lines.Standing.{Standing}
+use Rattle.aff_reader.specs.declared.class_lines.ClassSoFar.{ClassSoFar}
 use Rattle.aff_reader.specs.ClassLines.{class_of, is_same_class, is_that_class, lines_in, count_of, wanted_behind, standing_of, role_wanted, role_after, placed_in, placed_after, each_after}
 use Rattle.aff_reader.specs.ClassRules.{rule_of}
 use Rattle.aff_reader.specs.Classes.{announced_by, announced, heads, role_rules, placed_rules, rules_said, line_faults, limit_faults, many_faults, rule_limit, class_faults}
@@ -63,7 +64,7 @@ total-drop new old (first ∷ more) class k among all drop =
 
 -- the rules that are still wanted
 
-abbrev still : Option Standing → ℕ
+abbrev still : Option ClassSoFar → ℕ
 still None = 0
 still (Some standing) = unwrap_or standing.wanted 0
 
@@ -88,15 +89,15 @@ one-at-most (Some x) = omega arith
 some-wanted : (wanted : ℕ) → (wanted == 0) ≡ false → 1 ≤ wanted
 some-wanted wanted h = grind (arith, nat_tests)
 
-rules-drop : (kind : FlagKind) (aliases : Option (List (List Flag))) (line : DirectiveLine) (class : Class) (crossed : Bool) (wanted : Option ℕ)
-    → length (role_rules kind aliases line class (role_wanted crossed wanted)) + (unwrap_or wanted 0 - 1) ≤ unwrap_or wanted 0
-rules-drop kind aliases line class crossed None = omega arith
-rules-drop kind aliases line class crossed (Some wanted) = by-test (wanted == 0) refl
+rules-drop : (kind : FlagKind) (aliases : Option (List (List Flag))) (line : DirectiveLine) (class : Class) (crossing : Crossing) (wanted : Option ℕ)
+    → length (role_rules kind aliases line class (role_wanted crossing wanted)) + (unwrap_or wanted 0 - 1) ≤ unwrap_or wanted 0
+rules-drop kind aliases line class crossing None = omega arith
+rules-drop kind aliases line class crossing (Some wanted) = by-test (wanted == 0) refl
   where
-    by-test : (none : Bool) → (wanted == 0) ≡ none → length (role_rules kind aliases line class (cond none Past (Member crossed))) + (wanted - 1) ≤ wanted
+    by-test : (none : Bool) → (wanted == 0) ≡ none → length (role_rules kind aliases line class (cond none Past (Member crossing))) + (wanted - 1) ≤ wanted
     by-test true h = omega arith
     by-test false h =
-        let most = one-at-most (result_ok (rule_of kind aliases class crossed line)) in
+        let most = one-at-most (result_ok (rule_of kind aliases class crossing line)) in
         let some = some-wanted wanted h in
         omega arith
 
@@ -182,7 +183,7 @@ step-none kind aliases rows line classes covers none =
           (sym placed) (omega (arith, le));
     }
 
-placed-is : (kind : FlagKind) (rows : List DirectiveLine) (line : DirectiveLine) (class : Class) (standing : Option Standing) → class_of kind line ≡ Some class
+placed-is : (kind : FlagKind) (rows : List DirectiveLine) (line : DirectiveLine) (class : Class) (standing : Option ClassSoFar) → class_of kind line ≡ Some class
     → standing_of (lines_in kind class rows) ≡ standing → placed_after kind rows line ≡ Some (record { class = class; role = role_after standing })
 unfolding placed_after
 placed-is kind rows line class standing is comes_to =
@@ -224,14 +225,14 @@ step-header kind aliases rows line classes class covers is none =
     by-test other has false apart =
         inr (covers.each other (sym (ap (λ l. is_some (standing_of l)) (lines-other kind other rows line (ap (is_that_class other) is ∙ apart))) ∙ has))
 
-step-later : (kind : FlagKind) (aliases : Option (List (List Flag))) (rows : List DirectiveLine) (line : DirectiveLine) (classes : List Class) (class : Class) (standing : Standing)
+step-later : (kind : FlagKind) (aliases : Option (List (List Flag))) (rows : List DirectiveLine) (line : DirectiveLine) (classes : List Class) (class : Class) (standing : ClassSoFar)
     → Covers kind rows classes → class_of kind line ≡ Some class → standing_of (lines_in kind class rows) ≡ Some standing
     → Step kind aliases rows line classes
 step-later kind aliases rows line classes class standing covers is comes_to =
     let has : has_lines kind rows class ≡ true = ap is_some comes_to in
     let old : still_in kind rows class ≡ unwrap_or standing.wanted 0 = ap still comes_to in
     let less = still-own kind rows line class (own-class kind line class is) has in
-    let drop = rules-drop kind aliases line class standing.crossed standing.wanted in
+    let drop = rules-drop kind aliases line class standing.crossing standing.wanted in
     let small = total-drop (still_in kind (rows ++ line ∷ [])) (still_in kind rows) classes class
     (length (role_rules kind aliases line class (role_after (Some standing)))) (covers.each class has)
     (all-le kind rows line classes covers.all) (omega (arith, drop, less, old)) in
@@ -254,7 +255,7 @@ step : (kind : FlagKind) (aliases : Option (List (List Flag))) (rows : List Dire
     → Covers kind rows classes → Step kind aliases rows line classes
 step kind aliases rows line classes covers = of-class (class_of kind line) refl
   where
-    of-standing : (class : Class) → class_of kind line ≡ Some class → (standing : Option Standing) → standing_of (lines_in kind class rows) ≡ standing
+    of-standing : (class : Class) → class_of kind line ≡ Some class → (standing : Option ClassSoFar) → standing_of (lines_in kind class rows) ≡ standing
         → Step kind aliases rows line classes
     of-standing class is None comes_to = step-header kind aliases rows line classes class covers is comes_to
     of-standing class is (Some standing) comes_to = step-later kind aliases rows line classes class standing covers is comes_to

@@ -14,7 +14,7 @@ use Rattle.aff_reader.specs.declared.class_lines.Class.{Class}
 use Rattle.aff_reader.specs.declared.class_lines.Classes.{Classes}
 use Rattle.aff_reader.specs.declared.class_lines.Placed.{Placed}
 use Rattle.aff_reader.specs.declared.class_lines.Role.{Role}
-use Rattle.aff_reader.specs.declared.class_lines.Standing.{Standing}
+use Rattle.aff_reader.specs.declared.class_lines.ClassSoFar.{ClassSoFar}
 use Rattle.aff_reader.specs.ClassLines.{class_of, class_with, is_same_class, is_that_class, lines_in, placed_after, placed_in, standing_of, role_after, standing_on, standing_in, Knows}
 
 -- the same class
@@ -74,12 +74,12 @@ lines-own kind class before line own =
 
 -- no lines
 
-none-on : (side : Side) (prefixes suffixes : BTreeMap ℕ Standing) (flag : ℕ) → prefixes.entries ≡ [] → suffixes.entries ≡ []
+none-on : (side : Side) (prefixes suffixes : BTreeMap ℕ ClassSoFar) (flag : ℕ) → prefixes.entries ≡ [] → suffixes.entries ≡ []
     → standing_on side prefixes suffixes flag ≡ None
 none-on Prefix prefixes suffixes flag p s = grind (arith, p)
 none-on Suffix prefixes suffixes flag p s = grind (arith, s)
 
-pub knows-nothing : (kind : FlagKind) (prefixes suffixes : BTreeMap ℕ Standing) → prefixes.entries ≡ [] → suffixes.entries ≡ []
+pub knows-nothing : (kind : FlagKind) (prefixes suffixes : BTreeMap ℕ ClassSoFar) → prefixes.entries ≡ [] → suffixes.entries ≡ []
     → Knows kind [] (record { prefixes = prefixes; suffixes = suffixes })
 unfolding lines_in
 knows-nothing kind prefixes suffixes p s = record { each = λ class. none-on class.side prefixes suffixes class.flag.0 p s }
@@ -99,7 +99,7 @@ placed-none kind before line none = sym (ap (option_map (placed_in kind before))
 
 -- a line of a class
 
-pub knows-more : (kind : FlagKind) (before : List DirectiveLine) (line : DirectiveLine) (class : Class) (old new : Classes) (standing : Option Standing) (longer : Standing)
+pub knows-more : (kind : FlagKind) (before : List DirectiveLine) (line : DirectiveLine) (class : Class) (old new : Classes) (standing : Option ClassSoFar) (longer : ClassSoFar)
     → class_of kind line ≡ Some class
     → standing ≡ standing_in old class
     → ((own : List DirectiveLine) → standing ≡ standing_of own → Some longer ≡ standing_of (own ++ line ∷ []))
@@ -120,7 +120,7 @@ knows-more kind before line class old new standing longer is found grown set kno
         ∙ known.each other
         ∙ ap standing_of (sym (lines-other kind other before line (ap (is_that_class other) is ∙ apart)))
 
-pub placed-some : (kind : FlagKind) (before : List DirectiveLine) (line : DirectiveLine) (class : Class) (classes : Classes) (standing : Option Standing)
+pub placed-some : (kind : FlagKind) (before : List DirectiveLine) (line : DirectiveLine) (class : Class) (classes : Classes) (standing : Option ClassSoFar)
     → class_of kind line ≡ Some class → standing ≡ standing_in classes class → Knows kind before classes
     → Some (record { class = class; role = role_after standing }) ≡ placed_after kind before line
 unfolding placed_after
@@ -131,6 +131,6 @@ placed-some kind before line class classes standing is found known =
 abbrev placed-with : Class → Role → Option Placed
 placed-with class role = Some (record { class = class; role = role })
 
-pub placed-as : (class : Class) (role : Role) (standing : Option Standing) → role ≡ role_after standing
+pub placed-as : (class : Class) (role : Role) (standing : Option ClassSoFar) → role ≡ role_after standing
     → placed-with class role ≡ placed-with class (role_after standing)
 placed-as class role standing is = ap (placed-with class) is

@@ -18,8 +18,8 @@ use Rattle.aff_lines.specs.Causes.{unless}
 use Rattle.aff_lines.specs.Grammar.{at, faults_at}
 use Rattle.aff_reader.specs.declared.class_lines.Class.{Class}
 use Rattle.aff_reader.specs.declared.class_lines.Role.TheVariants.{Member, Past}
-use Rattle.aff_reader.specs.declared.class_lines.Standing.{Standing}
-use Rattle.aff_reader.specs.ClassLines.{field_of, side_of, flag_at, class_with, class_from, class_of, is_that_class, lines_in, is_crossed, count_of, wanted_behind, standing_of, role_wanted, role_after, placed_in, placed_after, each_after}
+use Rattle.aff_reader.specs.declared.class_lines.ClassSoFar.{ClassSoFar}
+use Rattle.aff_reader.specs.ClassLines.{field_of, side_of, flag_at, class_with, class_from, class_of, is_that_class, lines_in, crossing_of, count_of, wanted_behind, standing_of, role_wanted, role_after, placed_in, placed_after, each_after}
 use Rattle.aff_reader.specs.ClassRules.{rule_of}
 use Rattle.aff_reader.specs.Classes.{says_cross, has_rules, wants_none, role_faults, side_faults, line_faults, many_faults, class_faults, rules_said}
 use Rattle.aff_reader.specs.ClassMembers.{is_rule_of, rules_in}
@@ -55,7 +55,7 @@ line-fine kind aliases rows class before line own none = in-class kind aliases r
 
 -- lines of a class none of which has a fault, behind these of it
 
-abbrev AreFine : FlagKind → Option (List (List Flag)) → Class → Option Standing → List DirectiveLine → List DirectiveLine → Type 0
+abbrev AreFine : FlagKind → Option (List (List Flag)) → Class → Option ClassSoFar → List DirectiveLine → List DirectiveLine → Type 0
 AreFine kind aliases class standing own [] = Unit {0}
 AreFine kind aliases class standing own (line ∷ more) =
     (role_faults kind aliases standing line class (role_after (standing_of own)) ≡ []) × AreFine kind aliases class standing (own ++ line ∷ []) more
@@ -71,7 +71,7 @@ lines-fine kind aliases rows class before (line ∷ more) none =
     (second-none (line_faults kind aliases rows before line) (each_after (line_faults kind aliases rows) (before ++ line ∷ []) more) none))
     (is_that_class class (class_of kind line)) refl
   where
-    standing : Option Standing
+    standing : Option ClassSoFar
     standing = standing_of (lines_in kind class rows)
 
     here : line_faults kind aliases rows before line ≡ []
@@ -98,19 +98,19 @@ one-said : (read : Result Rule AffWhy) (line : DirectiveLine) (rules : List Rule
 one-said (Ok rule) line rules none = omega arith
 one-said (Err why) line rules none = absurd cc
 
-all-said : (kind : FlagKind) (aliases : Option (List (List Flag))) (class : Class) (standing : Option Standing) (header : DirectiveLine) (count : ℕ) (passed more : List DirectiveLine)
+all-said : (kind : FlagKind) (aliases : Option (List (List Flag))) (class : Class) (standing : Option ClassSoFar) (header : DirectiveLine) (count : ℕ) (passed more : List DirectiveLine)
     → count_of header ≡ Some count → AreFine kind aliases class standing (header ∷ passed) more → count - length passed ≤ length more
-    → length (filter_map (said_by kind aliases class (is_crossed header)) (take (count - length passed) more)) ≡ count - length passed
+    → length (filter_map (said_by kind aliases class (crossing_of header)) (take (count - length passed) more)) ≡ count - length passed
 all-said kind aliases class standing header count passed [] is fine short =
-    ap (λ lines. length (filter_map (said_by kind aliases class (is_crossed header)) lines)) (take-nil (count - length passed)) ∙ omega (arith, short)
+    ap (λ lines. length (filter_map (said_by kind aliases class (crossing_of header)) lines)) (take-nil (count - length passed)) ∙ omega (arith, short)
 all-said kind aliases class standing header count passed (line ∷ more) is fine short =
     by-test (all-said kind aliases class standing header count (passed ++ line ∷ []) more is fine.1) (count - length passed == 0) refl
   where
     f : DirectiveLine → Option Rule
-    f = said_by kind aliases class (is_crossed header)
+    f = said_by kind aliases class (crossing_of header)
 
-    place : role_faults kind aliases standing line class (role_wanted (is_crossed header) (wanted_behind (length passed) (Some count))) ≡ []
-    place = subst (λ (n : Option ℕ). role_faults kind aliases standing line class (role_wanted (is_crossed header) (wanted_behind (length passed) n)) ≡ []) is fine.0
+    place : role_faults kind aliases standing line class (role_wanted (crossing_of header) (wanted_behind (length passed) (Some count))) ≡ []
+    place = subst (λ (n : Option ℕ). role_faults kind aliases standing line class (role_wanted (crossing_of header) (wanted_behind (length passed) n)) ≡ []) is fine.0
 
     longer : length (passed ++ line ∷ []) ≡ length passed + 1
     longer = length-append passed (line ∷ [])
@@ -125,12 +125,12 @@ all-said kind aliases class standing header count passed (line ∷ more) is fine
         ap (λ n. length (filter_map f (take n (line ∷ more)))) nothing ∙ sym nothing
     by-test later false h =
         let some = one-left count (length passed) h in
-        let here : faults_at (result_err (rule_of kind aliases class (is_crossed header) line)) line ≡ [] =
-        sym (ap (λ b. role_faults kind aliases standing line class (cond b Past (Member (is_crossed header)))) h) ∙ place in
+        let here : faults_at (result_err (rule_of kind aliases class (crossing_of header) line)) line ≡ [] =
+        sym (ap (λ b. role_faults kind aliases standing line class (cond b Past (Member (crossing_of header)))) h) ∙ place in
         let rest : length (filter_map f (take (count - (length passed + 1)) more)) ≡ count - (length passed + 1) =
         subst Later longer later (omega (arith, short, some)) in
         ap (λ n. length (filter_map f (take n (line ∷ more)))) some
-        ∙ one-said (rule_of kind aliases class (is_crossed header) line) line (filter_map f (take (count - (length passed + 1)) more)) here
+        ∙ one-said (rule_of kind aliases class (crossing_of header) line) line (filter_map f (take (count - (length passed + 1)) more)) here
         ∙ omega (arith, rest, some)
 
 enough : (count behind : ℕ) → wants_none (Some (count - behind)) ≡ true → count ≤ behind
@@ -156,12 +156,12 @@ all-of kind aliases class header behind fine = by-count (count_of header) refl
         let all = holds (has_rules (standing_of (header ∷ behind))) TableShort header (first-none short cross (second-none number (short ++ cross) fine.0)) in
         let within : count ≤ length behind = enough count (length behind) (sym (ap (λ n. wants_none (wanted_behind (length behind) n)) is) ∙ all) in
         let none : length {A = DirectiveLine} [] ≡ 0 = refl in
-        let said : length (filter_map (said_by kind aliases class (is_crossed header)) (take (count - 0) behind)) ≡ count - 0 =
+        let said : length (filter_map (said_by kind aliases class (crossing_of header)) (take (count - 0) behind)) ≡ count - 0 =
         all-said kind aliases class (standing_of (header ∷ behind)) header count [] behind is fine.1 (omega (arith, within)) in
         let left : count - 0 ≡ count = omega arith in
         is
-        ∙ ap (λ n. Some n) (sym (subst (λ (n : ℕ). length (filter_map (said_by kind aliases class (is_crossed header)) (take n behind)) ≡ n) left said)
-        ∙ ap (λ n. length (filter_map (said_by kind aliases class (is_crossed header)) (take (unwrap_or n 0) behind))) (sym is))
+        ∙ ap (λ n. Some n) (sym (subst (λ (n : ℕ). length (filter_map (said_by kind aliases class (crossing_of header)) (take n behind)) ≡ n) left said)
+        ∙ ap (λ n. length (filter_map (said_by kind aliases class (crossing_of header)) (take (unwrap_or n 0) behind))) (sym is))
 
 pub class-counted : (kind : FlagKind) (aliases : Option (List (List Flag))) (class : Class) (rows : List DirectiveLine) (header : DirectiveLine) (behind : List DirectiveLine)
     → class_faults kind aliases rows ≡ [] → lines_in kind class rows ≡ header ∷ behind

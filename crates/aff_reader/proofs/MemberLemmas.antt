@@ -14,9 +14,10 @@ use Rattle.spell_types.specs.declared.rules.Rule.{Rule}
 use Rattle.aff_lines.specs.declared.faults.AffWhy.{AffWhy}
 use Rattle.aff_lines.specs.declared.rows.DirectiveLine.{DirectiveLine}
 use Rattle.aff_reader.specs.declared.class_lines.Class.{Class}
+use Rattle.aff_reader.specs.declared.class_lines.Crossing.{Crossing}
 use Rattle.aff_reader.specs.declared.class_lines.Role.{Role}
 use Rattle.aff_reader.specs.declared.class_lines.Role.TheVariants.{Header, Member, Past, Unplaced}
-use Rattle.aff_reader.specs.ClassLines.{class_of, is_same_class, is_that_class, lines_in, is_crossed, count_of, wanted_behind, standing_of, role_wanted, role_after, placed_in, placed_after, each_after}
+use Rattle.aff_reader.specs.ClassLines.{class_of, is_same_class, is_that_class, lines_in, crossing_of, count_of, wanted_behind, standing_of, role_wanted, role_after, placed_in, placed_after, each_after}
 use Rattle.aff_reader.specs.ClassRules.{rule_with, rule_from, rule_of}
 use Rattle.aff_reader.specs.Classes.{role_rules, placed_rules, rules_said}
 use Rattle.aff_reader.specs.ClassMembers.{is_rule_of, rules_in}
@@ -25,49 +26,49 @@ use Rattle.aff_reader.proofs.ClassLemmas.{same-class, lines-other, lines-own}
 
 -- a rule is of the class whose line says it, and of no other
 
-own-with : (of class : Class) (crossed : Bool) (strip add : List ℕ) (carried : Result (List Flag) AffWhy) (condition : Option (List Piece))
+own-with : (of class : Class) (crossing : Crossing) (strip add : List ℕ) (carried : Result (List Flag) AffWhy) (condition : Option (List Piece))
     → is_same_class of class ≡ true
-    → filter (is_rule_of of) (option_to_list (result_ok (rule_with class crossed strip add carried condition)))
-    ≡ option_to_list (result_ok (rule_with class crossed strip add carried condition))
-own-with of class crossed strip add (Err why) condition same = refl
-own-with of class crossed strip add (Ok carried) None same = refl
-own-with of class crossed strip add (Ok carried) (Some condition) same =
-    let rules = option_to_list (result_ok (rule_with class crossed strip add (Ok carried) (Some condition))) in
+    → filter (is_rule_of of) (option_to_list (result_ok (rule_with class crossing strip add carried condition)))
+    ≡ option_to_list (result_ok (rule_with class crossing strip add carried condition))
+own-with of class crossing strip add (Err why) condition same = refl
+own-with of class crossing strip add (Ok carried) None same = refl
+own-with of class crossing strip add (Ok carried) (Some condition) same =
+    let rules = option_to_list (result_ok (rule_with class crossing strip add (Ok carried) (Some condition))) in
     ap (λ b. cond b rules []) same
 
-other-with : (of class : Class) (crossed : Bool) (strip add : List ℕ) (carried : Result (List Flag) AffWhy) (condition : Option (List Piece))
+other-with : (of class : Class) (crossing : Crossing) (strip add : List ℕ) (carried : Result (List Flag) AffWhy) (condition : Option (List Piece))
     → is_same_class of class ≡ false
-    → filter (is_rule_of of) (option_to_list (result_ok (rule_with class crossed strip add carried condition))) ≡ []
-other-with of class crossed strip add (Err why) condition apart = refl
-other-with of class crossed strip add (Ok carried) None apart = refl
-other-with of class crossed strip add (Ok carried) (Some condition) apart =
-    let rules = option_to_list (result_ok (rule_with class crossed strip add (Ok carried) (Some condition))) in
+    → filter (is_rule_of of) (option_to_list (result_ok (rule_with class crossing strip add carried condition))) ≡ []
+other-with of class crossing strip add (Err why) condition apart = refl
+other-with of class crossing strip add (Ok carried) None apart = refl
+other-with of class crossing strip add (Ok carried) (Some condition) apart =
+    let rules = option_to_list (result_ok (rule_with class crossing strip add (Ok carried) (Some condition))) in
     ap (λ b. cond b rules []) apart
 
-own-rule : (kind : FlagKind) (aliases : Option (List (List Flag))) (of class : Class) (crossed : Bool) (strip affix : List ℕ) (condition : Option (List ℕ))
+own-rule : (kind : FlagKind) (aliases : Option (List (List Flag))) (of class : Class) (crossing : Crossing) (strip affix : List ℕ) (condition : Option (List ℕ))
     → is_same_class of class ≡ true
-    → filter (is_rule_of of) (option_to_list (result_ok (rule_from kind aliases class crossed strip affix condition)))
-    ≡ option_to_list (result_ok (rule_from kind aliases class crossed strip affix condition))
+    → filter (is_rule_of of) (option_to_list (result_ok (rule_from kind aliases class crossing strip affix condition)))
+    ≡ option_to_list (result_ok (rule_from kind aliases class crossing strip affix condition))
 unfolding rule_from
-own-rule kind aliases of class crossed strip affix condition same = own-with of class crossed _ _ _ _ same
+own-rule kind aliases of class crossing strip affix condition same = own-with of class crossing _ _ _ _ same
 
-other-rule : (kind : FlagKind) (aliases : Option (List (List Flag))) (of class : Class) (crossed : Bool) (strip affix : List ℕ) (condition : Option (List ℕ))
+other-rule : (kind : FlagKind) (aliases : Option (List (List Flag))) (of class : Class) (crossing : Crossing) (strip affix : List ℕ) (condition : Option (List ℕ))
     → is_same_class of class ≡ false
-    → filter (is_rule_of of) (option_to_list (result_ok (rule_from kind aliases class crossed strip affix condition))) ≡ []
+    → filter (is_rule_of of) (option_to_list (result_ok (rule_from kind aliases class crossing strip affix condition))) ≡ []
 unfolding rule_from
-other-rule kind aliases of class crossed strip affix condition apart = other-with of class crossed _ _ _ _ apart
+other-rule kind aliases of class crossing strip affix condition apart = other-with of class crossing _ _ _ _ apart
 
 own-role : (kind : FlagKind) (aliases : Option (List (List Flag))) (of class : Class) (line : DirectiveLine) (role : Role) → is_same_class of class ≡ true
     → filter (is_rule_of of) (role_rules kind aliases line class role) ≡ role_rules kind aliases line class role
 own-role kind aliases of class line Header same = refl
-own-role kind aliases of class line (Member crossed) same = own-rule kind aliases of class crossed _ _ _ same
+own-role kind aliases of class line (Member crossing) same = own-rule kind aliases of class crossing _ _ _ same
 own-role kind aliases of class line Past same = refl
 own-role kind aliases of class line Unplaced same = refl
 
 other-role : (kind : FlagKind) (aliases : Option (List (List Flag))) (of class : Class) (line : DirectiveLine) (role : Role) → is_same_class of class ≡ false
     → filter (is_rule_of of) (role_rules kind aliases line class role) ≡ []
 other-role kind aliases of class line Header apart = refl
-other-role kind aliases of class line (Member crossed) apart = other-rule kind aliases of class crossed _ _ _ apart
+other-role kind aliases of class line (Member crossing) apart = other-rule kind aliases of class crossing _ _ _ apart
 other-role kind aliases of class line Past apart = refl
 other-role kind aliases of class line Unplaced apart = refl
 
@@ -148,8 +149,8 @@ members kind aliases class before (line ∷ more) =
 
 -- so many of the lines behind the header as it announces are its rules
 
-abbrev pub said_by : FlagKind → Option (List (List Flag)) → Class → Bool → DirectiveLine → Option Rule
-said_by kind aliases class crossed line = result_ok (rule_of kind aliases class crossed line)
+abbrev pub said_by : FlagKind → Option (List (List Flag)) → Class → Crossing → DirectiveLine → Option Rule
+said_by kind aliases class crossing line = result_ok (rule_of kind aliases class crossing line)
 
 one-more : {A : Type 0} (found : Option A) (xs : List A) → option_to_list found ++ xs ≡ cons_option found xs
 one-more None xs = refl
@@ -167,39 +168,39 @@ one-left count behind h = grind (arith, nat_tests)
 nothing-left : (behind : ℕ) → 0 - behind ≡ 0
 nothing-left behind = omega arith
 
-counted : (kind : FlagKind) (aliases : Option (List (List Flag))) (class : Class) (crossed : Bool) (count : Option ℕ) (behind : ℕ) (line : DirectiveLine) (more : List DirectiveLine)
-    → role_rules kind aliases line class (role_wanted crossed (wanted_behind behind count))
-    ++ filter_map (said_by kind aliases class crossed) (take (unwrap_or count 0 - (behind + 1)) more)
-    ≡ filter_map (said_by kind aliases class crossed) (take (unwrap_or count 0 - behind) (line ∷ more))
-counted kind aliases class crossed None behind line more =
-    ap (λ n. filter_map (said_by kind aliases class crossed) (take n more)) (nothing-left (behind + 1))
-    ∙ sym (ap (λ n. filter_map (said_by kind aliases class crossed) (take n (line ∷ more))) (nothing-left behind))
-counted kind aliases class crossed (Some count) behind line more = by-test (count - behind == 0) refl
+counted : (kind : FlagKind) (aliases : Option (List (List Flag))) (class : Class) (crossing : Crossing) (count : Option ℕ) (behind : ℕ) (line : DirectiveLine) (more : List DirectiveLine)
+    → role_rules kind aliases line class (role_wanted crossing (wanted_behind behind count))
+    ++ filter_map (said_by kind aliases class crossing) (take (unwrap_or count 0 - (behind + 1)) more)
+    ≡ filter_map (said_by kind aliases class crossing) (take (unwrap_or count 0 - behind) (line ∷ more))
+counted kind aliases class crossing None behind line more =
+    ap (λ n. filter_map (said_by kind aliases class crossing) (take n more)) (nothing-left (behind + 1))
+    ∙ sym (ap (λ n. filter_map (said_by kind aliases class crossing) (take n (line ∷ more))) (nothing-left behind))
+counted kind aliases class crossing (Some count) behind line more = by-test (count - behind == 0) refl
   where
     by-test : (b : Bool) → (count - behind == 0) ≡ b
-        → role_rules kind aliases line class (cond b Past (Member crossed))
-        ++ filter_map (said_by kind aliases class crossed) (take (count - (behind + 1)) more)
-        ≡ filter_map (said_by kind aliases class crossed) (take (count - behind) (line ∷ more))
+        → role_rules kind aliases line class (cond b Past (Member crossing))
+        ++ filter_map (said_by kind aliases class crossing) (take (count - (behind + 1)) more)
+        ≡ filter_map (said_by kind aliases class crossing) (take (count - behind) (line ∷ more))
     by-test true h =
-        ap (λ n. filter_map (said_by kind aliases class crossed) (take n more)) (none-later count behind h)
-        ∙ sym (ap (λ n. filter_map (said_by kind aliases class crossed) (take n (line ∷ more))) (none-left count behind h))
+        ap (λ n. filter_map (said_by kind aliases class crossing) (take n more)) (none-later count behind h)
+        ∙ sym (ap (λ n. filter_map (said_by kind aliases class crossing) (take n (line ∷ more))) (none-left count behind h))
     by-test false h =
-        one-more (said_by kind aliases class crossed line) (filter_map (said_by kind aliases class crossed) (take (count - (behind + 1)) more))
-        ∙ sym (ap (λ n. filter_map (said_by kind aliases class crossed) (take n (line ∷ more))) (one-left count behind h))
+        one-more (said_by kind aliases class crossing line) (filter_map (said_by kind aliases class crossing) (take (count - (behind + 1)) more))
+        ∙ sym (ap (λ n. filter_map (said_by kind aliases class crossing) (take n (line ∷ more))) (one-left count behind h))
 
 behind-header : (kind : FlagKind) (aliases : Option (List (List Flag))) (class : Class) (header : DirectiveLine) (passed more : List DirectiveLine)
     → rules_behind kind aliases class (header ∷ passed) more
-    ≡ filter_map (said_by kind aliases class (is_crossed header)) (take (unwrap_or (count_of header) 0 - length passed) more)
+    ≡ filter_map (said_by kind aliases class (crossing_of header)) (take (unwrap_or (count_of header) 0 - length passed) more)
 behind-header kind aliases class header passed [] = sym (nothing (unwrap_or (count_of header) 0 - length passed))
   where
-    nothing : (n : ℕ) → filter_map (said_by kind aliases class (is_crossed header)) (take n []) ≡ []
-    nothing n = ap (filter_map (said_by kind aliases class (is_crossed header))) (take-nil n)
+    nothing : (n : ℕ) → filter_map (said_by kind aliases class (crossing_of header)) (take n []) ≡ []
+    nothing n = ap (filter_map (said_by kind aliases class (crossing_of header))) (take-nil n)
 behind-header kind aliases class header passed (line ∷ more) =
-    let f = said_by kind aliases class (is_crossed header) in
-    let here = role_rules kind aliases line class (role_wanted (is_crossed header) (wanted_behind (length passed) (count_of header))) in
+    let f = said_by kind aliases class (crossing_of header) in
+    let here = role_rules kind aliases line class (role_wanted (crossing_of header) (wanted_behind (length passed) (count_of header))) in
     ap (λ rules. here ++ rules) (behind-header kind aliases class header (passed ++ line ∷ []) more)
     ∙ ap (λ n. here ++ filter_map f (take (unwrap_or (count_of header) 0 - n) more)) (length-append passed (line ∷ []))
-    ∙ counted kind aliases class (is_crossed header) (count_of header) (length passed) line more
+    ∙ counted kind aliases class (crossing_of header) (count_of header) (length passed) line more
 
 all-left : (count : ℕ) → count - 0 ≡ count
 all-left count = omega arith
@@ -209,7 +210,7 @@ from-header : (kind : FlagKind) (aliases : Option (List (List Flag))) (class : C
 from-header kind aliases class [] = refl
 from-header kind aliases class (header ∷ behind) =
     behind-header kind aliases class header [] behind
-    ∙ ap (λ n. filter_map (said_by kind aliases class (is_crossed header)) (take n behind)) (all-left (unwrap_or (count_of header) 0))
+    ∙ ap (λ n. filter_map (said_by kind aliases class (crossing_of header)) (take n behind)) (all-left (unwrap_or (count_of header) 0))
 
 pub class-rules : (kind : FlagKind) (aliases : Option (List (List Flag))) (class : Class) (rows : List DirectiveLine)
     → filter (is_rule_of class) (rules_said kind aliases rows) ≡ rules_in kind aliases class (lines_in kind class rows)

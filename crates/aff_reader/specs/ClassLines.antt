@@ -1,5 +1,5 @@
 -- The lines of affix classes, and what each of them is in its class.
-use Rattle.std.specs.Prelude.{◌≡◌, ℕ, Bool, false, ◌==◌, ◌&&◌, ◌-◌, List, [], ◌∷◌, ◌++◌, length, filter, codes, slice_get, Option, None, Some, option_and_then, if◌then◌else◌}
+use Rattle.std.specs.Prelude.{◌≡◌, ℕ, Bool, true, false, ◌==◌, ◌&&◌, ◌-◌, List, [], ◌∷◌, ◌++◌, length, filter, codes, slice_get, Option, None, Some, option_and_then, if◌then◌else◌}
 use Rattle.std.specs.BTreeMap.{BTreeMap, get}
 use Rattle.std.specs.Option.{option_map}
 use Rattle.std.specs.Ordering.{nat_cmp}
@@ -14,8 +14,9 @@ use Rattle.aff_lines.specs.declared.names.Directive.{Directive}
 use Rattle.aff_lines.specs.declared.rows.DirectiveLine.{DirectiveLine}
 use Rattle.aff_lines.specs.Causes.{number_in}
 use Rattle.aff_reader.specs.declared.class_lines.Class.{Class}
+use Rattle.aff_reader.specs.declared.class_lines.Crossing.{Crossing}
 use Rattle.aff_reader.specs.declared.class_lines.Classes.{Classes}
-use Rattle.aff_reader.specs.declared.class_lines.Standing.{Standing}
+use Rattle.aff_reader.specs.declared.class_lines.ClassSoFar.{ClassSoFar}
 use Rattle.aff_reader.specs.declared.class_lines.Role.{Role}
 use Rattle.aff_reader.specs.declared.class_lines.Role.TheVariants.{Header, Member, Past, Unplaced}
 use Rattle.aff_reader.specs.declared.class_lines.Placed.{Placed}
@@ -62,8 +63,12 @@ is_text word None = false
 is_text word (Some text) = bytes_eq word text
 
 -- whether a header lets the rules of its class be crossed
-abbrev pub is_crossed : DirectiveLine → Bool
-is_crossed header = is_text (codes "Y") (field_of header 2)
+abbrev pub crossing_of : DirectiveLine → Crossing
+crossing_of header = if is_text (codes "Y") (field_of header 2) then Crossing.Allowed else Crossing.Barred
+
+abbrev pub is_allowed : Crossing → Bool
+is_allowed Crossing.Allowed = true
+is_allowed Crossing.Barred = false
 
 -- how many rules a header announces
 unfoldable pub count_of : DirectiveLine → Option ℕ
@@ -74,19 +79,19 @@ abbrev pub wanted_behind : ℕ → Option ℕ → Option ℕ
 wanted_behind behind count = option_map (λ n. n - behind) count
 
 -- what the first lines of a class come to: there is none, or the first is its header
-abbrev pub standing_of : List DirectiveLine → Option Standing
+abbrev pub standing_of : List DirectiveLine → Option ClassSoFar
 standing_of [] = None
-standing_of (header ∷ behind) = Some (record { crossed = is_crossed header; wanted = wanted_behind (length behind) (count_of header) })
+standing_of (header ∷ behind) = Some (record { crossing = crossing_of header; wanted = wanted_behind (length behind) (count_of header) })
 
 -- what a line behind the header is, where so many rules are wanted still
-abbrev pub role_wanted : Bool → Option ℕ → Role
-role_wanted crossed None = Unplaced
-role_wanted crossed (Some wanted) = if wanted == 0 then Past else Member crossed
+abbrev pub role_wanted : Crossing → Option ℕ → Role
+role_wanted crossing None = Unplaced
+role_wanted crossing (Some wanted) = if wanted == 0 then Past else Member crossing
 
 -- what the next line of a class is in it
-abbrev pub role_after : Option Standing → Role
+abbrev pub role_after : Option ClassSoFar → Role
 role_after None = Header
-role_after (Some standing) = role_wanted standing.crossed standing.wanted
+role_after (Some standing) = role_wanted standing.crossing standing.wanted
 
 abbrev pub placed_in : FlagKind → List DirectiveLine → Class → Placed
 placed_in kind before class = record { class = class; role = role_after (standing_of (lines_in kind class before)) }
@@ -101,11 +106,11 @@ each_after f before [] = []
 each_after f before (line ∷ more) = f before line ++ each_after f (before ++ line ∷ []) more
 
 -- what is kept of a class, by its flag, for each side
-abbrev pub standing_on : Side → BTreeMap ℕ Standing → BTreeMap ℕ Standing → ℕ → Option Standing
+abbrev pub standing_on : Side → BTreeMap ℕ ClassSoFar → BTreeMap ℕ ClassSoFar → ℕ → Option ClassSoFar
 standing_on Side.Prefix prefixes suffixes flag = get nat_cmp prefixes flag
 standing_on Side.Suffix prefixes suffixes flag = get nat_cmp suffixes flag
 
-abbrev pub standing_in : Classes → Class → Option Standing
+abbrev pub standing_in : Classes → Class → Option ClassSoFar
 standing_in classes class = standing_on class.side classes.prefixes classes.suffixes class.flag.0
 
 -- what is kept of each class is what its lines among these come to

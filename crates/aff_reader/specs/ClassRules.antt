@@ -1,5 +1,5 @@
 -- The rule that a line says.
-use Rattle.std.specs.Prelude.{ℕ, Bool, List, [], ◌∷◌, nat_eq, unwrap_or, Option, None, Some, Result, Ok, Err, if◌then◌else◌}
+use Rattle.std.specs.Prelude.{ℕ, List, [], ◌∷◌, nat_eq, unwrap_or, Option, None, Some, Result, Ok, Err, if◌then◌else◌}
 use Rattle.std.specs.Cmp.Lexicographic.{pointwise}
 use Rattle.std.specs.Str.{chars}
 use Rattle.spell_types.specs.declared.flags.FlagKind.{FlagKind}
@@ -16,7 +16,8 @@ use Rattle.aff_lines.specs.declared.faults.AffWhy.{AffWhy}
 use Rattle.aff_lines.specs.declared.faults.AffWhy.TheVariants.{BadFlag, BadAlias, BadCondition}
 use Rattle.aff_lines.specs.declared.rows.DirectiveLine.{DirectiveLine}
 use Rattle.aff_reader.specs.declared.class_lines.Class.{Class}
-use Rattle.aff_reader.specs.ClassLines.{field_of}
+use Rattle.aff_reader.specs.declared.class_lines.Crossing.{Crossing}
+use Rattle.aff_reader.specs.ClassLines.{field_of, is_allowed}
 
 -- the characters that a text stands for: `0` is nothing
 abbrev pub unless_zero : List ℕ → List ℕ
@@ -47,21 +48,21 @@ asked_of None = Some []
 asked_of (Some text) = condition_of text
 
 -- a rule, where its flags and its condition are right, or the first cause
-abbrev pub rule_with : Class → Bool → List ℕ → List ℕ → Result (List Flag) AffWhy → Option (List Piece) → Result Rule AffWhy
-rule_with class crossed strip add (Err why) condition = Err why
-rule_with class crossed strip add (Ok carried) None = Err BadCondition
-rule_with class crossed strip add (Ok carried) (Some condition) =
-    Ok (record { side = class.side; flag = class.flag; cross = crossed; strip = strip; add = add; carried = carried; condition = condition })
+abbrev pub rule_with : Class → Crossing → List ℕ → List ℕ → Result (List Flag) AffWhy → Option (List Piece) → Result Rule AffWhy
+rule_with class crossing strip add (Err why) condition = Err why
+rule_with class crossing strip add (Ok carried) None = Err BadCondition
+rule_with class crossing strip add (Ok carried) (Some condition) =
+    Ok (record { side = class.side; flag = class.flag; cross = is_allowed crossing; strip = strip; add = add; carried = carried; condition = condition })
 
 -- the rule of a class whose fields 2, 3 and 4 are these texts
-unfoldable pub rule_from : FlagKind → Option (List (List Flag)) → Class → Bool → List ℕ → List ℕ → Option (List ℕ) → Result Rule AffWhy
-rule_from kind aliases class crossed strip affix condition =
-    rule_with class crossed (strip_of strip) (add_of affix) (carried_of kind aliases (behind_slash affix)) (asked_of condition)
+unfoldable pub rule_from : FlagKind → Option (List (List Flag)) → Class → Crossing → List ℕ → List ℕ → Option (List ℕ) → Result Rule AffWhy
+rule_from kind aliases class crossing strip affix condition =
+    rule_with class crossing (strip_of strip) (add_of affix) (carried_of kind aliases (behind_slash affix)) (asked_of condition)
 
 -- the rule that a line of a class says, or what is wrong with it
-abbrev pub rule_of : FlagKind → Option (List (List Flag)) → Class → Bool → DirectiveLine → Result Rule AffWhy
-rule_of kind aliases class crossed line =
-    rule_from kind aliases class crossed (unwrap_or (field_of line 2) []) (unwrap_or (field_of line 3) []) (field_of line 4)
+abbrev pub rule_of : FlagKind → Option (List (List Flag)) → Class → Crossing → DirectiveLine → Result Rule AffWhy
+rule_of kind aliases class crossing line =
+    rule_from kind aliases class crossing (unwrap_or (field_of line 2) []) (unwrap_or (field_of line 3) []) (field_of line 4)
 
 -- the rule without the characters to ignore: they are left out of what it strips off and adds, and kept in its condition
 abbrev pub rule_without : List ℕ → Rule → Rule

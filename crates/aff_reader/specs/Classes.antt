@@ -13,39 +13,40 @@ use Rattle.aff_lines.specs.declared.rows.DirectiveLine.{DirectiveLine}
 use Rattle.aff_lines.specs.Causes.{unless}
 use Rattle.aff_lines.specs.Grammar.{at, faults_at, past_faults}
 use Rattle.aff_reader.specs.declared.class_lines.Class.{Class}
-use Rattle.aff_reader.specs.declared.class_lines.Standing.{Standing}
+use Rattle.aff_reader.specs.declared.class_lines.Crossing.{Crossing}
+use Rattle.aff_reader.specs.declared.class_lines.ClassSoFar.{ClassSoFar}
 use Rattle.aff_reader.specs.declared.class_lines.Role.{Role}
 use Rattle.aff_reader.specs.declared.class_lines.Role.TheVariants.{Header, Member, Past, Unplaced}
 use Rattle.aff_reader.specs.declared.class_lines.Placed.{Placed}
-use Rattle.aff_reader.specs.ClassLines.{field_of, side_of, is_text, is_crossed, count_of, standing_of, lines_in, placed_after, each_after}
+use Rattle.aff_reader.specs.ClassLines.{field_of, side_of, is_text, count_of, standing_of, lines_in, placed_after, each_after}
 use Rattle.aff_reader.specs.ClassRules.{rule_of}
 
 -- whether a header says that its class may be crossed, or that it may not
 abbrev pub says_cross : DirectiveLine → Bool
-says_cross header = is_crossed header || is_text (codes "N") (field_of header 2)
+says_cross header = is_text (codes "Y") (field_of header 2) || is_text (codes "N") (field_of header 2)
 
 abbrev pub wants_none : Option ℕ → Bool
 wants_none wanted = unwrap_or wanted 0 == 0
 
 -- whether the lines of a class that come to this have all rules that their header announces
-abbrev pub has_rules : Option Standing → Bool
+abbrev pub has_rules : Option ClassSoFar → Bool
 has_rules None = true
 has_rules (Some standing) = wants_none standing.wanted
 
 -- the faults of a header where all lines of its class come to this
-abbrev pub header_faults : Option Standing → DirectiveLine → List Fault
+abbrev pub header_faults : Option ClassSoFar → DirectiveLine → List Fault
 header_faults standing header =
     faults_at (unless (is_some (count_of header)) BadNumber) header
     ++ (faults_at (unless (has_rules standing) TableShort) header
     ++ faults_at (unless (says_cross header) BadCross) header)
 
-abbrev pub member_faults : FlagKind → Option (List (List Flag)) → Class → Bool → DirectiveLine → List Fault
-member_faults kind aliases class crossed line = faults_at (result_err (rule_of kind aliases class crossed line)) line
+abbrev pub member_faults : FlagKind → Option (List (List Flag)) → Class → Crossing → DirectiveLine → List Fault
+member_faults kind aliases class crossing line = faults_at (result_err (rule_of kind aliases class crossing line)) line
 
 -- The faults of a line of a class all lines of which come to this. Behind a header without a number nothing is looked at.
-abbrev pub role_faults : FlagKind → Option (List (List Flag)) → Option Standing → DirectiveLine → Class → Role → List Fault
+abbrev pub role_faults : FlagKind → Option (List (List Flag)) → Option ClassSoFar → DirectiveLine → Class → Role → List Fault
 role_faults kind aliases standing line class Header = header_faults standing line
-role_faults kind aliases standing line class (Member crossed) = member_faults kind aliases class crossed line
+role_faults kind aliases standing line class (Member crossing) = member_faults kind aliases class crossing line
 role_faults kind aliases standing line class Past = past_faults line
 role_faults kind aliases standing line class Unplaced = []
 
@@ -102,7 +103,7 @@ abbrev pub class_faults : FlagKind → Option (List (List Flag)) → List Direct
 class_faults kind aliases rows = each_after (line_faults kind aliases rows) [] rows ++ many_faults kind rule_limit rows
 
 abbrev pub role_rules : FlagKind → Option (List (List Flag)) → DirectiveLine → Class → Role → List Rule
-role_rules kind aliases line class (Member crossed) = option_to_list (result_ok (rule_of kind aliases class crossed line))
+role_rules kind aliases line class (Member crossing) = option_to_list (result_ok (rule_of kind aliases class crossing line))
 role_rules kind aliases line class _ = []
 
 abbrev pub placed_rules : FlagKind → Option (List (List Flag)) → DirectiveLine → Option Placed → List Rule

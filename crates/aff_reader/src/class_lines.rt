@@ -6,7 +6,7 @@ ghost use Rattle.spell_types.specs.declared.flags.FlagKind.{FlagKind};
 ghost use Rattle.spell_types.specs.Flags.{IsOrdinary};
 ghost use Rattle.aff_lines.specs.declared.rows.DirectiveLine.{DirectiveLine};
 ghost use Rattle.aff_reader.specs.declared.class_lines.Class.{Class};
-ghost use Rattle.aff_reader.specs.ClassLines.{field_of, side_of, flag_at, class_of, is_same_class, is_text, is_crossed, count_of, standing_of, role_after, placed_after, standing_in, Knows};
+ghost use Rattle.aff_reader.specs.ClassLines.{field_of, side_of, flag_at, class_of, is_same_class, is_text, crossing_of, is_allowed, count_of, standing_of, role_after, placed_after, standing_in, Knows};
 
 use aff_lines::{Directive, DirectiveLine, number_in};
 use flag_sets::read_one_flag;
@@ -23,11 +23,32 @@ pub(crate) struct Class {
     pub(crate) flag: Flag,
 }
 
+/// Whether the rules of a class may stand on a word together with those of the other side.
+#[derive(Clone, Copy)]
+pub(crate) enum Crossing {
+    /// They may.
+    Allowed,
+    /// They may not.
+    Barred,
+}
+
+impl Crossing {
+    /// Whether they may.
+    pub(crate) fn is_allowed(self) -> bool
+        ensures { result ≡ is_allowed self }
+    {
+        match self {
+            Crossing::Allowed => true,
+            Crossing::Barred => false,
+        }
+    }
+}
+
 /// What the first lines of a class come to.
 #[derive(Clone, Copy)]
-pub(crate) struct Standing {
+pub(crate) struct ClassSoFar {
     /// Whether the rules of the class may be crossed.
-    pub(crate) crossed: bool,
+    pub(crate) crossing: Crossing,
     /// How many rules are still wanted. Nobody can tell where the header's number is none.
     pub(crate) wanted: Option<u64>,
 }
@@ -38,7 +59,7 @@ pub(crate) enum Role {
     /// The first line of the class.
     Header,
     /// One of the rules that the header announces, and whether they may be crossed.
-    Member(bool),
+    Member(Crossing),
     /// A line past these rules.
     Past,
     /// A line behind a header without a number.
@@ -55,8 +76,8 @@ pub(crate) struct Placed {
 /// What some lines say of each class, by its flag.
 #[derive(Drop)]
 pub(crate) struct Classes {
-    prefixes: BTreeMap<u64, Standing>,
-    suffixes: BTreeMap<u64, Standing>,
+    prefixes: BTreeMap<u64, ClassSoFar>,
+    suffixes: BTreeMap<u64, ClassSoFar>,
 }
 
 impl Classes {
@@ -94,7 +115,7 @@ impl Classes {
     }
 
     /// What the lines say of a class.
-    pub(crate) fn standing(&self, class: Class) -> Option<Standing>
+    pub(crate) fn standing(&self, class: Class) -> Option<ClassSoFar>
         ensures { result ≡ standing_in self.now class }
     {
         match class.side {
@@ -103,7 +124,7 @@ impl Classes {
         }
     }
 
-    fn set(&mut self, class: Class, standing: Standing) -> Result<(), NoMemory>
+    fn set(&mut self, class: Class, standing: ClassSoFar) -> Result<(), NoMemory>
         ensures { OnOk result ((other : Class) → standing_in self.new other
             ≡ (if is_same_class other class then Some standing else standing_in self.old other)) }
     {
@@ -116,35 +137,35 @@ impl Classes {
 }
 
 /// What the lines of a class come to with one line more.
-fn with_line(standing: Option<Standing>, line: &DirectiveLine) -> Standing
+fn with_line(standing: Option<ClassSoFar>, line: &DirectiveLine) -> ClassSoFar
     ensures { (own : List DirectiveLine) → standing ≡ standing_of own → Some result ≡ standing_of (own ++ line.now ∷ []) }
 {
     match standing {
-        None => Standing {
-            crossed: is_crossed(line),
+        None => ClassSoFar {
+            crossing: crossing_of(line),
             wanted: count_of(line),
         },
-        Some(standing) => Standing {
-            crossed: standing.crossed,
+        Some(standing) => ClassSoFar {
+            crossing: standing.crossing,
             wanted: standing.wanted.map(|wanted| wanted.saturating_sub(1)),
         },
     }
 }
 
 /// What the next line of a class is.
-fn role_after(standing: Option<Standing>) -> Role
+fn role_after(standing: Option<ClassSoFar>) -> Role
     ensures { result ≡ role_after standing }
 {
     match standing {
         None => Role::Header,
-        Some(Standing { wanted: None, .. }) => Role::Unplaced,
+        Some(ClassSoFar { wanted: None, .. }) => Role::Unplaced,
         Some(
-            Standing {
+            ClassSoFar {
                 wanted: Some(0),
                 ..
             },
         ) => Role::Past,
-        Some(Standing { crossed, .. }) => Role::Member(crossed),
+        Some(ClassSoFar { crossing, .. }) => Role::Member(crossing),
     }
 }
 
@@ -195,10 +216,14 @@ pub(crate) fn is_text(word: &str, field: Option<&str>) -> bool
 }
 
 /// Whether a header lets the rules of its class be crossed.
-pub(crate) fn is_crossed(header: &DirectiveLine) -> bool
-    ensures { result ≡ is_crossed header.now }
+pub(crate) fn crossing_of(header: &DirectiveLine) -> Crossing
+    ensures { result ≡ crossing_of header.now }
 {
-    is_text("Y", field_of(header, 2))
+    if is_text("Y", field_of(header, 2)) {
+        Crossing::Allowed
+    } else {
+        Crossing::Barred
+    }
 }
 
 /// How many rules a header announces.

@@ -6,7 +6,7 @@ ghost use Rattle.spell_types.specs.Flags.{IsOrdinary, AreOrdinary};
 ghost use Rattle.spell_types.specs.Sanity.{IsOrdinaryRule};
 ghost use Rattle.aff_reader.specs.ClassRules.{unless_zero, carried_of, asked_of, rule_of, rule_without};
 
-use crate::class_lines::{Class, field_of};
+use crate::class_lines::{Class, Crossing, field_of};
 use aff_lines::{AffWhy, DirectiveLine};
 use affix_classes::{ConditionFault, read_condition};
 use conversions::drop_ignored;
@@ -22,10 +22,10 @@ pub(crate) fn read_rule(
     kind: FlagKind,
     aliases: Option<&[FlagSet]>,
     class: Class,
-    crossed: bool,
+    crossing: Crossing,
     line: &DirectiveLine,
 ) -> Result<Result<Rule, AffWhy>, NoMemory>
-    ensures rule { IfOk result (λ read. read ≡ rule_of kind (option_copied aliases.entry) class crossed line.now) }
+    ensures rule { IfOk result (λ read. read ≡ rule_of kind (option_copied aliases.entry) class crossing line.now) }
     ensures ordinary { IfSome (option_copied aliases.entry) (All AreOrdinary) → IsOrdinary class.flag
         → IfOk result (λ read. IfOk read IsOrdinaryRule) }
 {
@@ -43,7 +43,7 @@ pub(crate) fn read_rule(
     Ok(Ok(Rule {
         side: class.side,
         flag: class.flag,
-        cross: crossed,
+        cross: crossing.is_allowed(),
         strip: unless_zero(alloc, chars_of(alloc, strip)?),
         add: unless_zero(alloc, add),
         carried,

@@ -14,9 +14,7 @@ ghost use Rattle.aff_reader.specs.ClassMembers.{is_rule_of, rules_in};
 ghost use Rattle.aff_reader.specs.ClassRules.{rule_without};
 ghost use Rattle.aff_reader.specs.Classes.{says_cross, has_rules, header_faults, role_faults, side_faults, line_faults, heads, announced_by, total_faults, many_faults, rule_limit, class_faults, placed_rules, rules_said};
 
-use crate::class_lines::{
-    Classes, Placed, Role, Standing, count_of, field_of, is_crossed, is_text, side_of,
-};
+use crate::class_lines::{ClassSoFar, Classes, Placed, Role, count_of, field_of, is_text, side_of};
 use crate::class_rules::{read_rule, without_ignored};
 use aff_lines::{AffWhy, DirectiveLine, Fault, earliest_faults, fault_at, sooner, unless};
 use lists::{Items, NoMemory};
@@ -149,7 +147,7 @@ fn role_fault(
     alloc: Global,
     kind: FlagKind,
     aliases: Option<&[FlagSet]>,
-    standing: Option<Standing>,
+    standing: Option<ClassSoFar>,
     line: &DirectiveLine,
     placed: Placed,
 ) -> Result<Option<Fault>, NoMemory>
@@ -158,8 +156,8 @@ fn role_fault(
 {
     match placed.role {
         Role::Header => Ok(header_fault(standing, line)),
-        Role::Member(crossed) => {
-            let read = read_rule(alloc, kind, aliases, placed.class, crossed, line)?;
+        Role::Member(crossing) => {
+            let read = read_rule(alloc, kind, aliases, placed.class, crossing, line)?;
             Ok(fault_at(read.err(), line))
         }
         Role::Past => Ok(fault_at(Some(AffWhy::Twice), line)),
@@ -168,7 +166,7 @@ fn role_fault(
 }
 
 /// The earliest fault of a header of a class that comes to this.
-fn header_fault(standing: Option<Standing>, header: &DirectiveLine) -> Option<Fault>
+fn header_fault(standing: Option<ClassSoFar>, header: &DirectiveLine) -> Option<Fault>
     ensures { result ≡ least_of (header_faults standing header.now) }
 {
     earliest_faults();
@@ -185,11 +183,11 @@ fn header_fault(standing: Option<Standing>, header: &DirectiveLine) -> Option<Fa
 fn says_cross(header: &DirectiveLine) -> bool
     ensures { result ≡ says_cross header.now }
 {
-    is_crossed(header) || is_text("N", field_of(header, 2))
+    is_text("Y", field_of(header, 2)) || is_text("N", field_of(header, 2))
 }
 
 /// Whether the lines of a class that comes to this have all rules that its header announces.
-fn has_rules(standing: Option<Standing>) -> bool
+fn has_rules(standing: Option<ClassSoFar>) -> bool
     ensures { result ≡ has_rules standing }
 {
     match standing {
@@ -282,13 +280,13 @@ fn push_rule(
     let Some(
         Placed {
             class,
-            role: Role::Member(crossed),
+            role: Role::Member(crossing),
         },
     ) = placed
     else {
         return Ok(());
     };
-    if let Ok(rule) = read_rule(alloc, kind, aliases, class, crossed, line)? {
+    if let Ok(rule) = read_rule(alloc, kind, aliases, class, crossing, line)? {
         rules.push(without_ignored(alloc, ignore, rule)?)?;
     }
     Ok(())
