@@ -1,8 +1,9 @@
 -- The loops over the rows of a table, over directives, and over aliases.
 use Rattle.std.proofs.Common.{◌≡◌, ℕ, zero, suc, ◌+◌, ◌-◌, ◌<◌, ◌==◌, Bool, true, false, cond, List, [], ◌∷◌, ◌++◌, length, map, take, drop, Option, Some, None, refl, sym, ap, ◌∙◌, get_or, append_assoc, arith}
+use Rattle.std.specs.Borrow.{Bor}
 use Rattle.std.specs.List.{filter, flat_map}
 use Rattle.std.specs.Option.{option_or}
-use Rattle.std.proofs.lemmas.List.{take_more, append-nil}
+use Rattle.std.proofs.lemmas.List.{take_more, append-nil, map-append}
 use Rattle.std.proofs.lemmas.Bool.Decides.{nat_tests}
 use Rattle.std.proofs.lemmas.Grind.{flat_map-append}
 use Rattle.spell_types.specs.declared.flags.Flag.{Flag}
@@ -17,7 +18,7 @@ use Rattle.aff_lines.specs.declared.rows.DirectiveLine.{DirectiveLine}
 use Rattle.aff_lines.specs.Faults.{sooner, least_of, first_fault}
 use Rattle.aff_lines.specs.Grammar.{at, row_faults, past_faults, rows_faults, place_faults}
 use Rattle.aff_lines.specs.Names.{Description, description_of, is_of, all_directives, directives_in}
-use Rattle.aff_lines.specs.Passes.{directive_faults, pass_faults, faults_in, set_in, kind_said, bad_faults, passes_of}
+use Rattle.aff_lines.specs.Passes.{directive_faults, pass_faults, faults_in, lines_at, set_in, kind_said, bad_faults, passes_of}
 use Rattle.aff_lines.specs.Rows.{lines_of}
 use Rattle.aff_lines.proofs.FaultLemmas.{found_more, least_append}
 
@@ -99,19 +100,34 @@ pass_all kind rows pass directives found is told =
     ∙ ap (λ ds. least_of (flat_map (faults_in kind rows pass) ds)) is
     ∙ ap least_of (faults-of-pass kind rows pass all_directives)
 
--- a turn of the loop over the rows of AF
-pub sets_turn : (kind : FlagKind) (sets pushed total : List (List Flag)) (set : List Flag) (left : ℕ) (own more : List DirectiveLine) (line : DirectiveLine)
-    → 0 < left → pushed ≡ sets ++ set ∷ [] → set ≡ set_in kind line → own ≡ line ∷ more
-    → sets ++ map (set_in kind) (take left own) ≡ total
-    → pushed ++ map (set_in kind) (take (left - 1) more) ≡ total
-sets_turn kind sets pushed total set zero own more line some grown same is so_far = absurd (omega (arith, some))
-sets_turn kind sets pushed total set (suc left) own more line some grown same is so_far =
+-- a turn of the loop that gathers the rows of a table
+pub lines_turn : (found pushed : List (Bor DirectiveLine)) (total : List DirectiveLine) (left : ℕ) (own more : List DirectiveLine) (line : Bor DirectiveLine)
+    → 0 < left → pushed ≡ found ++ line ∷ [] → own ≡ line.now ∷ more
+    → lines_at found ++ take left own ≡ total
+    → lines_at pushed ++ take (left - 1) more ≡ total
+lines_turn found pushed total zero own more line some grown is so_far = absurd (omega (arith, some))
+lines_turn found pushed total (suc left) own more line some grown is so_far =
     let less : suc left - 1 ≡ left = omega arith in
-    ap (λ n. pushed ++ map (set_in kind) (take n more)) less
-    ∙ ap (λ now. now ++ map (set_in kind) (take left more)) (grown ∙ ap (λ s. sets ++ s ∷ []) same)
-    ∙ append_assoc sets (set_in kind line ∷ []) (map (set_in kind) (take left more))
-    ∙ sym (ap (λ lines. sets ++ map (set_in kind) (take (suc left) lines)) is)
+    ap (λ n. lines_at pushed ++ take n more) less
+    ∙ ap (λ now. now ++ take left more) (ap lines_at grown ∙ map-append (λ (l : Bor DirectiveLine). l.now) found (line ∷ []))
+    ∙ append_assoc (lines_at found) (line.now ∷ []) (take left more)
+    ∙ sym (ap (λ lines. lines_at found ++ take (suc left) lines) is)
     ∙ so_far
+
+-- a turn of the loop over the rows of AF
+pub sets_turn : (kind : FlagKind) (sets pushed : List (List Flag)) (set : List Flag) (lines : List (Bor DirectiveLine)) (place : ℕ) (line : Bor DirectiveLine)
+    → place < length lines → line ≡ get_or lines place line → pushed ≡ sets ++ set ∷ [] → set ≡ set_in kind line.now
+    → sets ≡ map (set_in kind) (lines_at (take place lines))
+    → pushed ≡ map (set_in kind) (lines_at (take (place + 1) lines))
+sets_turn kind sets pushed set lines place line within is grown same so_far =
+    let before = take place lines in
+    let whole : lines_at (take (place + 1) lines) ≡ lines_at before ++ line.now ∷ [] =
+    ap lines_at (take_more lines place line within ∙ ap (λ (l : Bor DirectiveLine). before ++ l ∷ []) (sym is))
+    ∙ map-append (λ (l : Bor DirectiveLine). l.now) before (line ∷ []) in
+    grown
+    ∙ ap (λ s. sets ++ s ∷ []) same
+    ∙ ap (λ s. s ++ set_in kind line.now ∷ []) so_far
+    ∙ sym (ap (map (set_in kind)) whole ∙ map-append (set_in kind) (lines_at before) (line.now ∷ []))
 
 or-none : (found : Option Fault) → option_or found None ≡ found
 or-none None = refl

@@ -74,10 +74,9 @@ abbrev pub table_rows : List DirectiveLine → Option (List DirectiveLine)
 table_rows [] = None
 table_rows (header ∷ later) = Some (take (unwrap_or (number_at header) 0) later)
 
--- a table is there, with so many rows at most, which are the first of its other lines among these rows; or it is not there
-abbrev pub IsTable : Directive → List DirectiveLine → Option (ℕ × Bor (List DirectiveLine)) → Type 0
-IsTable directive rows None = table_rows (lines_of directive rows) ≡ None
-IsTable directive rows (Some (count, later)) = table_rows (lines_of directive rows) ≡ Some (take count (lines_of directive later.now))
+-- the lines that references lead to
+abbrev pub lines_at : List (Bor DirectiveLine) → List DirectiveLine
+lines_at lines = map (λ line. line.now) lines
 
 abbrev pub or_empty : Result (List Flag) FlagFault → List Flag
 or_empty (Ok set) = set

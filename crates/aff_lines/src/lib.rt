@@ -36,7 +36,7 @@ pub use names::{
 };
 pub use passes::{fault_at, find_fault};
 pub use rows::{DirectiveLine, next_of, rows_begin_with_names, value_of};
-pub use values::{flag_said, is_said, number_said, table_of, value_said};
+pub use values::{flag_said, is_said, number_said, table_rows, value_said};
 
 /// What the first three passes over an .aff file say.
 #[derive(Debug, Drop)]

@@ -1,11 +1,11 @@
 //! What the lines of a directive say.
 
 ghost use Rattle.std.specs.Prelude.{◌≡◌, All, IfOk, IfSome, map, take, unwrap_or};
-ghost use Rattle.std.specs.Option.{option_copied};
+ghost use Rattle.std.specs.Option.{option_copied, option_map};
 ghost use Rattle.spell_types.specs.Flags.{IsOrdinary, AreOrdinary};
 ghost use Rattle.aff_lines.specs.declared.names.Directive.{Directive};
 ghost use Rattle.aff_lines.specs.Causes.{number_at};
-ghost use Rattle.aff_lines.specs.Passes.{value_said, flag_said, number_said, is_said, IsTable, kind_said, set_in, aliases_said};
+ghost use Rattle.aff_lines.specs.Passes.{value_said, flag_said, number_said, is_said, table_rows, lines_at, kind_said, set_in, aliases_said};
 ghost use Rattle.aff_lines.specs.Rows.{lines_of};
 
 use crate::causes::{kind_named, number_at, number_in};
@@ -46,12 +46,42 @@ pub fn is_said(directive: Directive, rows: &[DirectiveLine]) -> bool
     next_of(directive, rows).is_some()
 }
 
-/// How many rows a table has, and the lines behind its header, of which they are the first.
-pub fn table_of(directive: Directive, rows: &[DirectiveLine]) -> Option<(u64, &[DirectiveLine])>
-    ensures { IsTable directive rows.now result }
+/// The rows of a table, if it is there: of the lines behind its header the first, as many as that says.
+pub fn table_rows<'a>(
+    alloc: Global,
+    directive: Directive,
+    rows: &'a [DirectiveLine],
+) -> Result<Option<Items<&'a DirectiveLine>>, NoMemory>
+    ensures { IfOk result (λ found. option_map lines_at found ≡ table_rows (lines_of directive rows.now)) }
 {
-    let (header, later) = next_of(directive, rows)?;
-    Some((number_at(header).unwrap_or(0), later))
+    let Some((header, later)) = next_of(directive, rows) else {
+        return Ok(None);
+    };
+    let count = number_at(header).unwrap_or(0);
+    Ok(Some(first_lines(alloc, directive, count, later)?))
+}
+
+/// The first lines of a directive, so many at most.
+fn first_lines<'a>(
+    alloc: Global,
+    directive: Directive,
+    count: u64,
+    rows: &'a [DirectiveLine],
+) -> Result<Items<&'a DirectiveLine>, NoMemory>
+    ensures { IfOk result (λ found. lines_at found ≡ take count (lines_of directive rows.now)) }
+{
+    let mut found = Items::new(alloc);
+    let mut left = count;
+    let mut rest = rows;
+    while left > 0 {
+        let Some((line, more)) = next_of(directive, rest) else {
+            return Ok(found);
+        };
+        found.push(line)?;
+        left -= 1;
+        rest = more;
+    }
+    Ok(found)
 }
 
 /// The type of flags that the rows say.
@@ -73,32 +103,24 @@ pub(crate) fn read_aliases(
     ensures said { IfOk result (λ aliases. aliases ≡ aliases_said kind (lines_of Directive.FlagAliases rows.now)) }
     ensures ordinary { IfOk result (λ aliases. IfSome aliases (All AreOrdinary)) }
 {
-    let Some((count, later)) = table_of(Directive::FlagAliases, rows) else {
-        return Ok(None);
-    };
-    Ok(Some(read_sets(alloc, kind, count, later)?))
+    match table_rows(alloc, Directive::FlagAliases, rows)? {
+        Some(lines) => Ok(Some(read_sets(alloc, kind, &lines)?)),
+        None => Ok(None),
+    }
 }
 
-/// The sets of the first lines of AF, of so many.
+/// The sets of the rows of AF.
 fn read_sets(
     alloc: Global,
     kind: FlagKind,
-    count: u64,
-    rows: &[DirectiveLine],
+    lines: &[&DirectiveLine],
 ) -> Result<Items<FlagSet>, NoMemory>
-    ensures said { IfOk result (λ sets. sets ≡ map (set_in kind) (take count (lines_of Directive.FlagAliases rows.now))) }
+    ensures said { IfOk result (λ sets. sets ≡ map (set_in kind) (lines_at lines.now)) }
     ensures ordinary { IfOk result (All AreOrdinary) }
 {
     let mut sets = Items::new(alloc);
-    let mut left = count;
-    let mut rest = rows;
-    while left > 0 {
-        let Some((line, more)) = next_of(Directive::FlagAliases, rest) else {
-            return Ok(sets);
-        };
+    for line in lines {
         sets.push(read_set(alloc, kind, line)?)?;
-        left -= 1;
-        rest = more;
     }
     Ok(sets)
 }

@@ -1,15 +1,18 @@
 -- What the rows of tables say, one row after another.
-use Rattle.std.proofs.Common.{◌≡◌, ℕ, suc, zero, ◌-◌, ◌<◌, true, List, [], ◌∷◌, ◌++◌, length, take, filter, Option, Some, None, Result, Ok, Err, IfOk, refl, sym, ap, ◌∙◌, subst, arith, append_assoc}
+use Rattle.std.proofs.Common.{◌≡◌, ℕ, ◌+◌, ◌<◌, true, List, [], ◌∷◌, ◌++◌, length, take, filter, Option, Some, None, Result, Ok, Err, IfOk, refl, sym, ap, ◌∙◌, subst, arith, get_or}
+use Rattle.std.specs.Borrow.{Bor}
 use Rattle.std.specs.List.{cons_option, filter_map, slice_get, slice_split}
 use Rattle.std.specs.Option.{option_to_list}
 use lib.Utf8.{encodes}
 use Rattle.std.specs.Str.{chars, IsUtf8}
 use Rattle.std.proofs.lemmas.Bool.Decides.{nat_tests}
-use Rattle.std.proofs.lemmas.List.Elements.{filter_passes}
+use Rattle.std.proofs.lemmas.List.{map-append, take_more}
+use Rattle.std.proofs.lemmas.List.Elements.{filter_map-append, filter_passes}
 use Rattle.std.proofs.lemmas.Option.{slice_get_within, get_or_from_slice_get}
 use Rattle.std.proofs.lemmas.Str.{encodes-chars}
 use Rattle.text_lines.specs.Fields.{fields, has_bytes, is_blank}
 use Rattle.aff_lines.specs.declared.rows.DirectiveLine.{DirectiveLine}
+use Rattle.aff_lines.specs.Passes.{lines_at}
 
 bytes-some : (piece : List ℕ) → has_bytes piece ≡ true → 0 < length piece
 bytes-some piece h = grind (arith, nat_tests)
@@ -35,21 +38,21 @@ pub made-some : {E : Type 0} (made : Result (List ℕ) E) (cs : List ℕ) → If
 made-some (Ok own) cs is some = subst (λ (all : List ℕ). 0 < length all) (sym is) some
 made-some (Err fault) cs is some = tt
 
-listed-first : {A : Type 0} (said : Option A) (more : List A) → option_to_list said ++ more ≡ cons_option said more
-listed-first None more = refl
-listed-first (Some own) more = refl
+one-or-none : {A : Type 0} (said : Option A) → cons_option said [] ≡ option_to_list said
+one-or-none None = refl
+one-or-none (Some own) = refl
 
 -- a turn of a loop over the rows of a table
-pub table-turn : {A : Type 0} (said : DirectiveLine → Option A) (made pushed total : List A) (left : ℕ) (own more : List DirectiveLine) (row : DirectiveLine)
-    → 0 < left → pushed ≡ made ++ option_to_list (said row) → own ≡ row ∷ more
-    → made ++ filter_map said (take left own) ≡ total
-    → pushed ++ filter_map said (take (left - 1) more) ≡ total
-table-turn said made pushed total zero own more row some grown is so_far = absurd (omega (arith, some))
-table-turn said made pushed total (suc left) own more row some grown is so_far =
-    let less : suc left - 1 ≡ left = omega arith in
-    ap (λ n. pushed ++ filter_map said (take n more)) less
-    ∙ ap (λ now. now ++ filter_map said (take left more)) grown
-    ∙ append_assoc made (option_to_list (said row)) (filter_map said (take left more))
-    ∙ ap (λ rest. made ++ rest) (listed-first (said row) (filter_map said (take left more)))
-    ∙ sym (ap (λ lines. made ++ filter_map said (take (suc left) lines)) is)
-    ∙ so_far
+pub table-turn : {A : Type 0} (said : DirectiveLine → Option A) (made pushed : List A) (rows : List (Bor DirectiveLine)) (place : ℕ) (row : Bor DirectiveLine)
+    → place < length rows → row ≡ get_or rows place row → pushed ≡ made ++ option_to_list (said row.now)
+    → made ≡ filter_map said (lines_at (take place rows))
+    → pushed ≡ filter_map said (lines_at (take (place + 1) rows))
+table-turn said made pushed rows place row within is grown so_far =
+    let before = take place rows in
+    let whole : lines_at (take (place + 1) rows) ≡ lines_at before ++ row.now ∷ [] =
+    ap lines_at (take_more rows place row within ∙ ap (λ (r : Bor DirectiveLine). before ++ r ∷ []) (sym is))
+    ∙ map-append (λ (l : Bor DirectiveLine). l.now) before (row ∷ []) in
+    grown
+    ∙ ap (λ m. m ++ option_to_list (said row.now)) so_far
+    ∙ sym (ap (filter_map said) whole ∙ filter_map-append said (lines_at before) (row.now ∷ [])
+    ∙ ap (λ own. filter_map said (lines_at before) ++ own) (one-or-none (said row.now)))

@@ -25,7 +25,7 @@ pub(crate) fn read_anchored(alloc: Global, text: &[char]) -> Result<Anchored, No
 fn has_front(text: &[char]) -> bool
     ensures { result ≡ has_front text.now }
 {
-    text.len() > 1 && text.starts_with(['^'].as_slice())
+    text.len() > 1 && text.starts_with(&['^'])
 }
 
 fn without_front(text: &[char]) -> &[char]
@@ -39,7 +39,7 @@ fn without_front(text: &[char]) -> &[char]
 fn has_back(text: &[char]) -> bool
     ensures { result ≡ has_back text.now }
 {
-    text.len() > 1 && text.ends_with(['$'].as_slice())
+    text.len() > 1 && text.ends_with(&['$'])
 }
 
 fn without_back(text: &[char]) -> &[char]

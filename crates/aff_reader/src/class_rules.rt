@@ -57,8 +57,8 @@ pub(crate) fn without_ignored(alloc: Global, ignore: &[char], rule: Rule) -> Res
     ensures ordinary { IsOrdinaryRule rule → IfOk result IsOrdinaryRule }
 {
     Ok(Rule {
-        strip: drop_ignored(alloc, ignore, rule.strip.as_slice())?,
-        add: drop_ignored(alloc, ignore, rule.add.as_slice())?,
+        strip: drop_ignored(alloc, ignore, &rule.strip)?,
+        add: drop_ignored(alloc, ignore, &rule.add)?,
         ..rule
     })
 }

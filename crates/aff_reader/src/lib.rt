@@ -59,14 +59,13 @@ fn read_passes(alloc: Global, bytes: &[u8]) -> Result<Affixes, AffFault>
         aliases,
         kept,
     } = read_directives(alloc, bytes)?;
-    let rows = kept.as_slice();
-    if let Some(fault) = late_fault(alloc, kind, alias_sets(&aliases), rows)? {
+    if let Some(fault) = late_fault(alloc, kind, alias_sets(&aliases), &kept)? {
         return Err(AffFault::At {
             line: fault.line,
             why: fault.why,
         });
     }
-    Ok(read_affixes(alloc, kind, aliases, rows)?)
+    Ok(read_affixes(alloc, kind, aliases, &kept)?)
 }
 
 /// The first fault of the fourth pass.
@@ -99,7 +98,7 @@ fn read_affixes(
     ensures ordinary { IfSome aliases (All AreOrdinary) → IfOk result HasOrdinaryFlags }
 {
     let ignore = characters_of(alloc, value_said(Directive::Ignore, rows))?;
-    let rules = read_rules(alloc, kind, alias_sets(&aliases), ignore.as_slice(), rows)?;
+    let rules = read_rules(alloc, kind, alias_sets(&aliases), &ignore, rows)?;
     Ok(Affixes {
         kind,
         aliases,

@@ -1,15 +1,16 @@
 //! What the tables of an .aff file say.
 
-ghost use Rattle.std.specs.Prelude.{◌≡◌, ◌++◌, ◌<◌, ℕ, List, Some, All, length, take, filter_map, IfOk, OnOk};
+ghost use Rattle.std.specs.Prelude.{◌≡◌, ◌++◌, ◌<◌, ℕ, List, Some, All, length, filter_map, IfOk, OnOk};
 ghost use Rattle.std.specs.Option.{option_to_list};
 ghost use Rattle.std.specs.Str.{chars};
 ghost use Rattle.aff_lines.specs.declared.names.Directive.{Directive};
+ghost use Rattle.aff_lines.specs.Passes.{lines_at};
 ghost use Rattle.aff_lines.specs.Rows.{lines_of};
 ghost use Rattle.aff_reader.specs.Tables.{text_at, conversion_in, conversions_said, break_in, default_breaks, breaks_said};
 
 use crate::anchored_texts::read_anchored;
 use crate::class_lines::field_of;
-use aff_lines::{Directive, DirectiveLine, next_of, table_of};
+use aff_lines::{Directive, DirectiveLine, table_rows};
 use lists::{Items, NoMemory};
 use spell_types::{Anchored, Chars, Conversion, chars_of};
 use std::alloc::Global;
@@ -23,8 +24,8 @@ pub(crate) fn read_conversions(
         (λ made. made ≡ conversions_said (lines_of Directive.InputConversion rows.now)) }
     ensures some { IfOk result (All (λ row. 0 < length row.from)) }
 {
-    match table_of(Directive::InputConversion, rows) {
-        Some((count, later)) => listed_conversions(alloc, count, later),
+    match table_rows(alloc, Directive::InputConversion, rows)? {
+        Some(listed) => listed_conversions(alloc, &listed),
         None => Ok(Items::new(alloc)),
     }
 }
@@ -37,32 +38,20 @@ pub(crate) fn read_breaks(
     ensures said { IfOk result (λ made. made ≡ breaks_said (lines_of Directive.Break rows.now)) }
     ensures some { IfOk result (All (λ anchored. 0 < length anchored.text)) }
 {
-    match table_of(Directive::Break, rows) {
-        Some((count, later)) => listed_breaks(alloc, count, later),
+    match table_rows(alloc, Directive::Break, rows)? {
+        Some(listed) => listed_breaks(alloc, &listed),
         None => default_breaks(alloc),
     }
 }
 
-/// The conversions of the first lines of ICONV, of so many.
-fn listed_conversions(
-    alloc: Global,
-    count: u64,
-    rows: &[DirectiveLine],
-) -> Result<Items<Conversion>, NoMemory>
-    ensures said { IfOk result (λ made. made
-        ≡ filter_map conversion_in (take count (lines_of Directive.InputConversion rows.now))) }
+/// The conversions that the rows of ICONV say.
+fn listed_conversions(alloc: Global, rows: &[&DirectiveLine]) -> Result<Items<Conversion>, NoMemory>
+    ensures said { IfOk result (λ made. made ≡ filter_map conversion_in (lines_at rows.now)) }
     ensures some { IfOk result (All (λ row. 0 < length row.from)) }
 {
     let mut made = Items::new(alloc);
-    let mut left = count;
-    let mut rest = rows;
-    while left > 0 {
-        let Some((row, more)) = next_of(Directive::InputConversion, rest) else {
-            return Ok(made);
-        };
+    for row in rows {
         push_conversion(alloc, &mut made, row)?;
-        left -= 1;
-        rest = more;
     }
     Ok(made)
 }
@@ -83,26 +72,14 @@ fn push_conversion(
     Ok(())
 }
 
-/// The break patterns of the first lines of BREAK, of so many.
-fn listed_breaks(
-    alloc: Global,
-    count: u64,
-    rows: &[DirectiveLine],
-) -> Result<Items<Anchored>, NoMemory>
-    ensures said { IfOk result
-        (λ made. made ≡ filter_map break_in (take count (lines_of Directive.Break rows.now))) }
+/// The break patterns that the rows of BREAK say.
+fn listed_breaks(alloc: Global, rows: &[&DirectiveLine]) -> Result<Items<Anchored>, NoMemory>
+    ensures said { IfOk result (λ made. made ≡ filter_map break_in (lines_at rows.now)) }
     ensures some { IfOk result (All (λ anchored. 0 < length anchored.text)) }
 {
     let mut made = Items::new(alloc);
-    let mut left = count;
-    let mut rest = rows;
-    while left > 0 {
-        let Some((row, more)) = next_of(Directive::Break, rest) else {
-            return Ok(made);
-        };
+    for row in rows {
         push_break(alloc, &mut made, row)?;
-        left -= 1;
-        rest = more;
     }
     Ok(made)
 }
@@ -118,7 +95,7 @@ fn push_break(
         → OnOk result (All (λ anchored. 0 < length anchored.text) made.new) }
 {
     if let Some(text) = text_at(alloc, row, 1)? {
-        made.push(read_anchored(alloc, text.as_slice())?)?;
+        made.push(read_anchored(alloc, &text)?)?;
     }
     Ok(())
 }

@@ -10,9 +10,9 @@ returns-in_err-kind-clause-read c =
 
 pub returns-in-Some-clause-read : goal.returns-in-Some-clause-read
 returns-in-Some-clause-read c =
-    read_late c.args.bytes.now c.in_ok-kind.kind c.in_ok-kind.aliases c.as_slice-rows.result.now c.in-Some.fault
+    read_late c.args.bytes.now c.in_ok-kind.kind c.in_ok-kind.aliases c.deref.result.now c.in-Some.fault
     (cc (c.in_ok-kind.kind-is, c.in_ok-kind.ensures.read.says.kind))
     (cc (c.in_ok-kind.aliases-is, c.in_ok-kind.ensures.read.says.kind, c.in_ok-kind.ensures.read.says.aliases))
-    (cc (c.as_slice-rows.ensures, c.in_ok-kind.ensures.read.says.kept))
+    (cc (c.deref.ensures, c.in_ok-kind.ensures.read.says.kept))
     c.in_ok-kind.ensures.fine
     (cc (c.in-Some.is, c.in_ok-fault.ensures.least, c.alias_sets.ensures))

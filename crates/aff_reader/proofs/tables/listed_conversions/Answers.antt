@@ -1,14 +1,11 @@
 -- A row adds what it says.
-use Rattle.aff_lines.specs.declared.names.Directive.TheVariants as Directive
-use Rattle.aff_lines.specs.Rows.{lines_of}
 use Rattle.aff_reader.specs.Tables.{conversion_in}
 use Rattle.aff_reader.proofs.TableLemmas.{table-turn}
 use Rattle.aff_reader.proofs.tables.listed_conversions.Goals as goal
 
-pub loop-left-preserved : goal.loop-left-preserved
-loop-left-preserved c = record {
-  said = table-turn conversion_in c.loop-left.made c.push_conversion.new.made _ c.loop-left.left
-      (lines_of Directive.InputConversion c.loop-left.rest.now) (lines_of Directive.InputConversion c.in-Some.more.now) c.in-Some.row.now
-      c.loop-left-test.true c.in_ok-push_conversion.ensures.said c.in-Some.ensures.0 c.loop-left.invariant.said;
-  some = c.in_ok-push_conversion.ensures.some c.loop-left.invariant.some;
+pub loop-row-preserved : goal.loop-row-preserved
+loop-row-preserved c = record {
+  said = table-turn conversion_in c.loop-row.made c.push_conversion.new.made c.args.rows.now c.loop-row.row-index c.row-item.result
+      c.loop-row-test.true c.row-item.is c.in_ok-push_conversion.ensures.said c.loop-row.invariant.said;
+  some = c.in_ok-push_conversion.ensures.some c.loop-row.invariant.some;
 }
