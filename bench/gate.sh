@@ -22,12 +22,16 @@ while kill -0 "$gate" 2> /dev/null; do
 done
 wait "$gate" || status=$?
 
-# The last look at each prover tells its seconds: `build .. --test` proves tests, any other `build` a crate, `check` an edit.
+# The last look at each prover tells its seconds: `build .. --test` proves tests, any other `build` a library, `check` an edit,
+# but for the first `check` of a program, which proves it.
 awk '
     $3 ~ /rattle$/ && match($0, /--crate-name [a-z_]+/) {
         crate = substr($0, RSTART + 13, RLENGTH - 13)
-        kind = $4 == "check" ? "edits" : ($0 ~ / --test / ? "tests" : "crate")
-        seconds[$1] = $2; crates[$1] = crate; kinds[$1] = kind
+        seconds[$1] = $2; crates[$1] = crate
+        if ($1 in kinds) next
+        is_proof = $4 != "check" || ($0 ~ /src\/main.rt/ && !(crate in proved))
+        if (is_proof) proved[crate]
+        kinds[$1] = !is_proof ? "edits" : ($0 ~ / --test / ? "tests" : "crate")
     }
     END {
         for (pid in seconds) { spent[crates[pid], kinds[pid]] += seconds[pid]; sum[kinds[pid]] += seconds[pid]; names[crates[pid]] = 1 }

@@ -61,11 +61,11 @@ pub fn check<F: Files>(alloc: Global, names: Names<'_>, files: &mut F) -> Result
     ensures words { ¬ (IsErrOf result Stop.Words) }
 {
     let aff = load(alloc, files, names.aff, DICTIONARY_LIMIT)?;
-    let affixes = read_affixes(alloc, aff.as_slice())?;
+    let affixes = read_affixes(alloc, &aff)?;
     let dic = load(alloc, files, names.dic, DICTIONARY_LIMIT)?;
-    let entries = read_entries(alloc, &affixes, dic.as_slice())?;
+    let entries = read_entries(alloc, &affixes, &dic)?;
     let document = load(alloc, files, names.document, DOCUMENT_LIMIT)?;
-    check_document(alloc, affixes, entries, document.as_slice())
+    check_document(alloc, affixes, entries, &document)
 }
 
 /// The bytes of the file.
@@ -137,7 +137,7 @@ fn check_document(
         return Err(Stop::Document { line });
     }
     let speller = Speller::build(alloc, affixes, entries)?;
-    match make_report(alloc, &speller, document, found.good.as_slice()) {
+    match make_report(alloc, &speller, document, &found.good) {
         Ok(report) => Ok(report),
         Err(NoMemory) => Err(Stop::NoMemory),
     }

@@ -34,7 +34,7 @@ pub fn check_paragraph<J: Judge>(alloc: Global, judge: &J, text: &str) -> Result
     words_stand_in_their_text();
     marks_are_local();
     let spans = cut(alloc, text, judge.wordchars())?;
-    let marks = marks_of_spans(alloc, judge, text, spans.as_slice())?;
+    let marks = marks_of_spans(alloc, judge, text, &spans)?;
     Ok(Checked {
         marks,
         words: spans.len(),
@@ -87,5 +87,5 @@ fn is_known<J: Judge>(alloc: Global, judge: &J, word: &str) -> Result<bool, NoMe
     ensures { IfOk result (λ known. known ≡ yields (J.lexicon judge.now) (chars word.now)) }
 {
     let written = chars_of(alloc, word)?;
-    judge.verdict(alloc, written.as_slice())
+    judge.verdict(alloc, &written)
 }

@@ -31,7 +31,7 @@ pub fn cut(alloc: Global, text: &str, wordchars: &[char]) -> Result<Vec<Span>, N
     ensures few { IfOk result (λ spans. length spans.items ≤ length text.now) }
 {
     let characters: Vec<char> = text.chars().collect(alloc)?;
-    cut_characters(alloc, characters.as_slice(), wordchars)
+    cut_characters(alloc, &characters, wordchars)
 }
 
 fn cut_characters(alloc: Global, text: &[char], wordchars: &[char]) -> Result<Vec<Span>, NoMemory>

@@ -41,7 +41,7 @@ fn main(rt: HostRuntime) -> ExitCode {
             run(
                 &rt,
                 alloc,
-                words.as_slice(),
+                &words,
                 &mut files,
                 &mut input,
                 &mut out,

@@ -89,7 +89,7 @@ impl Report {
         ensures fewer { OnOk result (self.new.marks ≤ self.new.words) }
     {
         let checked = check_paragraph(alloc, judge, text)?;
-        let marks = checked.marks.as_slice();
+        let marks = &checked.marks;
         push_mark_lines(&mut self.text, number, marks)?;
         self.marks += marks.len() as u64;
         self.words += checked.words as u64;

@@ -39,7 +39,7 @@ pub fn read_condition(alloc: Global, text: &str) -> Result<Condition, ConditionF
         return Ok(Items::new(alloc));
     }
     let characters = characters_of(alloc, text)?;
-    read_pieces(alloc, characters.as_slice())
+    read_pieces(alloc, &characters)
 }
 
 /// A text is read piece by piece: a bracket ends at the first `]` behind it, and a text with a bracket that

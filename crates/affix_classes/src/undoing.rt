@@ -54,16 +54,15 @@ fn suffix_stem(
 ) -> Result<Option<Chars>, NoMemory>
     ensures { IfOk result (λ found. found ≡ undone_suffix full_strip rule.now word.now) }
 {
-    let add = rule.add.as_slice();
-    if !word.ends_with(add) {
+    if !word.ends_with(&rule.add) {
         return Ok(None);
     }
-    let rest = &word[..word.len() - add.len()];
+    let rest = &word[..word.len() - rule.add.len()];
     if rest.is_empty() && !full_strip {
         return Ok(None);
     }
-    let stem = joined(alloc, rest, rule.strip.as_slice())?;
-    if !matches_back(&rule.condition, stem.as_slice()) {
+    let stem = joined(alloc, rest, &rule.strip)?;
+    if !matches_back(&rule.condition, &stem) {
         return Ok(None);
     }
     Ok(Some(stem))
@@ -78,16 +77,15 @@ fn prefix_stem(
 ) -> Result<Option<Chars>, NoMemory>
     ensures { IfOk result (λ found. found ≡ undone_prefix full_strip rule.now word.now) }
 {
-    let add = rule.add.as_slice();
-    if !word.starts_with(add) {
+    if !word.starts_with(&rule.add) {
         return Ok(None);
     }
-    let rest = &word[add.len()..];
+    let rest = &word[rule.add.len()..];
     if rest.is_empty() && !full_strip {
         return Ok(None);
     }
-    let stem = joined(alloc, rule.strip.as_slice(), rest)?;
-    if !matches_front(&rule.condition, stem.as_slice()) {
+    let stem = joined(alloc, &rule.strip, rest)?;
+    if !matches_front(&rule.condition, &stem) {
         return Ok(None);
     }
     Ok(Some(stem))

@@ -36,7 +36,7 @@ pub fn ways_of(alloc: Global, breaks: &[Anchored], piece: &[char]) -> Result<Vec
 fn add_ways(pattern: &Anchored, piece: &[char], ways: &mut Vec<Way>) -> Result<(), NoMemory>
     ensures { OnOk result (ways.new.items ≡ ways.old.items ++ ways_at pattern.now piece.now) }
 {
-    let text = pattern.text.as_slice();
+    let text: &[char] = &pattern.text;
     match (pattern.front, pattern.back) {
         (false, false) => add_partings(text, piece, ways),
         (true, false) => add_behind(text, piece, ways),

@@ -71,7 +71,7 @@ fn convert_front(table: &[Conversion], text: &[char], made: &mut Chars) -> Resul
             for c in row.to.as_slice() {
                 made.push(*c)?;
             }
-            Ok(row.from.as_slice().len())
+            Ok(row.from.len())
         }
         None => {
             made.push(text[0])?;
@@ -97,8 +97,7 @@ fn best_fit<'a>(table: &'a [Conversion], text: &[char]) -> Option<&'a Conversion
 fn fits(row: &Conversion, text: &[char]) -> bool
     ensures { result ≡ fits text.now row.now }
 {
-    let pattern = row.from.as_slice();
-    !pattern.is_empty() && text.starts_with(pattern)
+    !row.from.is_empty() && text.starts_with(&row.from)
 }
 
 /// Whether the row's pattern is longer than the best so far.
@@ -106,7 +105,7 @@ fn is_longer(row: &Conversion, best: Option<&Conversion>) -> bool
     ensures { result ≡ is_longer row.now (option_copied best.entry) }
 {
     match best {
-        Some(other) => other.from.as_slice().len() < row.from.as_slice().len(),
+        Some(other) => other.from.len() < row.from.len(),
         None => true,
     }
 }
@@ -114,6 +113,7 @@ fn is_longer(row: &Conversion, best: Option<&Conversion>) -> bool
 #[cfg(test)]
 mod tests {
     use super::*;
+    use std::process::Abort;
     use std::test::Fail;
 
     fn text_of(alloc: Global, characters: &[char]) -> Result<String, Fail> {
@@ -143,62 +143,53 @@ mod tests {
         Ok(table)
     }
 
-    #[test]
-    fn converts_by_the_longest_pattern(rt: HostRuntime) -> Result<(), Fail> {
-        let cases = [
-            // no row, no word
-            ("", "tea", "tea"),
-            ("a=y", "", ""),
-            // the longest pattern, wherever its row stands
-            ("a=y ae=x", "aeab", "xyb"),
-            ("ae=x a=y", "aeab", "xyb"),
-            // the first of equally long ones
-            ("a=1 a=2", "a", "1"),
-            ("a=3 ae=1 ae=2", "aea", "13"),
-            // what was written is not read again, alone or with what follows
-            ("a=y ae=x y=z", "aaey", "yxz"),
-            ("a=b bc=x", "ac", "bc"),
-            ("a=aa", "aa", "aaaa"),
-            // patterns that overlap
-            ("aa=x", "aaa", "xa"),
-            ("ab=1 bcd=2", "abcd", "1cd"),
-            // a pattern that ends past the end
-            ("abc=x", "ab", "ab"),
-            ("abc=x b=y", "aab", "aay"),
-            // texts are literal
-            (".=x", "a.b", "axb"),
-            ("^a=x a$=y", "a", "a"),
-            // nothing in place of a pattern, and no pattern
-            ("an=", "banana", "ba"),
-            ("=x", "ab", "ab"),
-            ("\u{2019}='", "it\u{2019}s", "it's"),
-            ("ss=\u{DF}", "\u{10400}ss", "\u{10400}\u{DF}"),
-        ];
-        for (rows, word, want) in cases {
-            let table = table_of(rt.alloc(), rows)?;
-            let characters = characters_of(rt.alloc(), word)?;
-            let made = convert(rt.alloc(), &table, characters.as_slice())?;
-            assert_eq!(rt; text_of(rt.alloc(), made.as_slice())?.as_str(), want);
+    /// The field with a place, from 0, of a row.
+    fn field<'a>(row: &'a str, place: usize) -> &'a str {
+        row.split(", ").nth(place).unwrap_or("?")
+    }
+
+    /// Each row is a table, a word, and what it becomes. No row, and no word; the longest pattern, wherever its row stands;
+    /// the first of equally long ones.
+    const CHOSEN: &str =
+        ", tea, tea; a=y, , ; a=y ae=x, aeab, xyb; ae=x a=y, aeab, xyb; a=1 a=2, a, 1; a=3 ae=1 ae=2, aea, 13";
+
+    /// What was written is not read again, alone or with what follows; patterns overlap, or end past the end; texts are
+    /// literal; nothing in place of a pattern, and no pattern; characters of several bytes.
+    const WRITTEN: &str =
+        "a=y ae=x y=z, aaey, yxz; a=b bc=x, ac, bc; a=aa, aa, aaaa; aa=x, aaa, xa; ab=1 bcd=2, abcd, 1cd; \
+        abc=x, ab, ab; abc=x b=y, aab, aay; .=x, a.b, axb; ^a=x a$=y, a, a; an=, banana, ba; =x, ab, ab; \
+        \u{2019}=', it\u{2019}s, it's; ss=\u{DF}, \u{10400}ss, \u{10400}\u{DF}";
+
+    fn assert_converted(rt: &impl Abort, alloc: Global, rows: &str) -> Result<(), Fail> {
+        for row in rows.split("; ") {
+            let table = table_of(alloc, field(row, 0))?;
+            let made = convert(alloc, &table, &characters_of(alloc, field(row, 1))?)?;
+            assert_eq!(rt; text_of(alloc, &made)?.as_str(), field(row, 2), "{row}");
         }
         Ok(())
     }
 
     #[test]
+    fn converts_by_the_longest_pattern(rt: HostRuntime) -> Result<(), Fail> {
+        assert_converted(&rt, rt.alloc(), CHOSEN)?;
+        assert_converted(&rt, rt.alloc(), WRITTEN)
+    }
+
+    /// Each row is the characters to ignore, a word, and what is left of it.
+    const IGNORED: &str = ", tea, tea; e, , ; aet, tea, ; -, --, ; ex, tree, tr; E, tree, tree; \
+        \u{5B0}\u{5B8}, \u{5D0}\u{5B8}\u{5D1}, \u{5D0}\u{5D1}";
+
+    #[test]
     fn drops_what_is_ignored(rt: HostRuntime) -> Result<(), Fail> {
-        let cases = [
-            ("", "tea", "tea"),
-            ("e", "", ""),
-            ("aet", "tea", ""),
-            ("-", "--", ""),
-            ("ex", "tree", "tr"),
-            ("E", "tree", "tree"),
-            ("\u{5B0}\u{5B8}", "\u{5D0}\u{5B8}\u{5D1}", "\u{5D0}\u{5D1}"),
-        ];
-        for (ignore, word, want) in cases {
-            let ignored = characters_of(rt.alloc(), ignore)?;
-            let characters = characters_of(rt.alloc(), word)?;
-            let kept = drop_ignored(rt.alloc(), ignored.as_slice(), characters.as_slice())?;
-            assert_eq!(rt; text_of(rt.alloc(), kept.as_slice())?.as_str(), want);
+        for row in IGNORED.split("; ") {
+            let ignored = characters_of(rt.alloc(), field(row, 0))?;
+            let word = characters_of(rt.alloc(), field(row, 1))?;
+            let kept = drop_ignored(rt.alloc(), &ignored, &word)?;
+            assert_eq!(rt;
+                text_of(rt.alloc(), &kept)?.as_str(),
+                field(row, 2),
+                "{row}"
+            );
         }
         Ok(())
     }

@@ -76,7 +76,7 @@ fn read_file(alloc: Global, affixes: &Affixes, bytes: &[u8]) -> Result<Entries, 
             why: DicWhy::NotUtf8,
         });
     }
-    read_lines(alloc, affixes, bytes, found.good.as_slice())
+    read_lines(alloc, affixes, bytes, &found.good)
 }
 
 /// The entries of lines of which the first has to count.
@@ -130,7 +130,7 @@ fn read_entries(
             continue;
         }
         let entry = read_entry(alloc, affixes, line.number, entry_of(text))?;
-        if entries.as_slice().len() == limit {
+        if entries.len() == limit {
             return Err(DicFault::At {
                 line: line.number,
                 why: DicWhy::TooMany,

@@ -46,147 +46,103 @@ fn assert_bytes(
     Ok(())
 }
 
-/// What is read of a file with this text, where each character is a flag.
-fn assert_text(rt: &impl Abort, alloc: Global, text: &str, want: &str) -> Result<(), Fail> {
+/// The two sides of a row.
+fn sides(row: &str) -> (&str, &str) {
+    row.split_once("=>").unwrap_or((row, "?"))
+}
+
+/// Each row is a file, where each character is a flag, and what is read of it.
+fn assert_files(rt: &impl Abort, alloc: Global, rows: &str) -> Result<(), Fail> {
     let affixes = plain(alloc, FlagKind::Single, None);
-    let read = read_dic(alloc, &affixes, text.as_bytes());
-    assert_eq!(rt; shown(alloc, &read)?.as_str(), want, "of {text:?}");
-    Ok(())
-}
-
-/// What is read of a file that has a count and this line.
-fn assert_line(
-    rt: &impl Abort,
-    alloc: Global,
-    affixes: &Affixes,
-    line: &str,
-    want: &str,
-) -> Result<(), Fail> {
-    let text = format!(in alloc; "1\n{line}\n")?;
-    let read = read_dic(alloc, affixes, text.as_str().as_bytes());
-    assert_eq!(rt; shown(alloc, &read)?.as_str(), want, "of {line:?}");
-    Ok(())
-}
-
-#[test]
-fn reads_files(rt: HostRuntime) -> Result<(), Fail> {
-    let table = [
-        // The count.
-        ("0", ""),
-        ("0\n", ""),
-        (" 12 words\nfoo\n", "foo:;"),
-        ("3foo/A\nbar\n", "bar:;"),
-        ("x\nfoo\n", "BadCount 1"),
-        ("", "BadCount 1"),
-        ("\nfoo\n", "BadCount 1"),
-        ("\t1\nfoo\n", "BadCount 1"),
-        ("+1\nfoo\n", "BadCount 1"),
-        ("foo 1\nfoo\n", "BadCount 1"),
-        // A wide digit one.
-        ("\u{ff11}\nfoo\n", "BadCount 1"),
-        ("\u{feff}1\nfoo", "foo:;"),
-        ("\u{feff}", "BadCount 1"),
-        // Lines.
-        ("1\r\nfoo/A\r\nbar\r\n", "foo: 65;bar:;"),
-        ("1\nfoo\nbar/A", "foo:;bar: 65;"),
-        ("1\n\n \t \n\tfoo\n\t\n\r\nbar\n", "bar:;"),
-        ("2\nrun/A\nrun/B\nrun\n", "run: 65;run: 66;run:;"),
-        ("1\n po:noun\n", "EmptyWord 2"),
-        // The count is of no line behind it, and the first fault is told.
-        ("x\n po:noun\n", "BadCount 1"),
-        ("1\nfoo\n po:noun\n\n po:verb\n", "EmptyWord 3"),
-    ];
-    for (text, want) in table {
-        assert_text(&rt, rt.alloc(), text, want)?;
+    for row in rows.split("||").skip(1) {
+        let (text, want) = sides(row);
+        assert_bytes(rt, alloc, &affixes, text.as_bytes(), want)?;
     }
     Ok(())
 }
+
+/// Each row is the one line behind the count of a file, and what is read of it.
+fn assert_lines(
+    rt: &impl Abort,
+    alloc: Global,
+    affixes: &Affixes,
+    rows: &str,
+) -> Result<(), Fail> {
+    for row in rows.split("||").skip(1) {
+        let (line, want) = sides(row);
+        let text = format!(in alloc; "1\n{line}\n")?;
+        assert_bytes(rt, alloc, affixes, text.as_bytes(), want)?;
+    }
+    Ok(())
+}
+
+/// The count of entries, in digits of ASCII without a sign, which begin the first line that is not blank: it counts no
+/// line, and its fault is told before those of lines behind it.
+const COUNTS: &str = "||0=>||0\n=>|| 12 words\nfoo\n=>foo:;||3foo/A\nbar\n=>bar:;||x\nfoo\n=>BadCount 1||=>BadCount 1\
+    ||\nfoo\n=>BadCount 1||\t1\nfoo\n=>BadCount 1||+1\nfoo\n=>BadCount 1||foo 1\nfoo\n=>BadCount 1\
+    ||\u{ff11}\nfoo\n=>BadCount 1||\u{feff}1\nfoo=>foo:;||\u{feff}=>BadCount 1||x\n po:noun\n=>BadCount 1";
+
+/// Lines behind it, of which blank ones and those that begin with a tab have no entry.
+const LINES: &str = "||1\r\nfoo/A\r\nbar\r\n=>foo: 65;bar:;||1\nfoo\nbar/A=>foo:;bar: 65;\
+    ||1\n\n \t \n\tfoo\n\t\n\r\nbar\n=>bar:;||2\nrun/A\nrun/B\nrun\n=>run: 65;run: 66;run:;\
+    ||1\n po:noun\n=>EmptyWord 2||1\nfoo\n po:noun\n\n po:verb\n=>EmptyWord 3";
+
+#[test]
+fn reads_files(rt: HostRuntime) -> Result<(), Fail> {
+    assert_files(&rt, rt.alloc(), COUNTS)?;
+    assert_files(&rt, rt.alloc(), LINES)
+}
+
+/// Where an entry ends: before a tab, and before blanks and a field of two small letters and a colon.
+const ENTRIES: &str = "||foo\tbar=>foo:;||foo/AB\tpo:noun=>foo: 65 66;||foo po:noun=>foo:;||foo/BA po:noun is:x=>foo: 65 66;\
+    ||foo bar  po:noun=>foo bar:;||foo PO:noun=>foo PO:noun:;||foo pO:noun=>foo pO:noun:;||foo p1:noun=>foo p1:noun:;\
+    ||foo po noun=>foo po noun:;||foo po=>foo po:;||po:noun=>po:noun:;||foo\u{a0}po:noun=>foo\u{a0}po:noun:;\
+    ||  foo  =>foo:;||\u{a0}=>\u{a0}:;||New York/A=>New York: 65;||foo /A=>foo : 65;";
+
+/// Where its word ends: before the first slash that is not the first character and has no backslash before it.
+const WORDS: &str = "||/A/B=>/A: 66;||/=>/:;||//=>/:;||///A=>/: 47 65;||km\\/h=>km/h:;||km\\/h/A=>km/h: 65;\
+    ||a\\\\/b/A=>a\\/b: 65;||\\/A/B=>/A: 66;||\\//A=>/: 65;||foo\\=>foo\\:;||foo\\n/A=>foo\\n: 65;\
+    ||\u{e4}\\\u{2019}/\u{1f600}=>\u{e4}\\\u{2019}: 128512;";
+
+/// Its flags: all that stands behind that slash.
+const FLAGS: &str = "||foo/=>foo:;||foo/A/B=>foo: 47 65 66;||foo/B A=>foo: 32 65 66;||foo/AA\\/=>foo: 47 65 92;";
 
 #[test]
 fn reads_lines_of_entries(rt: HostRuntime) -> Result<(), Fail> {
     let affixes = plain(rt.alloc(), FlagKind::Single, None);
-    let table = [
-        // Where an entry ends.
-        ("foo\tbar", "foo:;"),
-        ("foo/AB\tpo:noun", "foo: 65 66;"),
-        ("foo po:noun", "foo:;"),
-        ("foo/BA po:noun is:x", "foo: 65 66;"),
-        ("foo bar  po:noun", "foo bar:;"),
-        ("foo PO:noun", "foo PO:noun:;"),
-        ("foo pO:noun", "foo pO:noun:;"),
-        ("foo p1:noun", "foo p1:noun:;"),
-        ("foo po noun", "foo po noun:;"),
-        ("foo po", "foo po:;"),
-        ("po:noun", "po:noun:;"),
-        ("foo\u{a0}po:noun", "foo\u{a0}po:noun:;"),
-        ("  foo  ", "foo:;"),
-        ("\u{a0}", "\u{a0}:;"),
-        ("New York/A", "New York: 65;"),
-        ("foo /A", "foo : 65;"),
-        // Where its word ends.
-        ("/A/B", "/A: 66;"),
-        ("/", "/:;"),
-        ("//", "/:;"),
-        ("///A", "/: 47 65;"),
-        ("km\\/h", "km/h:;"),
-        ("km\\/h/A", "km/h: 65;"),
-        ("a\\\\/b/A", "a\\/b: 65;"),
-        ("\\/A/B", "/A: 66;"),
-        ("\\//A", "/: 65;"),
-        ("foo\\", "foo\\:;"),
-        ("foo\\n/A", "foo\\n: 65;"),
-        ("\u{e4}\\\u{2019}/\u{1f600}", "\u{e4}\\\u{2019}: 128512;"),
-        // Its flags.
-        ("foo/", "foo:;"),
-        ("foo/A/B", "foo: 47 65 66;"),
-        ("foo/B A", "foo: 32 65 66;"),
-        ("foo/AA\\/", "foo: 47 65 92;"),
-    ];
-    for (line, want) in table {
-        assert_line(&rt, rt.alloc(), &affixes, line, want)?;
-    }
-    Ok(())
+    assert_lines(&rt, rt.alloc(), &affixes, ENTRIES)?;
+    assert_lines(&rt, rt.alloc(), &affixes, WORDS)?;
+    assert_lines(&rt, rt.alloc(), &affixes, FLAGS)
 }
 
 #[test]
 fn tells_bad_bytes_first(rt: HostRuntime) -> Result<(), Fail> {
-    let affixes = plain(rt.alloc(), FlagKind::Long, None);
-    let table: [(&[u8], &str); 5] = [
-        (b"\xff", "NotUtf8 1"),
-        (b"x\nfoo\n\xff\n", "NotUtf8 3"),
-        (b"1\nfoo/A\n po:noun\nbar\n\xc3\n", "NotUtf8 5"),
-        (b"1\nfoo\n\xff\nbar\n\xff", "NotUtf8 3"),
-        (b"1\n po:noun\nfoo/A\n", "EmptyWord 2"),
-    ];
-    for (bytes, want) in table {
-        assert_bytes(&rt, rt.alloc(), &affixes, bytes, want)?;
-    }
-    Ok(())
+    let alloc = rt.alloc();
+    let affixes = plain(alloc, FlagKind::Long, None);
+    assert_bytes(&rt, alloc, &affixes, b"\xff", "NotUtf8 1")?;
+    assert_bytes(&rt, alloc, &affixes, b"x\nfoo\n\xff\n", "NotUtf8 3")?;
+    assert_bytes(&rt, alloc, &affixes, b"1\nfoo/A\n po:noun\nbar\n\xc3\n", "NotUtf8 5")?;
+    assert_bytes(&rt, alloc, &affixes, b"1\nfoo\n\xff\nbar\n\xff", "NotUtf8 3")?;
+    assert_bytes(&rt, alloc, &affixes, b"1\n po:noun\nfoo/A\n", "EmptyWord 2")
 }
+
+const LONG_FLAGS: &str = "||foo/BbAa=>foo: 279172874337 283467841634;||foo/AaB=>BadFlag 2";
+
+const NUMBERED_FLAGS: &str = "||foo/300,5,300=>foo: 5 300;||foo/=>foo:;||foo/0=>BadFlag 2||foo/65001=>BadFlag 2\
+    ||foo/5,=>BadFlag 2||foo/A=>BadFlag 2";
 
 #[test]
 fn reads_flags_of_each_type(rt: HostRuntime) -> Result<(), Fail> {
-    let table = [
-        (FlagKind::Utf8, "foo/\u{e4}A", "foo: 65 228;"),
-        (
-            FlagKind::Long,
-            "foo/BbAa",
-            "foo: 279172874337 283467841634;",
-        ),
-        (FlagKind::Long, "foo/AaB", "BadFlag 2"),
-        (FlagKind::Num, "foo/300,5,300", "foo: 5 300;"),
-        (FlagKind::Num, "foo/", "foo:;"),
-        (FlagKind::Num, "foo/0", "BadFlag 2"),
-        (FlagKind::Num, "foo/65001", "BadFlag 2"),
-        (FlagKind::Num, "foo/5,", "BadFlag 2"),
-        (FlagKind::Num, "foo/A", "BadFlag 2"),
-    ];
-    for (kind, line, want) in table {
-        let affixes = plain(rt.alloc(), kind, None);
-        assert_line(&rt, rt.alloc(), &affixes, line, want)?;
-    }
-    Ok(())
+    let alloc = rt.alloc();
+    let utf8 = plain(alloc, FlagKind::Utf8, None);
+    assert_lines(&rt, alloc, &utf8, "||foo/\u{e4}A=>foo: 65 228;")?;
+    assert_lines(&rt, alloc, &plain(alloc, FlagKind::Long, None), LONG_FLAGS)?;
+    assert_lines(&rt, alloc, &plain(alloc, FlagKind::Num, None), NUMBERED_FLAGS)
 }
+
+/// With two aliases, the flags B and A and none at all.
+const ALIASES: &str = "||foo/1=>foo: 65 66;||foo/02=>foo:;||foo/0=>BadAlias 2||foo/3=>BadAlias 2||foo/A=>BadAlias 2\
+    ||foo/1 po:noun=>foo: 65 66;||foo/=>foo:;||foo=>foo:;";
 
 #[test]
 fn reads_aliases(rt: HostRuntime) -> Result<(), Fail> {
@@ -198,81 +154,43 @@ fn reads_aliases(rt: HostRuntime) -> Result<(), Fail> {
     aliases.push(first)?;
     aliases.push(FlagSet::new(alloc))?;
     let affixes = plain(alloc, FlagKind::Single, Some(aliases));
-    let table = [
-        ("foo/1", "foo: 65 66;"),
-        ("foo/02", "foo:;"),
-        ("foo/0", "BadAlias 2"),
-        ("foo/3", "BadAlias 2"),
-        ("foo/A", "BadAlias 2"),
-        ("foo/1 po:noun", "foo: 65 66;"),
-        ("foo/", "foo:;"),
-        ("foo", "foo:;"),
-    ];
-    for (line, want) in table {
-        assert_line(&rt, alloc, &affixes, line, want)?;
-    }
+    assert_lines(&rt, alloc, &affixes, ALIASES)?;
     let none = plain(alloc, FlagKind::Single, Some(Items::new(alloc)));
-    for (line, want) in [
-        ("foo/1", "BadAlias 2"),
-        ("foo/A", "BadAlias 2"),
-        ("foo/", "foo:;"),
-    ] {
-        assert_line(&rt, alloc, &none, line, want)?;
+    assert_lines(&rt, alloc, &none, "||foo/1=>BadAlias 2||foo/A=>BadAlias 2||foo/=>foo:;")
+}
+
+/// Each row is lines behind a count, and what is read of them if so many of them may have an entry.
+fn assert_limited(rt: &impl Abort, alloc: Global, limit: usize, rows: &str) -> Result<(), Fail> {
+    let affixes = plain(alloc, FlagKind::Num, None);
+    for row in rows.split("||").skip(1) {
+        let (text, want) = sides(row);
+        let bytes = text.as_bytes();
+        let found = lines(alloc, bytes)?;
+        let read = read_entries(alloc, &affixes, bytes, &found.good, limit.min(9));
+        assert_eq!(rt; shown(alloc, &read)?.as_str(), want, "of {text:?}");
     }
     Ok(())
 }
 
-/// What is read of lines of which so many may have an entry.
-fn assert_limited(
-    rt: &impl Abort,
-    alloc: Global,
-    text: &str,
-    limit: usize,
-    want: &str,
-) -> Result<(), Fail> {
-    let affixes = plain(alloc, FlagKind::Num, None);
-    let bytes = text.as_bytes();
-    let found = lines(alloc, bytes)?;
-    let read = read_entries(alloc, &affixes, bytes, found.good.as_slice(), limit.min(9));
-    assert_eq!(rt; shown(alloc, &read)?.as_str(), want, "of {text:?}");
-    Ok(())
-}
+const AT_MOST_NONE: &str = "||=>||\n\tfoo\n=>||foo\n=>TooMany 1";
+
+/// A fault of the line that is one too many goes first, and so does one at a lower line.
+const AT_MOST_TWO: &str = "||foo\n\nbar\n \n=>foo:;bar:;||foo\n\nbar\n \nbaz/1\nbad/x\n=>TooMany 5||foo\nbar\nbaz/x\n=>BadFlag 3\
+    ||foo\n po:noun\nbar\nbaz\n=>EmptyWord 2";
 
 #[test]
 fn stops_behind_the_limit(rt: HostRuntime) -> Result<(), Fail> {
-    let table = [
-        ("", 0, ""),
-        ("\n\tfoo\n", 0, ""),
-        ("foo\n", 0, "TooMany 1"),
-        ("foo\n\nbar\n \n", 2, "foo:;bar:;"),
-        ("foo\n\nbar\n \nbaz/1\nbad/x\n", 2, "TooMany 5"),
-        // A fault of the line that is one too many goes first, and so does one at a lower line.
-        ("foo\nbar\nbaz/x\n", 2, "BadFlag 3"),
-        ("foo\n po:noun\nbar\nbaz\n", 2, "EmptyWord 2"),
-    ];
-    for (text, limit, want) in table {
-        assert_limited(&rt, rt.alloc(), text, limit, want)?;
-    }
-    Ok(())
+    assert_limited(&rt, rt.alloc(), 0, AT_MOST_NONE)?;
+    assert_limited(&rt, rt.alloc(), 2, AT_MOST_TWO)
 }
+
+/// Ignored characters go from words and not from flags; where nothing is left of a word, that goes before its flags.
+const IGNORED: &str = "||f-oo=>foo:;||-foo-=>foo:;||\u{5d0}\u{5b0}=>\u{5d0}:;||foo/--=>foo: 193273528365;\
+    ||--=>EmptyWord 2||--/abc=>EmptyWord 2||f/abc=>BadFlag 2";
 
 #[test]
 fn ignores_characters(rt: HostRuntime) -> Result<(), Fail> {
     let mut affixes = plain(rt.alloc(), FlagKind::Long, None);
     affixes.ignore = Items::from_vec(['-', '\u{5b0}'].to_vec(rt.alloc())?);
-    let table = [
-        ("f-oo", "foo:;"),
-        ("-foo-", "foo:;"),
-        ("\u{5d0}\u{5b0}", "\u{5d0}:;"),
-        // Not in its flags.
-        ("foo/--", "foo: 193273528365;"),
-        // Nothing is left of the word, which goes before its flags.
-        ("--", "EmptyWord 2"),
-        ("--/abc", "EmptyWord 2"),
-        ("f/abc", "BadFlag 2"),
-    ];
-    for (line, want) in table {
-        assert_line(&rt, rt.alloc(), &affixes, line, want)?;
-    }
-    Ok(())
+    assert_lines(&rt, rt.alloc(), &affixes, IGNORED)
 }

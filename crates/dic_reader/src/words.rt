@@ -28,8 +28,8 @@ pub(crate) fn read_entry(
 {
     let mut whole = Items::new(alloc);
     let flags = push_word(alloc, &mut whole, text)?;
-    let word = drop_ignored(alloc, affixes.ignore.as_slice(), whole.as_slice())?;
-    if word.as_slice().is_empty() {
+    let word = drop_ignored(alloc, &affixes.ignore, &whole)?;
+    if word.is_empty() {
         return Err(DicFault::At {
             line: number,
             why: DicWhy::EmptyWord,

@@ -90,7 +90,7 @@ fn add_of_capitals(
 fn add(found: &mut SmallVec<Chars, 4>, word: Chars) -> Result<(), NoMemory>
     ensures { OnOk result (found.new.items ≡ with_word found.old.items word) }
 {
-    if !is_among(found.as_slice(), word.as_slice()) {
+    if !is_among(found, &word) {
         found.push(word)?;
     }
     Ok(())
@@ -166,7 +166,7 @@ mod tests {
     fn shown(alloc: Global, words: &[Chars]) -> Result<String, Fail> {
         let mut text = String::new(alloc);
         for word in words {
-            for c in word.as_slice() {
+            for c in &word[..] {
                 text.push(*c)?;
             }
             text.push('/')?;
@@ -174,66 +174,46 @@ mod tests {
         Ok(text)
     }
 
-    #[test]
-    fn lowers_upper_case_alone(rt: HostRuntime) {
-        let rows = [
-            ('A', 'a', true, false),
-            ('a', 'a', false, true),
-            ('1', '1', false, false),
-            // a title case letter, although it has a folding
-            ('\u{1C5}', '\u{1C5}', false, false),
-            // its folding is two characters, so it has no simple one
-            ('\u{130}', '\u{130}', true, false),
-            ('\u{1E9E}', '\u{DF}', true, false),
-            // the sign of the kelvin
-            ('\u{212A}', 'k', true, false),
-            // Cherokee folds upwards
-            ('\u{13A0}', '\u{13A0}', true, false),
-            ('\u{AB70}', '\u{AB70}', false, true),
-            ('\u{10400}', '\u{10428}', true, false),
-        ];
-        for (c, want, upper, lower) in rows {
-            assert_eq!(rt; low(c), want, "{c}");
-            assert_eq!(rt; is_upper(c), upper, "{c}");
-            assert_eq!(rt; is_lower(c), lower, "{c}");
-        }
+    /// Each row is a character, its simple folding where it has one, and whether it is upper case (U), lower case (L) or
+    /// neither. A title case letter has no case, although it has a folding; where the folding is two characters there is no
+    /// simple one; U+212A is the sign of the kelvin; Cherokee folds upwards.
+    const CHARACTERS: &str =
+        "A a U; a a L; 1 1 -; \u{1C5} \u{1C5} -; \u{130} \u{130} U; \u{1E9E} \u{DF} U; \u{212A} k U; \
+        \u{13A0} \u{13A0} U; \u{AB70} \u{AB70} L; \u{10400} \u{10428} U";
+
+    /// The first character of a row's field.
+    fn character(row: &str, place: usize) -> char {
+        row.split(' ')
+            .nth(place)
+            .and_then(|field| field.chars().next())
+            .unwrap_or('?')
     }
 
     #[test]
+    fn lowers_upper_case_alone(rt: HostRuntime) {
+        for row in CHARACTERS.split("; ") {
+            let c = character(row, 0);
+            assert_eq!(rt; low(c), character(row, 1), "{row}");
+            assert_eq!(rt; is_upper(c), character(row, 2) == 'U', "{row}");
+            assert_eq!(rt; is_lower(c), character(row, 2) == 'L', "{row}");
+        }
+    }
+
+    /// Each row is a word and the spellings that it covers, the written one first.
+    const WORDS: &str =
+        " /; tea tea/; Tea Tea/tea/; TEA TEA/tEA/tea/Tea/; tEA tEA/; McCoy McCoy/mcCoy/; I I/i/; A-1 A-1/a-1/; \
+        42 42/; 4X 4X/4x/; \u{1C5} \u{1C5}/; \u{1C5}A \u{1C5}A/\u{1C5}a/; \u{1C5}a \u{1C5}a/; \u{130} \u{130}/; \
+        \u{130}A \u{130}A/\u{130}a/; GRO\u{1E9E} GRO\u{1E9E}/gRO\u{1E9E}/gro\u{DF}/Gro\u{DF}/; \u{212A} \u{212A}/k/; \
+        \u{13A0}\u{13A0} \u{13A0}\u{13A0}/; \u{13A0}\u{AB70} \u{13A0}\u{AB70}/; \u{AB70} \u{AB70}/; \
+        \u{10400}\u{10400} \u{10400}\u{10400}/\u{10428}\u{10400}/\u{10428}\u{10428}/\u{10400}\u{10428}/";
+
+    #[test]
     fn covers_by_the_rule(rt: HostRuntime) -> Result<(), Fail> {
-        let rows = [
-            ("", "/"),
-            ("tea", "tea/"),
-            ("Tea", "Tea/tea/"),
-            ("TEA", "TEA/tEA/tea/Tea/"),
-            ("tEA", "tEA/"),
-            ("McCoy", "McCoy/mcCoy/"),
-            ("I", "I/i/"),
-            ("A-1", "A-1/a-1/"),
-            ("42", "42/"),
-            ("4X", "4X/4x/"),
-            ("\u{1C5}", "\u{1C5}/"),
-            ("\u{1C5}A", "\u{1C5}A/\u{1C5}a/"),
-            ("\u{1C5}a", "\u{1C5}a/"),
-            ("\u{130}", "\u{130}/"),
-            ("\u{130}A", "\u{130}A/\u{130}a/"),
-            (
-                "GRO\u{1E9E}",
-                "GRO\u{1E9E}/gRO\u{1E9E}/gro\u{DF}/Gro\u{DF}/",
-            ),
-            ("\u{212A}", "\u{212A}/k/"),
-            ("\u{13A0}\u{13A0}", "\u{13A0}\u{13A0}/"),
-            ("\u{13A0}\u{AB70}", "\u{13A0}\u{AB70}/"),
-            ("\u{AB70}", "\u{AB70}/"),
-            (
-                "\u{10400}\u{10400}",
-                "\u{10400}\u{10400}/\u{10428}\u{10400}/\u{10428}\u{10428}/\u{10400}\u{10428}/",
-            ),
-        ];
-        for (word, want) in rows {
+        for row in WORDS.split("; ") {
+            let (word, want) = row.split_once(" ").unwrap_or((row, "?"));
             let characters: Vec<char> = word.chars().collect(rt.alloc())?;
             let found = covered(rt.alloc(), &characters)?;
-            assert_eq!(rt; shown(rt.alloc(), found.as_slice())?.as_str(), want);
+            assert_eq!(rt; shown(rt.alloc(), &found)?.as_str(), want, "{row}");
         }
         Ok(())
     }

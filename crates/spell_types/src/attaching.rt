@@ -63,8 +63,8 @@ fn attach_prefix(
     if !takes_prefix(rule, full_strip, word) {
         return Ok(None);
     }
-    let rest = &word[rule.strip.as_slice().len()..];
-    Ok(Some(joined(alloc, rule.add.as_slice(), rest)?))
+    let rest = &word[rule.strip.len()..];
+    Ok(Some(joined(alloc, &rule.add, rest)?))
 }
 
 fn attach_suffix(
@@ -78,8 +78,8 @@ fn attach_suffix(
     if !takes_suffix(rule, full_strip, word) {
         return Ok(None);
     }
-    let rest = &word[..word.len() - rule.strip.as_slice().len()];
-    Ok(Some(joined(alloc, rest, rule.add.as_slice())?))
+    let rest = &word[..word.len() - rule.strip.len()];
+    Ok(Some(joined(alloc, rest, &rule.add)?))
 }
 
 /// Whether a prefix rule may be attached to a word. A word that it may strip is no shorter.
@@ -87,7 +87,7 @@ fn takes_prefix(rule: &Rule, full_strip: bool, word: &[char]) -> bool
     ensures takes { result ≡ takes_prefix full_strip rule.now word.now }
     ensures within { IsTrue result → length rule.now.strip ≤ length word.now }
 {
-    word.starts_with(rule.strip.as_slice())
+    word.starts_with(&rule.strip)
         && may_strip(rule, full_strip, word)
         && matches_front(&rule.condition, word)
 }
@@ -97,7 +97,7 @@ fn takes_suffix(rule: &Rule, full_strip: bool, word: &[char]) -> bool
     ensures takes { result ≡ takes_suffix full_strip rule.now word.now }
     ensures within { IsTrue result → length rule.now.strip ≤ length word.now }
 {
-    word.ends_with(rule.strip.as_slice())
+    word.ends_with(&rule.strip)
         && may_strip(rule, full_strip, word)
         && matches_back(&rule.condition, word)
 }
@@ -106,7 +106,7 @@ fn takes_suffix(rule: &Rule, full_strip: bool, word: &[char]) -> bool
 fn may_strip(rule: &Rule, full_strip: bool, word: &[char]) -> bool
     ensures { result ≡ may_strip full_strip rule.now word.now }
 {
-    full_strip || rule.strip.as_slice().len() < word.len()
+    full_strip || rule.strip.len() < word.len()
 }
 
 /// Whether a text has as many characters as there are pieces, and each piece accepts its character.
@@ -129,8 +129,8 @@ fn accepts(piece: &Piece, c: char) -> bool
     match piece {
         Piece::Any => true,
         Piece::One(only) => *only == c,
-        Piece::Among(some) => is_one_of(some.as_slice(), c),
-        Piece::NotAmong(some) => !is_one_of(some.as_slice(), c),
+        Piece::Among(some) => is_one_of(some, c),
+        Piece::NotAmong(some) => !is_one_of(some, c),
     }
 }
 
@@ -139,120 +139,4 @@ fn is_one_of(some: &[char], c: char) -> bool
     ensures { result ≡ is_one_of some.now c }
 {
     some.iter().any(|other| *other == c)
-}
-
-#[cfg(test)]
-mod tests {
-    use super::*;
-    use crate::{Flag, FlagSet};
-    use lists::Copied;
-    use std::test::Fail;
-
-    fn text_of(alloc: Global, characters: &[char]) -> Result<String, Fail> {
-        let mut text = String::new(alloc);
-        for c in characters {
-            text.push(*c)?;
-        }
-        Ok(text)
-    }
-
-    fn characters_of(alloc: Global, text: &str) -> Result<Chars, Fail> {
-        let characters: Vec<char> = text.chars().collect(alloc)?;
-        Ok(Items::from_vec(characters))
-    }
-
-    fn rule_of(
-        alloc: Global,
-        side: Side,
-        strip: &str,
-        add: &str,
-        condition: Condition,
-    ) -> Result<Rule, Fail> {
-        Ok(Rule {
-            side,
-            flag: Flag(65),
-            cross: true,
-            strip: characters_of(alloc, strip)?,
-            add: characters_of(alloc, add)?,
-            carried: FlagSet::new(alloc),
-            condition,
-        })
-    }
-
-    #[test]
-    fn matches_by_pieces(rt: HostRuntime) -> Result<(), Fail> {
-        let alloc = rt.alloc();
-        let mut condition: Condition = Items::new(alloc);
-        for word in ["", "a", "ab"] {
-            let characters = characters_of(alloc, word)?;
-            assert!(rt; matches_front(&condition, characters.as_slice()));
-            assert!(rt; matches_back(&condition, characters.as_slice()));
-        }
-        // As `[^y]a.` would be.
-        condition.push(Piece::NotAmong(characters_of(alloc, "y")?))?;
-        condition.push(Piece::One('a'))?;
-        condition.push(Piece::Any)?;
-        let made = condition.copy(alloc)?;
-        let cases = [
-            ("", false, false),
-            ("a", false, false),
-            ("at", false, false),
-            ("cat", true, true),
-            ("yat", false, false),
-            ("cats", true, false),
-            ("scat", false, true),
-        ];
-        for (word, front, back) in cases {
-            let characters = characters_of(alloc, word)?;
-            assert_eq!(rt;
-                matches_front(&made, characters.as_slice()),
-                front,
-                "{word}"
-            );
-            assert_eq!(rt; matches_back(&made, characters.as_slice()), back, "{word}");
-        }
-        Ok(())
-    }
-
-    #[test]
-    fn attaches_on_both_sides(rt: HostRuntime) -> Result<(), Fail> {
-        let alloc = rt.alloc();
-        // Side, strip, add, whether words may be stripped whole, word, what it becomes.
-        let cases = [
-            (Side::Suffix, "y", "ied", false, "try", Some("tried")),
-            (Side::Suffix, "y", "ied", false, "tea", None),
-            (Side::Suffix, "", "s", false, "tea", Some("teas")),
-            (Side::Suffix, "go", "went", false, "go", None),
-            (Side::Suffix, "go", "went", true, "go", Some("went")),
-            (Side::Suffix, "go", "", true, "go", Some("")),
-            (Side::Suffix, "", "s", false, "", None),
-            (Side::Suffix, "", "s", true, "", Some("s")),
-            (Side::Prefix, "", "re", false, "do", Some("redo")),
-            (Side::Prefix, "d", "und", false, "do", Some("undo")),
-            (Side::Prefix, "o", "x", false, "do", None),
-            (
-                Side::Prefix,
-                "\u{e4}",
-                "\u{fc}",
-                false,
-                "\u{e4}b",
-                Some("\u{fc}b"),
-            ),
-        ];
-        for (side, strip, add, full_strip, word, want) in cases {
-            let rule = rule_of(alloc, side, strip, add, Items::new(alloc))?.copy(alloc)?;
-            let characters = characters_of(alloc, word)?;
-            match (
-                attach(alloc, &rule, full_strip, characters.as_slice())?,
-                want,
-            ) {
-                (None, None) => {}
-                (Some(made), Some(text)) => {
-                    assert_eq!(rt; text_of(alloc, made.as_slice())?.as_str(), text);
-                }
-                _ => assert!(rt; false, "{word} with {strip} {add}"),
-            }
-        }
-        Ok(())
-    }
 }

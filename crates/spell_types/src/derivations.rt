@@ -62,7 +62,7 @@ pub(crate) fn named_by<'a>(lexicon: &'a Lexicon, d: &Derivation) -> Option<Named
     if !is_in_order(rules, d) {
         return None;
     }
-    match lexicon.entries.as_slice().get(d.entry as usize) {
+    match lexicon.entries.get(d.entry as usize) {
         None => None,
         Some(entry) => Some(Named {
             entry,
@@ -155,6 +155,6 @@ fn with_affix(
 {
     match affix {
         None => Ok(Some(word)),
-        Some(rule) => attach(alloc, rule, full_strip, word.as_slice()),
+        Some(rule) => attach(alloc, rule, full_strip, &word),
     }
 }

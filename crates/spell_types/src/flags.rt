@@ -63,7 +63,7 @@ impl FlagSet {
         ensures ok { OnOk result (self.new ≡ put flag self.old) }
         ensures err { OnErr result (self.new ≡ self.old) }
     {
-        match search(self.kept.as_slice(), flag) {
+        match search(&self.kept, flag) {
             Ok(_) => Ok(()),
             Err(place) => {
                 self.kept.insert(place, flag)?;
@@ -76,7 +76,7 @@ impl FlagSet {
 impl Copied for FlagSet {
     fn copy(&self, alloc: Global) -> Result<FlagSet, NoMemory> {
         Ok(FlagSet {
-            kept: self.as_slice().to_vec(alloc)?,
+            kept: self.kept.to_vec(alloc)?,
         })
     }
 }

@@ -1,5 +1,6 @@
 //! What no clause says: that licences are those of the definitions, and that calls succeed.
 use super::*;
+use lists::Copied;
 use std::process::Abort;
 use std::test::Fail;
 
@@ -198,4 +199,80 @@ fn tells_derivations(rt: HostRuntime) -> Result<(), Fail> {
     assert_derivations(&rt, alloc, &lexicon, SIGNED)?;
     let lenient = lexicon_of(alloc, false, RULES, ENTRIES)?;
     assert_derivations(&rt, alloc, &lenient, "6 - 1 - rares a")
+}
+
+fn assert_matched(
+    rt: &impl Abort,
+    alloc: Global,
+    condition: &Condition,
+    row: &str,
+) -> Result<(), Fail> {
+    let word = text_of(alloc, field(row, 0))?;
+    assert_eq!(rt;
+        matches_front(condition, &word),
+        field(row, 1) == "front",
+        "{row}"
+    );
+    assert_eq!(rt;
+        matches_back(condition, &word),
+        field(row, 2) == "back",
+        "{row}"
+    );
+    Ok(())
+}
+
+fn assert_all_matched(
+    rt: &impl Abort,
+    alloc: Global,
+    condition: &Condition,
+    rows: &str,
+) -> Result<(), Fail> {
+    for row in rows.split("; ") {
+        assert_matched(rt, alloc, condition, row)?;
+    }
+    Ok(())
+}
+
+/// Each row is a word, `0` for the empty one, and at which of its ends a condition fits.
+const FITS_ALL: &str = "0 front back; a front back; ab front back";
+
+/// The same of the condition that is written `[^y]a.`.
+const FITS_SOME: &str = "0 - -; a - -; at - -; cat front back; yat - -; cats front -; scat - back";
+
+#[test]
+fn matches_by_pieces(rt: HostRuntime) -> Result<(), Fail> {
+    let alloc = rt.alloc();
+    let mut condition: Condition = Items::new(alloc);
+    assert_all_matched(&rt, alloc, &condition, FITS_ALL)?;
+    condition.push(Piece::NotAmong(chars_of(alloc, "y")?))?;
+    condition.push(Piece::One('a'))?;
+    condition.push(Piece::Any)?;
+    let made = condition.copy(alloc)?;
+    assert_all_matched(&rt, alloc, &made, FITS_SOME)
+}
+
+fn assert_attached(rt: &impl Abort, alloc: Global, row: &str) -> Result<(), Fail> {
+    let rule = rule_of(alloc, row)?.copy(alloc)?;
+    let word = text_of(alloc, field(row, 6))?;
+    let want = field(row, 7);
+    match attach(alloc, &rule, field(row, 5) == "whole", &word)? {
+        None => assert_eq!(rt; want, "-", "{row}"),
+        Some(made) => assert_eq!(rt; made.as_slice(), text_of(alloc, want)?.as_slice(), "{row}"),
+    }
+    Ok(())
+}
+
+/// Each row is a rule, whether it may strip a word whole, a word, and what the word becomes, or `-` where it may not be
+/// attached.
+const ATTACHED: &str =
+    "S A y ied 0 part try tried; S A y ied 0 part tea -; S A 0 s 0 part tea teas; S A go went 0 part go -; \
+    S A go went 0 whole go went; S A go 0 0 whole go 0; S A 0 s 0 part 0 -; S A 0 s 0 whole 0 s; \
+    P A 0 re 0 part do redo; P A d und 0 part do undo; P A o x 0 part do -; P A \u{e4} \u{fc} 0 part \u{e4}b \u{fc}b";
+
+#[test]
+fn attaches_on_both_sides(rt: HostRuntime) -> Result<(), Fail> {
+    for row in ATTACHED.split("; ") {
+        assert_attached(&rt, rt.alloc(), row)?;
+    }
+    Ok(())
 }

@@ -4,66 +4,54 @@ use lists::Copied;
 use std::process::Abort;
 use std::test::Fail;
 
-/// Each good line as its number and its places, and the bad line.
-fn assert_lines(
-    rt: &impl Abort,
-    alloc: Global,
-    bytes: &[u8],
-    want: &[(u64, usize, usize)],
-    bad: Option<u64>,
-) -> Result<(), NoMemory> {
-    let found = lines(alloc, bytes)?;
-    let good = found.good.as_slice();
-    assert_eq!(rt; good.len(), want.len(), "in {bytes:?}");
-    for (line, place) in good.iter().zip(want) {
-        assert_eq!(rt; (line.number, line.from, line.to), *place, "in {bytes:?}");
+/// The bytes that a text stands for, one for each character: that with its number.
+fn bytes_of(alloc: Global, text: &str) -> Result<Vec<u8>, Fail> {
+    let mut bytes = Vec::new(alloc);
+    for c in text.chars() {
+        bytes.push(u8::try_from(u32::from(c)).unwrap_or(b'?'))?;
     }
-    assert_eq!(rt; found.bad, bad, "in {bytes:?}");
+    Ok(bytes)
+}
+
+/// Each good line as its number and its places, and the bad line behind a `!`.
+fn shown(alloc: Global, found: &Lines) -> Result<String, Fail> {
+    let mut text = String::new(alloc);
+    for line in &found.good {
+        write!(text, "{},{},{};", line.number, line.from, line.to)?;
+    }
+    if let Some(line) = found.bad {
+        write!(text, "!{line}")?;
+    }
+    Ok(text)
+}
+
+/// Each row is the bytes of a file and what is found in it.
+fn assert_lines(rt: &impl Abort, alloc: Global, rows: &str) -> Result<(), Fail> {
+    for row in rows.split("||").skip(1) {
+        let (file, want) = row.split_once("=>").unwrap_or((row, "?"));
+        let bytes = bytes_of(alloc, file)?;
+        let found = lines(alloc, &bytes)?;
+        assert_eq!(rt; shown(alloc, &found)?.as_str(), want, "in {file:?}");
+    }
     Ok(())
 }
+
+/// Marks of the encoding, of which one at the start is dropped, and ends of lines.
+const GOOD_FILES: &str = "||=>||\u{ef}\u{bb}\u{bf}=>||\u{ef}\u{bb}\u{bf}ab=>1,3,5;\
+    ||\u{ef}\u{bb}\u{bf}\u{ef}\u{bb}\u{bf}=>1,3,6;||\n\u{ef}\u{bb}\u{bf}=>1,0,0;2,1,4;\
+    ||a\r\nb\n=>1,0,1;2,3,4;||a\nb=>1,0,1;2,2,3;||a\r=>1,0,1;||\r=>1,0,0;||\n\n=>1,0,0;2,1,1;\
+    ||a\rb\n=>1,0,3;||a\r\r\n=>1,0,2;||\r\r=>1,0,1;||\n\u{c3}\u{a4} \r\n=>1,0,0;2,1,4;";
+
+/// A line that is not UTF-8, of which only the first is looked for; a slash in two bytes, half of a surrogate pair, past
+/// the last character, cut short, half of a mark.
+const BAD_FILES: &str =
+    "||a\n\u{ff}\nb\n\u{ff}\n=>1,0,1;!2||\u{c0}\u{af}=>!1||a\n\nx\u{ed}\u{a0}\u{80}y\n=>1,0,1;2,2,2;!3\
+    ||\u{f4}\u{90}\u{80}\u{80}\n=>!1||a\r\n\u{e2}\u{82}\r\n=>1,0,1;!2||\u{ef}\u{bb}\nab=>!1";
 
 #[test]
 fn finds_lines(rt: HostRuntime) -> Result<(), Fail> {
-    let none: &[(u64, usize, usize)] = &[];
-    let table: [(&[u8], &[(u64, usize, usize)]); 14] = [
-        (b"", none),
-        (b"\xef\xbb\xbf", none),
-        (b"\xef\xbb\xbfab", &[(1, 3, 5)]),
-        // Only a mark at the start is dropped, and only one.
-        (b"\xef\xbb\xbf\xef\xbb\xbf", &[(1, 3, 6)]),
-        (b"\n\xef\xbb\xbf", &[(1, 0, 0), (2, 1, 4)]),
-        (b"a\r\nb\n", &[(1, 0, 1), (2, 3, 4)]),
-        (b"a\nb", &[(1, 0, 1), (2, 2, 3)]),
-        (b"a\r", &[(1, 0, 1)]),
-        (b"\r", &[(1, 0, 0)]),
-        (b"\n\n", &[(1, 0, 0), (2, 1, 1)]),
-        (b"a\rb\n", &[(1, 0, 3)]),
-        (b"a\r\r\n", &[(1, 0, 2)]),
-        (b"\r\r", &[(1, 0, 1)]),
-        (b"\n\xc3\xa4 \r\n", &[(1, 0, 0), (2, 1, 4)]),
-    ];
-    for (bytes, want) in table {
-        assert_lines(&rt, rt.alloc(), bytes, want, None)?;
-    }
-    Ok(())
-}
-
-#[test]
-fn stops_at_bad_line(rt: HostRuntime) -> Result<(), Fail> {
-    let table: [(&[u8], &[(u64, usize, usize)], u64); 6] = [
-        // A later line with a fault is not looked for.
-        (b"a\n\xff\nb\n\xff\n", &[(1, 0, 1)], 2),
-        // A slash in two bytes, half of a surrogate pair, past the last character, cut short, half of a mark.
-        (b"\xc0\xaf", &[], 1),
-        (b"a\n\nx\xed\xa0\x80y\n", &[(1, 0, 1), (2, 2, 2)], 3),
-        (b"\xf4\x90\x80\x80\n", &[], 1),
-        (b"a\r\n\xe2\x82\r\n", &[(1, 0, 1)], 2),
-        (b"\xef\xbb\nab", &[], 1),
-    ];
-    for (bytes, want, bad) in table {
-        assert_lines(&rt, rt.alloc(), bytes, want, Some(bad))?;
-    }
-    Ok(())
+    assert_lines(&rt, rt.alloc(), GOOD_FILES)?;
+    assert_lines(&rt, rt.alloc(), BAD_FILES)
 }
 
 #[test]
@@ -79,54 +67,45 @@ fn gives_line_texts(rt: HostRuntime) -> Result<(), Fail> {
     Ok(())
 }
 
-#[test]
-fn finds_fields(rt: HostRuntime) {
-    let table = [
-        ("", 0, None),
-        (" \t ", 0, None),
-        ("SFX A Y 1", 0, Some("SFX")),
-        ("SFX A Y 1", 3, Some("1")),
-        ("SFX A Y 1", 4, None),
-        ("\t \ta\t\tb  c ", 0, Some("a")),
-        ("\t \ta\t\tb  c ", 1, Some("b")),
-        ("\t \ta\t\tb  c ", 2, Some("c")),
-        ("\t \ta\t\tb  c ", 3, None),
-        ("a\u{a0}b\u{2028}c d", 0, Some("a\u{a0}b\u{2028}c")),
-        ("a\rb\u{b} c", 0, Some("a\rb\u{b}")),
-        ("a", usize::MAX, None),
-    ];
-    for (text, k, want) in table {
-        assert_eq!(rt; field(text, k), want, "field {k} of {text:?}");
-    }
-}
+/// Each row is a text and its fields.
+const FIELDS: &str =
+    "||=>|| \t =>||SFX A Y 1=>SFX,A,Y,1,||\t \ta\t\tb  c =>a,b,c,||a\u{a0}b\u{2028}c d=>a\u{a0}b\u{2028}c,d,\
+    ||a\rb\u{b} c=>a\rb\u{b},c,";
 
 #[test]
-fn reads_decimals(rt: HostRuntime) {
-    let table = [
-        ("", None),
-        ("0", Some(0)),
-        ("007", Some(7)),
-        ("65000", Some(65000)),
-        ("+1", None),
-        ("+", None),
-        ("-1", None),
-        ("-0", None),
-        (" 1", None),
-        ("1 ", None),
-        ("1a", None),
-        ("0x1", None),
-        ("1_0", None),
-        // An Arabic digit three, and a wide digit one.
-        ("\u{663}", None),
-        ("\u{ff11}", None),
-        ("18446744073709551615", Some(18446744073709551615)),
-        ("18446744073709551616", None),
-        ("000000000000000000000001", Some(1)),
-        ("99999999999999999999", None),
-    ];
-    for (text, want) in table {
-        assert_eq!(rt; decimal(text), want, "{text:?}");
+fn finds_fields(rt: HostRuntime) -> Result<(), Fail> {
+    for row in FIELDS.split("||").skip(1) {
+        let (text, want) = row.split_once("=>").unwrap_or((row, "?"));
+        let mut fields = String::new(rt.alloc());
+        for place in 0..9 {
+            if let Some(found) = field(text, place) {
+                fields.push_str(found)?;
+                fields.push(',')?;
+            }
+        }
+        assert_eq!(rt; fields.as_str(), want, "{text:?}");
+        assert_eq!(rt; field(text, usize::MAX), None);
     }
+    Ok(())
+}
+
+/// Each row is a text and the number that it writes. The last two have an Arabic digit three, and a wide digit one.
+const DECIMALS: &str =
+    "||=>-||0=>0||007=>7||65000=>65000||+1=>-||+=>-||-1=>-||-0=>-|| 1=>-||1 =>-||1a=>-||0x1=>-||1_0=>-\
+    ||18446744073709551615=>18446744073709551615||18446744073709551616=>-||000000000000000000000001=>1\
+    ||99999999999999999999=>-||\u{663}=>-||\u{ff11}=>-";
+
+#[test]
+fn reads_decimals(rt: HostRuntime) -> Result<(), Fail> {
+    for row in DECIMALS.split("||").skip(1) {
+        let (text, want) = row.split_once("=>").unwrap_or((row, "?"));
+        let made = match decimal(text) {
+            Some(number) => format!(in rt.alloc(); "{number}")?,
+            None => String::from_str(rt.alloc(), "-")?,
+        };
+        assert_eq!(rt; made.as_str(), want, "{text:?}");
+    }
+    Ok(())
 }
 
 #[test]

@@ -50,12 +50,12 @@ impl Judge for Speller {
     #[tactic(auto, unfolding(spell_types::specs::Yields::looked_up, spell_types::specs::Yields::yields))]
     fn verdict(&self, alloc: Global, written: &[char]) -> Result<bool, NoMemory> {
         let affixes = &self.stems.lexicon().affixes;
-        let made = convert(alloc, affixes.iconv.as_slice(), written)?;
-        let word = drop_ignored(alloc, affixes.ignore.as_slice(), made.as_slice())?;
-        accepts(alloc, &self.stems, word.as_slice())
+        let made = convert(alloc, &affixes.iconv, written)?;
+        let word = drop_ignored(alloc, &affixes.ignore, &made)?;
+        accepts(alloc, &self.stems, &word)
     }
 
     fn wordchars(&self) -> &[char] {
-        self.stems.lexicon().affixes.wordchars.as_slice()
+        &self.stems.lexicon().affixes.wordchars
     }
 }

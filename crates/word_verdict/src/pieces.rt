@@ -62,7 +62,7 @@ fn one_is_right(
         answer ≡ list_any (is_right_spelling stems.now written.now) spellings.now) }
 {
     for spelling in spellings {
-        if is_right(alloc, stems, written, spelling.as_slice())? {
+        if is_right(alloc, stems, written, spelling)? {
             return Ok(true);
         }
     }
@@ -97,8 +97,8 @@ fn standing_of(
     let found = stems.derivations(alloc, spelling)?;
     let lexicon = stems.lexicon();
     Ok(Standing {
-        barred: one_is_forbidden(lexicon, found.as_slice()),
-        alone: one_is_alone(written, spelling, lexicon, found.as_slice()),
+        barred: one_is_forbidden(lexicon, &found),
+        alone: one_is_alone(written, spelling, lexicon, &found),
     })
 }
 

@@ -64,7 +64,7 @@ fn accepts_before_dots(alloc: Global, stems: &Stems, rest: &[char]) -> Result<bo
 fn is_broken(alloc: Global, stems: &Stems, word: &[char]) -> Result<bool, NoMemory>
     ensures { IfOk result (λ answer. answer ≡ is_broken_by stems.now word.now) }
 {
-    let breaks = stems.lexicon().affixes.breaks.as_slice();
+    let breaks = &stems.lexicon().affixes.breaks;
     let judge = |piece: &[char]| judge_piece(alloc, stems, piece);
     broken(alloc, breaks, word, &judge)
 }
@@ -76,7 +76,6 @@ fn are_dots_inside(lexicon: &Lexicon) -> bool
     lexicon
         .affixes
         .wordchars
-        .as_slice()
         .iter()
         .any(|c| *c == '.')
 }

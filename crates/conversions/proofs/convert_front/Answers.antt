@@ -1,20 +1,22 @@
 -- The row that was found fits, and what was read is its pattern.
-use Rattle.std.proofs.Common.{sym, ap, length, arith}
+use Rattle.std.proofs.Common.{◌++◌, ◌∙◌, refl, sym, ap, drop, length, arith}
+use Rattle.spell_types.specs.Conversions.{converted}
 use Rattle.conversions.proofs.Steps.{best_fit-reads, front_replaced, front_kept}
 use Rattle.conversions.proofs.convert_front.Goals as goal
 
 pub returns-after-loop-c-clause-moves : goal.returns-after-loop-c-clause-moves
 returns-after-loop-c-clause-moves c =
-    omega (arith, (best_fit-reads c.args.table.now c.args.text.now c.in-Some.row.now (sym c.in-Some.ensures)).0, ap length c.as_slice.ensures)
+    omega (arith, (best_fit-reads c.args.table.now c.args.text.now c.in-Some.row.now (sym c.in-Some.ensures)).0, c.len.ensures)
 
 pub returns-after-loop-c-clause-within : goal.returns-after-loop-c-clause-within
 returns-after-loop-c-clause-within c =
-    omega (arith, (best_fit-reads c.args.table.now c.args.text.now c.in-Some.row.now (sym c.in-Some.ensures)).1, ap length c.as_slice.ensures)
+    omega (arith, (best_fit-reads c.args.table.now c.args.text.now c.in-Some.row.now (sym c.in-Some.ensures)).1, c.len.ensures)
 
 pub returns-after-loop-c-clause-made : goal.returns-after-loop-c-clause-made
 returns-after-loop-c-clause-made c =
-    front_replaced c.args.table.now c.args.text.now c.loop-c.made c.args.made.now c.as_slice-c-items.result.now c.as_slice.result.now c.in-Some.row.now c.loop-c.c-index
-    (sym c.in-Some.ensures) c.loop-c.invariant c.loop-c-test.false c.as_slice-c-items.ensures c.as_slice.ensures
+    ap (λ n. c.loop-c.made ++ converted c.args.table.now (drop n c.args.text.now)) c.len.ensures
+    ∙ front_replaced c.args.table.now c.args.text.now c.loop-c.made c.args.made.now c.as_slice-c-items.result.now c.in-Some.row.now.from c.in-Some.row.now c.loop-c.c-index
+    (sym c.in-Some.ensures) c.loop-c.invariant c.loop-c-test.false c.as_slice-c-items.ensures refl
 
 pub returns-in_ok-push-in-None-clause-made : goal.returns-in_ok-push-in-None-clause-made
 returns-in_ok-push-in-None-clause-made c =

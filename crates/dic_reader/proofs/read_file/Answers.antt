@@ -9,10 +9,10 @@ returns-in-Some-clause-refused c =
 
 pub returns-clause-read : goal.returns-clause-read
 returns-clause-read c =
-    file-read c.args.affixes.now c.args.bytes.now c.as_slice.result.now c.read_lines.result
-    (c.as_slice.ensures ∙ c.in_ok-found.ensures.good) (sym c.in_ok-found.ensures.bad ∙ c.in_default.is) c.read_lines.ensures.read
+    file-read c.args.affixes.now c.args.bytes.now c.deref.result.now c.read_lines.result
+    (c.deref.ensures ∙ c.in_ok-found.ensures.good) (sym c.in_ok-found.ensures.bad ∙ c.in_default.is) c.read_lines.ensures.read
 
 pub returns-clause-refused : goal.returns-clause-refused
 returns-clause-refused c =
-    file-told c.args.affixes.now c.args.bytes.now c.as_slice.result.now c.read_lines.result
-    (c.as_slice.ensures ∙ c.in_ok-found.ensures.good) (sym c.in_ok-found.ensures.bad ∙ c.in_default.is) c.read_lines.ensures.refused
+    file-told c.args.affixes.now c.args.bytes.now c.deref.result.now c.read_lines.result
+    (c.deref.ensures ∙ c.in_ok-found.ensures.good) (sym c.in_ok-found.ensures.bad ∙ c.in_default.is) c.read_lines.ensures.refused

@@ -7,10 +7,10 @@ use Rattle.dic_reader.proofs.words.read_entry.Goals as goal
 pub returns-then-is_empty-clause-refused : goal.returns-then-is_empty-clause-refused
 returns-then-is_empty-clause-refused c =
     let kept = c.in_ok-word.ensures in
-    let ignored = c.as_slice.ensures in
-    let given = c.as_slice-2.ensures in
+    let ignored = c.deref.ensures in
+    let given = c.deref-2.ensures in
     let pushed = c.in_ok-flags.ensures.word in
     let begun = ap (λ old. old ++ whole_word c.args.text.now) c.new-whole.ensures in
     let word : c.in_ok-word.word ≡ word_of c.args.affixes.now c.args.text.now = cc in
     no-word c.args.affixes.now c.args.number c.args.text.now c.in_ok-word.word word
-    (ap (λ w. length w == 0) (sym c.as_slice-3.ensures) ∙ sym c.if-is_empty.ensures)
+    (sym c.if-is_empty.ensures)

@@ -13,5 +13,5 @@ returns-clause-text g c =
     let before = string_bytes c.args.self.now.text in
     let number = c.args.number in
     c.in_ok-push_mark_lines.ensures
-    ∙ ap (λ marks. before ++ flat_map (found_line number) marks) (c.as_slice-marks.ensures ∙ c.in_ok-checked.ensures.marks)
+    ∙ ap (λ marks. before ++ flat_map (found_line number) marks) (c.deref.ensures ∙ c.in_ok-checked.ensures.marks)
     ∙ ap (λ lines. before ++ lines) (found-lines number (marks_of (g.J.Judge.lexicon c.args.judge.now) (chars c.args.text.now ∷ [])))
