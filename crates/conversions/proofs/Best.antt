@@ -2,17 +2,10 @@
 use Rattle.std.proofs.Common.{◌≡◌, ℕ, ◌<◌, ◌≤◌, true, false, cond, IsTrue, List, [], ◌∷◌, ◌++◌, length, filter, nat_lt, Option, Some, None, refl, sym, ap, ◌∙◌, subst, arith}
 use Rattle.std.proofs.lemmas.Bool.{false≢true, ltb-true, ltb-false}
 use Rattle.std.specs.List.{AllByRecursion}
+use Rattle.lists.specs.Laws.{each-append, each-weaker}
 use Rattle.spell_types.specs.declared.conversions.Conversion.{Conversion}
 use Rattle.spell_types.specs.Conversions.{fits, longer_of, longest, best_fit, IsBestFit, NoneFits}
 use Rattle.conversions.proofs.Steps.{some_same}
-
-each-weaker : {X : Type 0} (P Q : X → Type 0) → ((x : X) → P x → Q x) → (xs : List X) → AllByRecursion P xs → AllByRecursion Q xs
-each-weaker P Q weaker [] each = tt
-each-weaker P Q weaker (x ∷ xs) each = (weaker x each.0, each-weaker P Q weaker xs each.1)
-
-each-append : {X : Type 0} (P : X → Type 0) (xs ys : List X) → AllByRecursion P xs → AllByRecursion P ys → AllByRecursion P (xs ++ ys)
-each-append P [] ys front back = back
-each-append P (x ∷ xs) ys front back = (front.0, each-append P xs ys front.1 back)
 
 nothing_found : (row : Conversion) → Some row ≡ None → ⊥
 nothing_found row is = cc

@@ -12,6 +12,7 @@ use Rattle.dic_reader.specs.declared.faults.DicWhy.TheVariants.{EmptyWord}
 use Rattle.dic_reader.specs.Entries.{Listed, entry_at, flag_text, whole_word, word_of, flags_of}
 use Rattle.dic_reader.specs.Faults.{Fault, fault_at, least_of, word_faults, flag_whys, flag_faults, entry_faults, entry_said, unless_fault, entry_read}
 use Rattle.dic_reader.proofs.FaultLemmas.{flags-behind-word, none-before-stays}
+use Rattle.lists.specs.Laws.{each-append}
 
 -- ---- the word and the flags of an entry
 
@@ -67,14 +68,6 @@ plain-flags rest entry result found place plain same behind given =
     ap (λ r. r.now) given ∙ opened found place ∙ ap (λ o. unwrap_or o []) (behind ∙ ap (λ r. behind_slash r.now) same) ∙ sym (plain-flag-text entry.now plain)
 
 -- ---- the faults of one entry are all at its line
-
-pub each-append : {A : Type 0} (P : A → Type 0) (xs ys : List A) → AllByRecursion P xs → AllByRecursion P ys → AllByRecursion P (xs ++ ys)
-each-append P [] ys front back = back
-each-append P (x ∷ xs) ys front back = (front.0, each-append P xs ys front.1 back)
-
-pub each-weaker : {A : Type 0} (P Q : A → Type 0) → ((x : A) → P x → Q x) → (xs : List A) → AllByRecursion P xs → AllByRecursion Q xs
-each-weaker P Q weaker [] each = tt
-each-weaker P Q weaker (x ∷ xs) each = (weaker x each.0, each-weaker P Q weaker xs each.1)
 
 abbrev pub IsAtLine : ℕ → Fault → Type 0
 IsAtLine number fault = fault.line ≡ number

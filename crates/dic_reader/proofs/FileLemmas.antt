@@ -11,6 +11,7 @@ use Rattle.dic_reader.specs.Entries.{listed, is_count}
 use Rattle.dic_reader.specs.Faults.{Fault, fault_at, bad_faults, is_before, least_of, first_fault, entry_limit, entries_faults, lines_faults, entry_said, entries_said, unless_fault, entries_read, lines_read, dic_read, IsTold}
 use Rattle.dic_reader.proofs.FaultLemmas.{NoneBefore, higher-line, none-before-stays}
 use Rattle.dic_reader.proofs.OrderLemmas.{AreBehind, AreNumbered, AreRising, rising, first-behind, first-number, entries-behind-stay}
+use Rattle.lists.specs.Laws.{or-none}
 
 -- ---- the first line and those behind it
 
@@ -70,10 +71,6 @@ pub bad-told : (affixes : Affixes) (bytes : List ℕ) (line : ℕ) → bad_line 
 unfolding dic_read
 bad-told affixes bytes line bad =
     ap (λ b. unless_fault (first_fault (bad_faults b ∷ lines_faults affixes bytes (good_lines bytes) ∷ [])) (entries_said affixes bytes (good_lines bytes))) bad
-
-or-none : (found : Option Fault) → option_or found None ≡ found
-or-none None = refl
-or-none (Some fault) = refl
 
 of-lines : (affixes : Affixes) (bytes : List ℕ) (lines : List Line) → lines ≡ good_lines bytes → bad_line bytes ≡ None
     → lines_read affixes bytes lines ≡ dic_read affixes bytes

@@ -9,7 +9,8 @@ use Rattle.dic_reader.specs.declared.faults.DicWhy.TheVariants.{TooMany}
 use Rattle.dic_reader.specs.Entries.{Listed, entry_at, entry_of, is_passed_over, listed}
 use Rattle.dic_reader.specs.Faults.{Fault, fault_at, is_before, sooner, least_of, entry_faults, too_many, many_faults, entries_faults}
 use Rattle.dic_reader.proofs.FaultLemmas.{NoneBefore, BeforeEach, lower-line, higher-line, too-many-last, least_append, each-least, none-before-stays, before-each-wins}
-use Rattle.dic_reader.proofs.EntryLemmas.{IsAtLine, each-append, each-weaker, faults-at}
+use Rattle.lists.specs.Laws.{each-append, each-weaker}
+use Rattle.dic_reader.proofs.EntryLemmas.{IsAtLine, faults-at}
 
 -- ---- the faults of entries at higher lines
 

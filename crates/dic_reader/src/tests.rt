@@ -62,12 +62,7 @@ fn assert_files(rt: &impl Abort, alloc: Global, rows: &str) -> Result<(), Fail> 
 }
 
 /// Each row is the one line behind the count of a file, and what is read of it.
-fn assert_lines(
-    rt: &impl Abort,
-    alloc: Global,
-    affixes: &Affixes,
-    rows: &str,
-) -> Result<(), Fail> {
+fn assert_lines(rt: &impl Abort, alloc: Global, affixes: &Affixes, rows: &str) -> Result<(), Fail> {
     for row in rows.split("||").skip(1) {
         let (line, want) = sides(row);
         let text = format!(in alloc; "1\n{line}\n")?;
@@ -78,7 +73,8 @@ fn assert_lines(
 
 /// The count of entries, in digits of ASCII without a sign, which begin the first line that is not blank: it counts no
 /// line, and its fault is told before those of lines behind it.
-const COUNTS: &str = "||0=>||0\n=>|| 12 words\nfoo\n=>foo:;||3foo/A\nbar\n=>bar:;||x\nfoo\n=>BadCount 1||=>BadCount 1\
+const COUNTS: &str =
+    "||0=>||0\n=>|| 12 words\nfoo\n=>foo:;||3foo/A\nbar\n=>bar:;||x\nfoo\n=>BadCount 1||=>BadCount 1\
     ||\nfoo\n=>BadCount 1||\t1\nfoo\n=>BadCount 1||+1\nfoo\n=>BadCount 1||foo 1\nfoo\n=>BadCount 1\
     ||\u{ff11}\nfoo\n=>BadCount 1||\u{feff}1\nfoo=>foo:;||\u{feff}=>BadCount 1||x\n po:noun\n=>BadCount 1";
 
@@ -94,18 +90,21 @@ fn reads_files(rt: HostRuntime) -> Result<(), Fail> {
 }
 
 /// Where an entry ends: before a tab, and before blanks and a field of two small letters and a colon.
-const ENTRIES: &str = "||foo\tbar=>foo:;||foo/AB\tpo:noun=>foo: 65 66;||foo po:noun=>foo:;||foo/BA po:noun is:x=>foo: 65 66;\
+const ENTRIES: &str =
+    "||foo\tbar=>foo:;||foo/AB\tpo:noun=>foo: 65 66;||foo po:noun=>foo:;||foo/BA po:noun is:x=>foo: 65 66;\
     ||foo bar  po:noun=>foo bar:;||foo PO:noun=>foo PO:noun:;||foo pO:noun=>foo pO:noun:;||foo p1:noun=>foo p1:noun:;\
     ||foo po noun=>foo po noun:;||foo po=>foo po:;||po:noun=>po:noun:;||foo\u{a0}po:noun=>foo\u{a0}po:noun:;\
     ||  foo  =>foo:;||\u{a0}=>\u{a0}:;||New York/A=>New York: 65;||foo /A=>foo : 65;";
 
 /// Where its word ends: before the first slash that is not the first character and has no backslash before it.
-const WORDS: &str = "||/A/B=>/A: 66;||/=>/:;||//=>/:;||///A=>/: 47 65;||km\\/h=>km/h:;||km\\/h/A=>km/h: 65;\
+const WORDS: &str =
+    "||/A/B=>/A: 66;||/=>/:;||//=>/:;||///A=>/: 47 65;||km\\/h=>km/h:;||km\\/h/A=>km/h: 65;\
     ||a\\\\/b/A=>a\\/b: 65;||\\/A/B=>/A: 66;||\\//A=>/: 65;||foo\\=>foo\\:;||foo\\n/A=>foo\\n: 65;\
     ||\u{e4}\\\u{2019}/\u{1f600}=>\u{e4}\\\u{2019}: 128512;";
 
 /// Its flags: all that stands behind that slash.
-const FLAGS: &str = "||foo/=>foo:;||foo/A/B=>foo: 47 65 66;||foo/B A=>foo: 32 65 66;||foo/AA\\/=>foo: 47 65 92;";
+const FLAGS: &str =
+    "||foo/=>foo:;||foo/A/B=>foo: 47 65 66;||foo/B A=>foo: 32 65 66;||foo/AA\\/=>foo: 47 65 92;";
 
 #[test]
 fn reads_lines_of_entries(rt: HostRuntime) -> Result<(), Fail> {
@@ -121,14 +120,27 @@ fn tells_bad_bytes_first(rt: HostRuntime) -> Result<(), Fail> {
     let affixes = plain(alloc, FlagKind::Long, None);
     assert_bytes(&rt, alloc, &affixes, b"\xff", "NotUtf8 1")?;
     assert_bytes(&rt, alloc, &affixes, b"x\nfoo\n\xff\n", "NotUtf8 3")?;
-    assert_bytes(&rt, alloc, &affixes, b"1\nfoo/A\n po:noun\nbar\n\xc3\n", "NotUtf8 5")?;
-    assert_bytes(&rt, alloc, &affixes, b"1\nfoo\n\xff\nbar\n\xff", "NotUtf8 3")?;
+    assert_bytes(
+        &rt,
+        alloc,
+        &affixes,
+        b"1\nfoo/A\n po:noun\nbar\n\xc3\n",
+        "NotUtf8 5",
+    )?;
+    assert_bytes(
+        &rt,
+        alloc,
+        &affixes,
+        b"1\nfoo\n\xff\nbar\n\xff",
+        "NotUtf8 3",
+    )?;
     assert_bytes(&rt, alloc, &affixes, b"1\n po:noun\nfoo/A\n", "EmptyWord 2")
 }
 
 const LONG_FLAGS: &str = "||foo/BbAa=>foo: 279172874337 283467841634;||foo/AaB=>BadFlag 2";
 
-const NUMBERED_FLAGS: &str = "||foo/300,5,300=>foo: 5 300;||foo/=>foo:;||foo/0=>BadFlag 2||foo/65001=>BadFlag 2\
+const NUMBERED_FLAGS: &str =
+    "||foo/300,5,300=>foo: 5 300;||foo/=>foo:;||foo/0=>BadFlag 2||foo/65001=>BadFlag 2\
     ||foo/5,=>BadFlag 2||foo/A=>BadFlag 2";
 
 #[test]
@@ -137,11 +149,17 @@ fn reads_flags_of_each_type(rt: HostRuntime) -> Result<(), Fail> {
     let utf8 = plain(alloc, FlagKind::Utf8, None);
     assert_lines(&rt, alloc, &utf8, "||foo/\u{e4}A=>foo: 65 228;")?;
     assert_lines(&rt, alloc, &plain(alloc, FlagKind::Long, None), LONG_FLAGS)?;
-    assert_lines(&rt, alloc, &plain(alloc, FlagKind::Num, None), NUMBERED_FLAGS)
+    assert_lines(
+        &rt,
+        alloc,
+        &plain(alloc, FlagKind::Num, None),
+        NUMBERED_FLAGS,
+    )
 }
 
 /// With two aliases, the flags B and A and none at all.
-const ALIASES: &str = "||foo/1=>foo: 65 66;||foo/02=>foo:;||foo/0=>BadAlias 2||foo/3=>BadAlias 2||foo/A=>BadAlias 2\
+const ALIASES: &str =
+    "||foo/1=>foo: 65 66;||foo/02=>foo:;||foo/0=>BadAlias 2||foo/3=>BadAlias 2||foo/A=>BadAlias 2\
     ||foo/1 po:noun=>foo: 65 66;||foo/=>foo:;||foo=>foo:;";
 
 #[test]
@@ -156,7 +174,12 @@ fn reads_aliases(rt: HostRuntime) -> Result<(), Fail> {
     let affixes = plain(alloc, FlagKind::Single, Some(aliases));
     assert_lines(&rt, alloc, &affixes, ALIASES)?;
     let none = plain(alloc, FlagKind::Single, Some(Items::new(alloc)));
-    assert_lines(&rt, alloc, &none, "||foo/1=>BadAlias 2||foo/A=>BadAlias 2||foo/=>foo:;")
+    assert_lines(
+        &rt,
+        alloc,
+        &none,
+        "||foo/1=>BadAlias 2||foo/A=>BadAlias 2||foo/=>foo:;",
+    )
 }
 
 /// Each row is lines behind a count, and what is read of them if so many of them may have an entry.
@@ -175,7 +198,8 @@ fn assert_limited(rt: &impl Abort, alloc: Global, limit: usize, rows: &str) -> R
 const AT_MOST_NONE: &str = "||=>||\n\tfoo\n=>||foo\n=>TooMany 1";
 
 /// A fault of the line that is one too many goes first, and so does one at a lower line.
-const AT_MOST_TWO: &str = "||foo\n\nbar\n \n=>foo:;bar:;||foo\n\nbar\n \nbaz/1\nbad/x\n=>TooMany 5||foo\nbar\nbaz/x\n=>BadFlag 3\
+const AT_MOST_TWO: &str =
+    "||foo\n\nbar\n \n=>foo:;bar:;||foo\n\nbar\n \nbaz/1\nbad/x\n=>TooMany 5||foo\nbar\nbaz/x\n=>BadFlag 3\
     ||foo\n po:noun\nbar\nbaz\n=>EmptyWord 2";
 
 #[test]
@@ -185,7 +209,8 @@ fn stops_behind_the_limit(rt: HostRuntime) -> Result<(), Fail> {
 }
 
 /// Ignored characters go from words and not from flags; where nothing is left of a word, that goes before its flags.
-const IGNORED: &str = "||f-oo=>foo:;||-foo-=>foo:;||\u{5d0}\u{5b0}=>\u{5d0}:;||foo/--=>foo: 193273528365;\
+const IGNORED: &str =
+    "||f-oo=>foo:;||-foo-=>foo:;||\u{5d0}\u{5b0}=>\u{5d0}:;||foo/--=>foo: 193273528365;\
     ||--=>EmptyWord 2||--/abc=>EmptyWord 2||f/abc=>BadFlag 2";
 
 #[test]

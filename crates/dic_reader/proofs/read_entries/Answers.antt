@@ -38,7 +38,7 @@ returns-then-len-limit-clause-refused c =
     told-many c.args.affixes.now c.args.limit c.args.bytes.now c.args.lines.now c.loop-line.line-index no-line c.loop-line.entries c.in_ok-entry.entry
     c.line_text-text.result.now c.entry_of.result.now c.requires.rising
     c.loop-line-test.true c.line_text-text.ensures (sym c.if-is_passed_over.ensures) c.entry_of.ensures c.loop-line.invariant.read c.in_ok-entry.ensures.read
-    (omega (arith, c.if-len-limit.true))
+    (omega (arith, c.len.ensures, c.if-len-limit.true))
 
 pub loop-line-preserved : goal.loop-line-preserved
 loop-line-preserved c = record {
@@ -47,7 +47,7 @@ loop-line-preserved c = record {
       c.line_text-text.result.now c.entry_of.result.now
       c.loop-line-test.true c.line_text-text.ensures (sym c.if-is_passed_over.ensures) c.entry_of.ensures c.loop-line.invariant.read c.in_ok-entry.ensures.read
       c.in_ok-entry.ensures.word
-      (λ full. c.if-len-limit.false full) c.in_ok-push.ensures.ok;
+      (λ full. c.if-len-limit.false (c.len.ensures ∙ full)) c.in_ok-push.ensures.ok;
   ordinary = λ has. subst HaveOrdinaryFlags (sym c.in_ok-push.ensures.ok)
       (All-push (λ (entry : Entry). AreOrdinary entry.flags) c.loop-line.entries c.in_ok-entry.entry (c.loop-line.invariant.ordinary has) (c.in_ok-entry.ensures.ordinary has));
 }
