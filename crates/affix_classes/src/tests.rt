@@ -75,7 +75,6 @@ fn reads_conditions(rt: HostRuntime) -> Result<(), Fail> {
         let found = read_shown(rt.alloc(), field(row, 0))?;
         assert_eq!(rt; found.as_str(), field(row, 1), "{row}");
     }
-    conditions_are_read_by_pieces();
     Ok(())
 }
 
@@ -188,6 +187,11 @@ fn attaches_and_undoes(rt: HostRuntime) -> Result<(), Fail> {
             leads,
         )?;
     }
-    undoing_is_unique();
     Ok(())
+}
+
+#[test]
+fn says_what_holds_of_all() {
+    conditions_are_read_by_pieces();
+    undoing_is_unique();
 }

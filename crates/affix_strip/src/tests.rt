@@ -227,9 +227,12 @@ fn derives_words(rt: HostRuntime) -> Result<(), Fail> {
     let stems = lexicon_of(&rt, alloc, false, RULES, ENTRIES)?;
     assert_words(&rt, alloc, &stems, AFFIXED)?;
     assert_words(&rt, alloc, &stems, LICENSED)?;
-    assert_words(&rt, alloc, &stems, FITTING)?;
+    assert_words(&rt, alloc, &stems, FITTING)
+}
+
+#[test]
+fn says_what_derivations_are() {
     derivations_are();
-    Ok(())
 }
 
 #[test]
@@ -257,14 +260,19 @@ fn homonyms_of(alloc: Global, count: u32) -> Result<Entries, Fail> {
     Ok(entries)
 }
 
+fn stems_of_homonyms(rt: &impl Abort, alloc: Global, count: u32) -> Result<Stems, Fail> {
+    let entries = homonyms_of(alloc, count)?;
+    stems_of(rt, alloc, affixes_of(alloc, false, "S S 0 s 0")?, entries)
+}
+
+fn assert_homonyms(rt: &impl Abort, alloc: Global, stems: &Stems, count: u32) -> Result<(), Fail> {
+    let found = stems.derivations(alloc, &text_of(alloc, "runs")?)?;
+    assert_each(rt, &found, count);
+    Ok(())
+}
+
 #[test]
 fn derives_homonyms(rt: HostRuntime) -> Result<(), Fail> {
-    let alloc = rt.alloc();
-    let affixes = affixes_of(alloc, false, "S S 0 s 0")?;
-    let entries = homonyms_of(alloc, 1000)?;
-    let stems = stems_of(&rt, alloc, affixes, entries)?;
-    let word = text_of(alloc, "runs")?;
-    let found = stems.derivations(alloc, word.as_slice())?;
-    assert_each(&rt, found.as_slice(), 1000);
-    Ok(())
+    let stems = stems_of_homonyms(&rt, rt.alloc(), 9)?;
+    assert_homonyms(&rt, rt.alloc(), &stems, 9)
 }

@@ -135,7 +135,6 @@ fn tells_flags(rt: HostRuntime) -> Result<(), Fail> {
     }
     assert!(rt; !has(&set, None));
     assert!(rt; !has(&FlagSet::new(rt.alloc()), None));
-    fields_have_their_flags();
     Ok(())
 }
 
@@ -167,4 +166,9 @@ fn parts_at_the_slash(rt: HostRuntime) -> Result<(), Fail> {
         assert_eq!(rt; parted(rt.alloc(), text)?.as_str(), want, "of {text:?}");
     }
     Ok(())
+}
+
+#[test]
+fn says_what_holds_of_all() {
+    fields_have_their_flags();
 }

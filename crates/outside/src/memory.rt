@@ -139,7 +139,26 @@ mod tests {
         Ok(())
     }
 
-    // The second and the sixth load fail, whatever they are asked for.
+    /// Each row is a name, a limit, what is told of the load, and what is held then, `0` for nothing. The second and the
+    /// sixth load fail, whatever they are asked for.
+    const LOADS: &str =
+        "a 2 long old; a 3 failed old; a 3 loaded one; b 0 loaded 0; c 9 missing 0; c 9 failed 0; a 9 loaded one";
+
+    fn told(loaded: Result<(), FileFault>) -> &'static str {
+        match loaded {
+            Ok(()) => "loaded",
+            Err(FileFault::Failed) => "failed",
+            Err(FileFault::Missing) => "missing",
+            Err(FileFault::TooLong) => "long",
+            Err(FileFault::NoMemory) => "no memory",
+        }
+    }
+
+    /// The field with a place, from 0, of a row.
+    fn field<'a>(row: &'a str, place: usize) -> &'a str {
+        row.split(' ').nth(place).unwrap_or("?")
+    }
+
     #[test]
     fn loads_the_first_of_a_name(rt: HostRuntime) -> Result<(), Fail> {
         let alloc = rt.alloc();
@@ -150,21 +169,16 @@ mod tests {
         ]?;
         let mut folder = movable(MemFiles::new(files, vec![in alloc; 6u64, 2]?));
         let mut into = Vec::from_slice(alloc, b"old")?;
-        for (name, limit, want, holds) in [
-            ("a", 2, Err(FileFault::TooLong), "old"),
-            ("a", 3, Err(FileFault::Failed), "old"),
-            ("a", 3, Ok(()), "one"),
-            ("b", 0, Ok(()), ""),
-            ("c", 9, Err(FileFault::Missing), ""),
-            ("c", 9, Err(FileFault::Failed), ""),
-            ("a", 9, Ok(()), "one"),
-        ] {
-            assert_eq!(rt;
-                folder.load(alloc, name, limit, &mut into),
-                want,
-                "{name} at {limit}"
-            );
-            assert_eq!(rt; into.as_slice(), holds.as_bytes(), "{name} at {limit}");
+        for row in LOADS.split("; ") {
+            let limit = field(row, 1).parse::<u64>().unwrap_or(0);
+            let loaded = folder.load(alloc, field(row, 0), limit, &mut into);
+            assert_eq!(rt; told(loaded), field(row, 2), "{row}");
+            let holds = if into.is_empty() {
+                b"0".as_slice()
+            } else {
+                &into
+            };
+            assert_eq!(rt; holds, field(row, 3).as_bytes(), "{row}");
         }
         Ok(())
     }

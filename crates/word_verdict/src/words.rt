@@ -73,9 +73,5 @@ fn is_broken(alloc: Global, stems: &Stems, word: &[char]) -> Result<bool, NoMemo
 fn are_dots_inside(lexicon: &Lexicon) -> bool
     ensures { result ≡ is_one_of lexicon.now.affixes.wordchars 46 }
 {
-    lexicon
-        .affixes
-        .wordchars
-        .iter()
-        .any(|c| *c == '.')
+    lexicon.affixes.wordchars.iter().any(|c| *c == '.')
 }

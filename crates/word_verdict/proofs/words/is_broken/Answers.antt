@@ -7,5 +7,5 @@ use Rattle.word_verdict.proofs.words.is_broken.Goals as goal
 pub returns : goal.returns
 returns c =
     subst (λ b. IfOk c.broken.result (λ answer. answer ≡ b))
-    (broken_as_judged c.args.stems.now c.deref-breaks.result.now c.args.word.now (c.deref-breaks.ensures ∙ ap (λ lexicon. lexicon.affixes.breaks) c.lexicon.ensures))
+    (broken_as_judged c.args.stems.now c.deref.result.now c.args.word.now (c.deref.ensures ∙ ap (λ lexicon. lexicon.affixes.breaks) c.lexicon.ensures))
     (c.broken.ensures (judged c.args.stems.now) (λ word verdict says. search (rules, tests)))
