@@ -1,6 +1,9 @@
 -- What each part of the walk finds.
-use Rattle.std.proofs.Common.{◌≡◌, ◌∙◌, ◌↔◌, ◌⊎◌, inl, inr, refl, sym, ap, subst, ℕ, true, false, true≢false, ◌||◌, List, [], slice_get, Contains, Option, None, Some, is_none, is_some, arith}
+use Rattle.std.proofs.Common.{◌≡◌, ◌∙◌, ◌↔◌, ◌⊎◌, inl, inr, refl, sym, ap, subst, ℕ, suc, ◌<◌, ◌≤◌, length, true, false, true≢false, ◌||◌, List, [], slice_get, Contains, Option, None, Some, is_none, is_some, arith}
 use Rattle.std.specs.Option.{option_map, option_map_or}
+use Rattle.std.proofs.lemmas.Bool.{cases_order}
+use Rattle.std.proofs.lemmas.Option.{slice_get_within}
+use Rattle.std.proofs.lemmas.Slice.Eq.{bytes_eq-Decides}
 use Rattle.spell_types.specs.declared.Entry.{Entry}
 use Rattle.spell_types.specs.declared.Lexicon.{Lexicon}
 use Rattle.spell_types.specs.declared.derivations.Derivation.{Derivation}
@@ -10,12 +13,13 @@ use Rattle.spell_types.specs.Derivations.{affix_on, rule_on, is_right, form_of, 
 use Rattle.spell_types.specs.Flags.{has}
 use Rattle.spell_types.specs.Licences.{is_licensed}
 use Rattle.affix_tables.specs.Places.{suffix_places, prefix_places}
-use Rattle.affix_tables.specs.Tables.{places_at}
 use Rattle.affix_strip.specs.Parts.{stem_of, with_first, with_suffixes, with_all, Passes, AtSome, Adds}
-use Rattle.affix_strip.specs.Tables.{HasEntries, IsReady, may_be_outer}
+use Rattle.affix_strip.specs.EntryTable.{has_word, passes_at, last_where}
+use Rattle.affix_strip.specs.Tables.{IsReady, may_be_outer}
 use Rattle.affix_strip.specs.Undone.{undone_at}
 use Rattle.affix_strip.specs.declared.walk.Dictionary.{Dictionary}
 use Rattle.affix_strip.proofs.AddLemmas.{adds-none, adds-same, adds-then}
+use Rattle.affix_strip.proofs.EntryLemmas.{end_of, last_where-is, last_where-below, last_where-end, passes-entry}
 use Rattle.affix_strip.proofs.InverseLemmas.{rule_on-side}
 use Rattle.affix_strip.proofs.LicenceLemmas.{licensed-order, form-parts, IsCarrier, carrier}
 use Rattle.affix_strip.proofs.StepLemmas.{IsAffix, step-none, step-some, step-nothing, step-all}
@@ -43,41 +47,98 @@ abbrev pub Behind : Option ℕ → Derivation → Type 0
 Behind prefix d = d.prefix ≡ prefix
 
 -- ---- entries
-pub entries-found : (lexicon : Lexicon) (table : List (_ × _)) (prefix first second : Option ℕ) (stem : List ℕ) (places : List ℕ) (xs ys : List Derivation) → HasEntries lexicon.entries table → places ≡ places_at table stem
-    → Adds (AtSome (λ entry d. (d ≡ derivation_of entry prefix first second) × (is_licensed lexicon d ≡ true)) places) xs ys
-    → Adds (Passes lexicon (With prefix first second) (stem_of lexicon) stem) xs ys
-entries-found lexicon table prefix first second stem places xs ys holds is adds =
-    adds-same (AtSome (λ entry d. (d ≡ derivation_of entry prefix first second) × (is_licensed lexicon d ≡ true)) places) (Passes lexicon (With prefix first second) (stem_of lexicon) stem) xs ys adds
-    (λ d. (there d, back d))
+-- those from the entry with a place on
+abbrev PassesFrom : Lexicon → Option ℕ → Option ℕ → Option ℕ → List ℕ → ℕ → Derivation → Type 0
+PassesFrom lexicon prefix first second stem from d = Passes lexicon (With prefix first second) (stem_of lexicon) stem d × (from ≤ d.entry)
+
+-- the derivations behind the next entry are added, which is the last one of the word below a bound
+pub record AddsBehind (lexicon : Lexicon) (prefix first second : Option ℕ) (stem : List ℕ) (next : Option ℕ) (before now : List Derivation) : Type 0 where
+  pub below : (bound : ℕ) × (next ≡ last_where (has_word stem) lexicon.entries bound)
+  pub adds : Adds (PassesFrom lexicon prefix first second stem (end_of next)) before now
+
+passes-word : (lexicon : Lexicon) (prefix first second : Option ℕ) (stem : List ℕ) (d : Derivation) → Passes lexicon (With prefix first second) (stem_of lexicon) stem d → passes_at (has_word stem) lexicon.entries d.entry ≡ true
+passes-word lexicon prefix first second stem d passes = by (slice_get lexicon.entries d.entry) passes.at
   where
-    word-at : (found : Option Entry) (entry : Entry) → found ≡ Some entry → entry.word ≡ stem → option_map (λ (e : Entry). e.word) found ≡ Some stem
-    word-at found entry at word = ap (option_map (λ (e : Entry). e.word)) at ∙ ap (λ w. Some w) word
+    by : (found : Option Entry) → option_map (λ (e : Entry). e.word) found ≡ Some stem → option_map_or (has_word stem) found false ≡ true
+    by None at = absurd (cc)
+    by (Some entry) at =
+        let same : entry.word ≡ stem = cc in
+        (bytes_eq-Decides entry.word stem).1 same
 
-    known : (place : ℕ) → Contains places place → stem_of lexicon (derivation_of place prefix first second) ≡ Some stem
-    known place inside = by ((holds.at_word stem place).0 (subst (λ ps. Contains ps place) is inside))
+word-passes : (lexicon : Lexicon) (prefix first second : Option ℕ) (stem : List ℕ) (place : ℕ) → passes_at (has_word stem) lexicon.entries place ≡ true → stem_of lexicon (derivation_of place prefix first second) ≡ Some stem
+word-passes lexicon prefix first second stem place passes = by (slice_get lexicon.entries place) passes
+  where
+    by : (found : Option Entry) → option_map_or (has_word stem) found false ≡ true → option_map (λ (e : Entry). e.word) found ≡ Some stem
+    by None is = absurd (true≢false (sym is))
+    by (Some entry) is = ap (λ w. Some w) ((bytes_eq-Decides entry.word stem).0 is)
+
+pub entries-first : (lexicon : Lexicon) (prefix first second : Option ℕ) (stem : List ℕ) (next : Option ℕ) (xs : List Derivation) → next ≡ last_where (has_word stem) lexicon.entries (length lexicon.entries) → AddsBehind lexicon prefix first second stem next xs xs
+entries-first lexicon prefix first second stem next xs is = record {
+  below = (length lexicon.entries, is);
+  adds = adds-none (PassesFrom lexicon prefix first second stem (end_of next)) xs none;
+}
+  where
+    none : (d : Derivation) → PassesFrom lexicon prefix first second stem (end_of next) d → ⊥
+    none d (passes, from) = by (passes-entry (has_word stem) lexicon.entries d.entry word)
       where
-        by : ((entry : Entry) × (slice_get lexicon.entries place ≡ Some entry) × (entry.word ≡ stem)) → stem_of lexicon (derivation_of place prefix first second) ≡ Some stem
-        by (entry, at, word) = word-at (slice_get lexicon.entries place) entry at word
+        word : passes_at (has_word stem) lexicon.entries d.entry ≡ true
+        word = passes-word lexicon prefix first second stem d passes
 
-    there : (d : Derivation) → AtSome (λ entry d. (d ≡ derivation_of entry prefix first second) × (is_licensed lexicon d ≡ true)) places d → Passes lexicon (With prefix first second) (stem_of lexicon) stem d
-    there d at = record {
-      licensed = at.is.1;
-      has = (ap (λ (e : Derivation). e.prefix) at.is.0, (ap (λ (e : Derivation). e.first) at.is.0, ap (λ (e : Derivation). e.second) at.is.0));
-      at = ap (stem_of lexicon) at.is.0 ∙ known at.place at.among;
-    }
+        by : ((entry : Entry) × (slice_get lexicon.entries d.entry ≡ Some entry) × (has_word stem entry ≡ true)) → ⊥
+        by (entry, at, same) =
+            let within : d.entry < length lexicon.entries = slice_get_within lexicon.entries d.entry entry at in
+            let before : d.entry < end_of (last_where (has_word stem) lexicon.entries (length lexicon.entries)) = last_where-end (has_word stem) lexicon.entries (length lexicon.entries) d.entry within word in
+            let begins : end_of (last_where (has_word stem) lexicon.entries (length lexicon.entries)) ≤ d.entry = subst (λ found. end_of found ≤ d.entry) is from in
+            omega (arith, before, begins)
 
-    entry-of : (d : Derivation) (found : Option Entry) → slice_get lexicon.entries d.entry ≡ found → option_map (λ (e : Entry). e.word) found ≡ Some stem → Contains places d.entry
-    entry-of d None at word = absurd (cc)
-    entry-of d (Some entry) at word = subst (λ ps. Contains ps d.entry) (sym is) ((holds.at_word stem d.entry).1 (entry, at, cc))
+pub entries-at : (lexicon : Lexicon) (prefix first second : Option ℕ) (stem : List ℕ) (place : ℕ) (xs ys : List Derivation) → AddsBehind lexicon prefix first second stem (Some place) xs ys → passes_at (has_word stem) lexicon.entries place ≡ true
+entries-at lexicon prefix first second stem place xs ys so = (last_where-is (has_word stem) lexicon.entries so.below.0 place (sym so.below.1)).1
 
-    same : (d : Derivation) → With prefix first second d → d ≡ derivation_of d.entry prefix first second
-    same d (one, (two, three)) =
-        ap (λ p. derivation_of d.entry p d.first d.second) one
-        ∙ ap (λ f. derivation_of d.entry prefix f d.second) two
-        ∙ ap (derivation_of d.entry prefix first) three
+pub entries-more : (lexicon : Lexicon) (prefix first second : Option ℕ) (stem : List ℕ) (place : ℕ) (next : Option ℕ) (xs ys zs : List Derivation) → AddsBehind lexicon prefix first second stem (Some place) xs ys
+    → Adds (λ d. (d ≡ derivation_of place prefix first second) × (is_licensed lexicon d ≡ true)) ys zs
+    → next ≡ last_where (has_word stem) lexicon.entries place → AddsBehind lexicon prefix first second stem next xs zs
+entries-more lexicon prefix first second stem place next xs ys zs so one is = record {
+  below = (place, is);
+  adds = adds-then (PassesFrom lexicon prefix first second stem (suc place)) (λ d. (d ≡ derivation_of place prefix first second) × (is_licensed lexicon d ≡ true)) (PassesFrom lexicon prefix first second stem (end_of next)) xs ys zs so.adds one
+      (λ d. (there d, back d));
+}
+  where
+    ends : end_of next ≤ place
+    ends = subst (λ found. end_of found ≤ place) (sym is) (last_where-below (has_word stem) lexicon.entries place)
 
-    back : (d : Derivation) → Passes lexicon (With prefix first second) (stem_of lexicon) stem d → AtSome (λ entry d. (d ≡ derivation_of entry prefix first second) × (is_licensed lexicon d ≡ true)) places d
-    back d passes = record { place = d.entry; among = entry-of d (slice_get lexicon.entries d.entry) refl passes.at; is = (same d passes.has, passes.licensed) }
+    there : (d : Derivation) → PassesFrom lexicon prefix first second stem (suc place) d ⊎ ((d ≡ derivation_of place prefix first second) × (is_licensed lexicon d ≡ true)) → PassesFrom lexicon prefix first second stem (end_of next) d
+    there d (inl (passes, from)) = (passes, omega (arith, from, ends))
+    there d (inr (same, licensed)) = (
+      record {
+        licensed = licensed;
+        has = (ap (λ (e : Derivation). e.prefix) same, (ap (λ (e : Derivation). e.first) same, ap (λ (e : Derivation). e.second) same));
+        at = ap (stem_of lexicon) same ∙ word-passes lexicon prefix first second stem place (entries-at lexicon prefix first second stem place xs ys so);
+      },
+      subst (λ i. end_of next ≤ i) (sym (ap (λ (e : Derivation). e.entry) same)) ends,
+    )
+
+    same-parts : (d : Derivation) → d.entry ≡ place → With prefix first second d → d ≡ derivation_of place prefix first second
+    same-parts d at (one, (two, three)) =
+        ap (λ i. derivation_of i d.prefix d.first d.second) at
+        ∙ ap (λ p. derivation_of place p d.first d.second) one
+        ∙ ap (λ f. derivation_of place prefix f d.second) two
+        ∙ ap (derivation_of place prefix first) three
+
+    back : (d : Derivation) → PassesFrom lexicon prefix first second stem (end_of next) d → PassesFrom lexicon prefix first second stem (suc place) d ⊎ ((d ≡ derivation_of place prefix first second) × (is_licensed lexicon d ≡ true))
+    back d (passes, from) = by (cases_order d.entry place)
+      where
+        by : (d.entry ≡ place) ⊎ ((d.entry < place) ⊎ (place < d.entry)) → PassesFrom lexicon prefix first second stem (suc place) d ⊎ ((d ≡ derivation_of place prefix first second) × (is_licensed lexicon d ≡ true))
+        by (inl same) = inr (same-parts d same passes.has, passes.licensed)
+        by (inr (inl less)) =
+            let before : d.entry < end_of (last_where (has_word stem) lexicon.entries place) = last_where-end (has_word stem) lexicon.entries place d.entry less (passes-word lexicon prefix first second stem d passes) in
+            let begins : end_of (last_where (has_word stem) lexicon.entries place) ≤ d.entry = subst (λ found. end_of found ≤ d.entry) is from in
+            absurd (omega (arith, before, begins))
+        by (inr (inr more)) = inl (passes, omega (arith, more))
+
+pub entries-last : (lexicon : Lexicon) (prefix first second : Option ℕ) (stem : List ℕ) (xs ys : List Derivation) → AddsBehind lexicon prefix first second stem None xs ys → Adds (Passes lexicon (With prefix first second) (stem_of lexicon) stem) xs ys
+entries-last lexicon prefix first second stem xs ys so =
+    adds-same (PassesFrom lexicon prefix first second stem 0) (Passes lexicon (With prefix first second) (stem_of lexicon) stem) xs ys so.adds
+    (λ d. (λ from. from.0, λ passes. (passes, omega arith)))
 
 -- ---- the first suffix
 pub bare-found : (lexicon : Lexicon) (prefix second : Option ℕ) (stem : List ℕ) (xs ys : List Derivation) → Adds (Passes lexicon (With prefix None second) (stem_of lexicon) stem) xs ys → Adds (Passes lexicon (With prefix None second) (with_first lexicon) stem) xs ys

@@ -1,4 +1,5 @@
 pub mod AddLemmas
+pub mod EntryLemmas
 pub mod FoundLemmas
 pub mod InverseLemmas
 pub mod LicenceLemmas

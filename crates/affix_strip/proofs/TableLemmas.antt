@@ -1,14 +1,10 @@
--- The tables of a dictionary: one entry more, one rule more; and which places they give.
-use Rattle.std.proofs.Common.{◌≡◌, ◌∙◌, ◌⊎◌, inl, inr, refl, sym, ap, subst, ℕ, zero, suc, ◌+◌, ◌<◌, Bool, true, false, cond, ◌&&◌, ◌||◌, true≢false, List, [], ◌∷◌, ◌++◌, length, take, get_or, nat_eq, slice_get, Contains, None, Some, if◌then◌else◌, Vec, Global, arith}
-use Rattle.std.specs.Cmp.Lexicographic.{pointwise}
+-- The tables of rules: one rule more, and which places they give.
+use Rattle.std.proofs.Common.{◌≡◌, ◌∙◌, ◌⊎◌, inl, inr, refl, sym, ap, subst, ℕ, zero, suc, ◌+◌, ◌<◌, Bool, true, false, cond, ◌&&◌, ◌||◌, true≢false, List, [], ◌∷◌, ◌++◌, length, take, get_or, nat_eq, slice_get, Contains, None, Some, if◌then◌else◌}
 use Rattle.std.specs.List.{starts_with, ends_with}
 use Rattle.std.proofs.lemmas.Bool.{and_parts}
 use Rattle.std.proofs.lemmas.List.{take_more}
-use Rattle.std.proofs.lemmas.List.Elements.{Contains-append_left, Contains-append_right, Contains-append_cases}
 use Rattle.std.proofs.lemmas.Option.{option_and_then_some, cond_some}
-use Rattle.std.proofs.lemmas.Slice.Eq.{bytes_eq-Decides}
 use Rattle.spell_types.specs.declared.Affixes.{Affixes}
-use Rattle.spell_types.specs.declared.Entry.{Entry}
 use Rattle.spell_types.specs.declared.flags.Flag.{Flag}
 use Rattle.spell_types.specs.declared.rules.Rule.{Rule}
 use Rattle.spell_types.specs.declared.rules.Side.{Side}
@@ -20,9 +16,8 @@ use Rattle.spell_types.specs.Flags.{has, put, put_all}
 use Rattle.spell_types.proofs.FlagLemmas.{put_all-has}
 use Rattle.affix_classes.specs.Undoing.{undone_suffix, undone_prefix, suffix_put_back, prefix_put_back}
 use Rattle.affix_tables.specs.Places.{suffix_places, prefix_places}
-use Rattle.affix_tables.specs.Tables.{places_at}
 use Rattle.affix_tables.proofs.LawLemmas.{suffix-members, prefix-members}
-use Rattle.affix_strip.specs.Tables.{HasEntries, HasCarried}
+use Rattle.affix_strip.specs.Tables.{HasCarried}
 use Rattle.affix_strip.specs.Undone.{undone_at}
 use Rattle.affix_strip.proofs.InverseLemmas.{rule_on-side}
 
@@ -45,54 +40,6 @@ get-more (z ∷ xs) x (suc i) y at = later (get-more xs x i y at)
     later : (slice_get xs i ≡ Some y) ⊎ ((i ≡ length xs) × (x ≡ y)) → (slice_get xs i ≡ Some y) ⊎ ((suc i ≡ length (z ∷ xs)) × (x ≡ y))
     later (inl there) = inl there
     later (inr (last, same)) = inr (ap suc last, same)
-
--- ---- entries by their words
-abbrev Table : Type 0
-Table = List (Vec ℕ Global × Vec ℕ Global)
-
-pub entries-none : HasEntries [] []
-entries-none = record {
-  at_word = λ word place. (
-    λ (k, within, at). absurd (omega (arith, within)),
-    λ (entry, at, is). absurd (cc),
-  );
-}
-
-abbrev Known : List Entry → List ℕ → ℕ → Type 0
-Known entries word place = (entry : Entry) × (slice_get entries place ≡ Some entry) × (entry.word ≡ word)
-
-pub entries-more : (entries : List Entry) (entry : Entry) (before now : Table) → HasEntries entries before → ((other : List ℕ) → places_at now other ≡ places_at before other ++ (if pointwise nat_eq other entry.word then length entries ∷ [] else [])) → HasEntries (entries ++ entry ∷ []) now
-entries-more entries entry before now holds adds = record {
-  at_word = λ word place. (
-    λ inside. there word place (Contains-append_cases (places_at before word) (if pointwise nat_eq word entry.word then length entries ∷ [] else []) place (subst (λ places. Contains places place) (adds word) inside)),
-    λ known. subst (λ places. Contains places place) (sym (adds word)) (back word place known),
-  );
-}
-  where
-    new : (word : List ℕ) (place : ℕ) (b : Bool) → pointwise nat_eq word entry.word ≡ b → Contains (cond b (length entries ∷ []) []) place → Known (entries ++ entry ∷ []) word place
-    new word place true same (zero, within, at) = (entry, subst (λ i. slice_get (entries ++ entry ∷ []) i ≡ Some entry) at (get-end entries entry), sym ((bytes_eq-Decides word entry.word).0 same))
-    new word place true same (suc k, within, at) = absurd (omega (arith, within))
-    new word place false same (k, within, at) = absurd (omega (arith, within))
-
-    old : (word : List ℕ) (place : ℕ) → Known entries word place → Known (entries ++ entry ∷ []) word place
-    old word place (e, at, is) = (e, get-front entries entry place e at, is)
-
-    there : (word : List ℕ) (place : ℕ) → Contains (places_at before word) place ⊎ Contains (if pointwise nat_eq word entry.word then length entries ∷ [] else []) place → Known (entries ++ entry ∷ []) word place
-    there word place (inl inside) = old word place ((holds.at_word word place).0 inside)
-    there word place (inr inside) = new word place (pointwise nat_eq word entry.word) refl inside
-
-    last : (word : List ℕ) (place : ℕ) (b : Bool) → b ≡ true → place ≡ length entries → Contains (cond b (length entries ∷ []) []) place
-    last word place true is at = (0, omega arith, sym at)
-    last word place false is at = absurd (true≢false (sym is))
-
-    by : (word : List ℕ) (place : ℕ) (e : Entry) → (slice_get entries place ≡ Some e) ⊎ ((place ≡ length entries) × (entry ≡ e)) → e.word ≡ word → Contains (places_at before word ++ (if pointwise nat_eq word entry.word then length entries ∷ [] else [])) place
-    by word place e (inl at) is = Contains-append_left (places_at before word) (if pointwise nat_eq word entry.word then length entries ∷ [] else []) place ((holds.at_word word place).1 (e, at, is))
-    by word place e (inr (at, same)) is =
-        Contains-append_right (places_at before word) (if pointwise nat_eq word entry.word then length entries ∷ [] else []) place
-        (last word place (pointwise nat_eq word entry.word) ((bytes_eq-Decides word entry.word).1 (sym is ∙ ap (λ (x : Entry). x.word) (sym same))) at)
-
-    back : (word : List ℕ) (place : ℕ) → Known (entries ++ entry ∷ []) word place → Contains (places_at before word ++ (if pointwise nat_eq word entry.word then length entries ∷ [] else [])) place
-    back word place (e, at, is) = by word place e (get-more entries entry place e at) is
 
 -- ---- the flags that suffix rules carry
 pub carried-none : (set : List Flag) → HasCarried [] set

@@ -1,3 +1,4 @@
+pub mod EntryTable
 pub mod Found
 pub mod Parts
 pub mod Tables

@@ -1,19 +1,13 @@
 -- What the tables of a dictionary hold.
-use Rattle.std.specs.Prelude.{◌≡◌, ◌↔◌, ℕ, Bool, true, false, List, slice_get, Contains, Some}
+use Rattle.std.specs.Prelude.{◌≡◌, ℕ, Bool, true, false, List, slice_get, Some}
 use Rattle.std.specs.Option.{option_map_or}
-use Rattle.std.specs.declared.alloc.Global.{Global}
-use Rattle.std.specs.declared.vec.Vec.{Vec}
-use Rattle.spell_types.specs.declared.Entry.{Entry}
 use Rattle.spell_types.specs.declared.flags.Flag.{Flag}
 use Rattle.spell_types.specs.declared.rules.Rule.{Rule}
 use Rattle.spell_types.specs.declared.rules.Side.TheVariants.{Suffix}
 use Rattle.spell_types.specs.Flags.{has}
-use Rattle.affix_tables.specs.Tables.{places_at, IsTableOf}
+use Rattle.affix_tables.specs.Tables.{IsTableOf}
+use Rattle.affix_strip.specs.EntryTable.{HasEntries}
 use Rattle.affix_strip.specs.declared.walk.Dictionary.{Dictionary}
-
--- at each word the places of the entries that have it
-pub record HasEntries (entries : List Entry) (table : List (Vec ℕ Global × Vec ℕ Global)) : Type 0 where
-  pub at_word : (word : List ℕ) (place : ℕ) → Contains (places_at table word) place ↔ ((entry : Entry) × (slice_get entries place ≡ Some entry) × (entry.word ≡ word))
 
 -- the set has each flag that a suffix rule carries
 pub record HasCarried (rules : List Rule) (set : List Flag) : Type 0 where
@@ -22,7 +16,7 @@ pub record HasCarried (rules : List Rule) (set : List Flag) : Type 0 where
 -- the tables are those of the dictionary
 pub record IsReady (dictionary : Dictionary) : Type 0 where
   pub rules : IsTableOf dictionary.lexicon.affixes.rules dictionary.rules
-  pub entries : HasEntries dictionary.lexicon.entries dictionary.by_word.entries
+  pub entries : HasEntries dictionary.lexicon.entries dictionary.by_word
   pub carried : HasCarried dictionary.lexicon.affixes.rules dictionary.carried
 
 -- whether the flag of the rule with a place is among those that suffix rules carry

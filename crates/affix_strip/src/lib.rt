@@ -9,6 +9,7 @@ ghost use Rattle.spell_types.specs.Licences.{is_licensed};
 ghost use Rattle.spell_types.specs.Sanity.{IsSane};
 ghost use Rattle.affix_strip.specs.Found.{derivations_of, derivation_cmp, AreInOrder};
 
+mod entry_table;
 #[cfg(test)]
 mod tests;
 mod walk;

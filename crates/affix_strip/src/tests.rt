@@ -3,6 +3,7 @@ ghost use Rattle.std.specs.Prelude.{◌<◌, ◌^◌, All, IsTrue, length};
 ghost use Rattle.spell_types.specs.Sanity.{IsSane};
 
 use super::*;
+use crate::entry_table::{START, fold};
 use affix_classes::read_condition;
 use lists::{Copied, Items};
 use spell_types::{
@@ -275,4 +276,22 @@ fn assert_homonyms(rt: &impl Abort, alloc: Global, stems: &Stems, count: u32) ->
 fn derives_homonyms(rt: HostRuntime) -> Result<(), Fail> {
     let stems = stems_of_homonyms(&rt, rt.alloc(), 9)?;
     assert_homonyms(&rt, rt.alloc(), &stems, 9)
+}
+
+/// Homonyms of two words that have one hash.
+const ALIKE: &str = "akaihaalsioa S; eadaaenaaaai 0; akaihaalsioa 0; eadaaenaaaai S";
+
+#[test]
+fn tells_words_of_one_hash_apart(rt: HostRuntime) -> Result<(), Fail> {
+    let alloc = rt.alloc();
+    let word = text_of(alloc, "akaihaalsioa")?;
+    let other = text_of(alloc, "eadaaenaaaai")?;
+    assert_eq!(rt; fold(START, word.as_slice()), fold(START, other.as_slice()));
+    let stems = lexicon_of(&rt, alloc, false, "S S 0 s 0", ALIKE)?;
+    assert_words(
+        &rt,
+        alloc,
+        &stems,
+        "akaihaalsioa: 0 - - -, 2 - - -; eadaaenaaaai: 1 - - -, 3 - - -; akaihaalsioas: 0 - 0 -; eadaaenaaaais: 3 - 0 -",
+    )
 }

@@ -2,20 +2,19 @@
 
 ghost use Rattle.std.specs.Prelude.{◌≡◌, ◌++◌, ◌^◌, ◌<◌, ◌↔◌, ℕ, List, Some, None, true, length, Contains, OnOk, IfOk, if◌then◌else◌};
 ghost use Rattle.spell_types.specs.declared.derivations.Derivation.{Derivation};
-ghost use Rattle.spell_types.specs.Derivations.{is_same_side, derivation_of, form_of};
+ghost use Rattle.spell_types.specs.Derivations.{is_same_side, form_of};
 ghost use Rattle.spell_types.specs.Flags.{put_all};
 ghost use Rattle.spell_types.specs.Licences.{is_licensed};
 ghost use Rattle.affix_tables.specs.Places.{suffix_places, prefix_places};
-ghost use Rattle.affix_tables.specs.Tables.{places_at};
 ghost use Rattle.affix_strip.specs.Parts.{stem_of, with_first, with_suffixes, with_all, Passes, AtSome, Adds};
-ghost use Rattle.affix_strip.specs.Tables.{HasEntries, HasCarried, IsReady, may_be_outer};
+ghost use Rattle.affix_strip.specs.Tables.{HasCarried, IsReady, may_be_outer};
 ghost use Rattle.affix_strip.specs.Undone.{undone_by, undone_at};
 
+use crate::entry_table::{EntryTable, START, fold};
 use affix_classes::{undo_prefix, undo_suffix};
-use affix_tables::{AffixTables, put_at};
-use indexmap::IndexMap;
+use affix_tables::AffixTables;
 use lists::NoMemory;
-use spell_types::{Chars, Derivation, Entry, FlagSet, Lexicon, Rule, Side, has, licensed};
+use spell_types::{Chars, Derivation, FlagSet, Lexicon, Rule, Side, has, licensed};
 use std::alloc::Global;
 
 /// A dictionary, and tables of its rules and entries.
@@ -24,8 +23,8 @@ pub(crate) struct Dictionary {
     pub(crate) lexicon: Lexicon,
     /// The rules by what they add.
     rules: AffixTables,
-    /// At each word the places of its entries.
-    by_word: IndexMap<Vec<char>, Vec<u32>>,
+    /// The entries by their words.
+    by_word: EntryTable,
     /// The flags that suffix rules carry: no other class has second suffixes.
     carried: FlagSet,
 }
@@ -39,7 +38,7 @@ impl Dictionary {
         ensures ready { IfOk result (λ made. IsReady made) }
     {
         let rules = AffixTables::new(alloc, lexicon.affixes.rules.as_slice())?;
-        let by_word = places_by_word(alloc, lexicon.entries.as_slice())?;
+        let by_word = EntryTable::new(alloc, lexicon.entries.as_slice())?;
         let carried = carried_by_suffixes(alloc, lexicon.affixes.rules.as_slice())?;
         Ok(Dictionary {
             lexicon,
@@ -270,33 +269,20 @@ impl Dictionary {
         ensures { OnOk result (Adds (Passes self.now.lexicon (λ d. (d.prefix ≡ prefix) × ((d.first ≡ first) × (d.second ≡ second)))
             (stem_of self.now.lexicon) stem.now) found.old.items found.new.items) }
     {
-        let entries = places_of(&self.by_word, stem);
-        add_each_entry(&self.lexicon, prefix, first, second, entries, found)
+        let entries = self.lexicon.entries.as_slice();
+        let mut next = self.by_word.last_of(entries, fold(START, stem), stem, &[]);
+        while let Some(entry) = next {
+            let d = Derivation {
+                entry,
+                prefix,
+                first,
+                second,
+            };
+            add_licensed(&self.lexicon, d, found)?;
+            next = self.by_word.before(entries, entry, stem, &[]);
+        }
+        Ok(())
     }
-}
-
-/// Adds the derivations with these affixes from these entries that are licensed.
-fn add_each_entry(
-    lexicon: &Lexicon,
-    prefix: Option<u32>,
-    first: Option<u32>,
-    second: Option<u32>,
-    entries: &[u32],
-    found: &mut Vec<Derivation>,
-) -> Result<(), NoMemory>
-    ensures { OnOk result (Adds (AtSome (λ entry d. (d ≡ derivation_of entry prefix first second) × (is_licensed lexicon.now d ≡ true)) entries.now)
-        found.old.items found.new.items) }
-{
-    for entry in entries {
-        let d = Derivation {
-            entry: *entry,
-            prefix,
-            first,
-            second,
-        };
-        add_licensed(lexicon, d, found)?;
-    }
-    Ok(())
 }
 
 /// Adds a derivation, if it is licensed.
@@ -311,31 +297,6 @@ fn add_licensed(
         found.push(d)?;
     }
     Ok(())
-}
-
-/// The places of a word's entries.
-fn places_of<'a>(by_word: &'a IndexMap<Vec<char>, Vec<u32>>, word: &[char]) -> &'a [u32]
-    ensures { result.now ≡ places_at by_word.now.entries word.now }
-{
-    match by_word.get(word) {
-        None => &[],
-        Some(places) => places.as_slice(),
-    }
-}
-
-/// The places of entries by their words.
-fn places_by_word(
-    alloc: Global,
-    entries: &[Entry],
-) -> Result<IndexMap<Vec<char>, Vec<u32>>, NoMemory>
-    requires { length entries.now < 2 ^ 32 }
-    ensures { IfOk result (λ made. HasEntries entries.now made.entries) }
-{
-    let mut by_word = IndexMap::new(alloc);
-    for (place, entry) in entries.iter().enumerate() {
-        put_at(alloc, &mut by_word, entry.word.as_slice(), place as u32)?;
-    }
-    Ok(by_word)
 }
 
 /// The flags that suffix rules carry.

@@ -1,0 +1,146 @@
+//! Entries by a hash of their words. A word is compared only with those of its hash, so no words are kept beside the
+//! entries.
+
+ghost use Rattle.std.specs.Prelude.{◌≡◌, ◌++◌, [], ◌∷◌, ◌^◌, ◌<◌, ℕ, List, true, length, slice_get, OnOk, IfOk};
+ghost use Rattle.std.specs.Option.{option_flatten};
+ghost use Rattle.spell_types.specs.declared.Entry.{Entry};
+ghost use Rattle.spell_types.specs.Cases.{is_same_word};
+ghost use Rattle.affix_strip.specs.EntryTable.{folded, hash_of, has_hash, has_word, passes_at, last_where, HasEntries};
+
+use indexmap::IndexMap;
+use lists::NoMemory;
+use spell_types::Entry;
+use std::alloc::Global;
+
+/// The hash of a text without characters.
+pub(crate) const START: u64 = 1;
+
+/// What a hash is multiplied with before a character is added. It is odd, so that no bit of what stands before is lost.
+const FACTOR: u64 = 0x9E37_79B9_7F4A_7C15;
+
+/// The entries of a dictionary by a hash of their words. They are not kept: each call is given those that the table was
+/// made of. An entry is named by its place among them, from 0.
+#[derive(Drop)]
+pub(crate) struct EntryTable {
+    /// At each hash the last place of an entry whose word has it.
+    last: IndexMap<u64, u32>,
+    /// At each place the last one below it of an entry whose word has the same hash.
+    earlier: Vec<Option<u32>>,
+}
+
+impl EntryTable {
+    /// The table of these entries. It fails only where memory is wanting.
+    pub(crate) fn new(alloc: Global, entries: &[Entry]) -> Result<EntryTable, NoMemory>
+        requires { length entries.now < 2 ^ 32 }
+        ensures { IfOk result (λ made. HasEntries entries.now made) }
+    {
+        let last = IndexMap::with_capacity(alloc, entries.len())?;
+        let earlier = Vec::with_capacity(alloc, entries.len())?;
+        let mut table = EntryTable { last, earlier };
+        for (place, entry) in entries.iter().enumerate() {
+            table.add(entry, place as u32)?;
+        }
+        Ok(table)
+    }
+
+    /// Adds the entry with a place, which is the one behind the entries so far.
+    fn add(&mut self, entry: &Entry, place: u32) -> Result<(), NoMemory>
+        ensures { OnOk result ((entries : List Entry) → length entries ≡ place → HasEntries entries self.old
+            → HasEntries (entries ++ entry.now ∷ []) self.new) }
+    {
+        let hash = fold(START, entry.word.as_slice());
+        let earlier = self.last.insert(hash, place)?;
+        self.earlier.push(earlier)?;
+        Ok(())
+    }
+
+    /// The last place of an entry whose word is `front` and `back` joined. The hash is that of the word.
+    pub(crate) fn last_of(
+        &self,
+        entries: &[Entry],
+        hash: u64,
+        front: &[char],
+        back: &[char],
+    ) -> Option<u32>
+        requires entries { HasEntries entries.now self.now }
+        requires hash { hash ≡ hash_of (front.now ++ back.now) }
+        ensures { result ≡ last_where (has_word (front.now ++ back.now)) entries.now (length entries.now) }
+    {
+        self.down_from(entries, self.last.get(&hash).copied(), front, back)
+    }
+
+    /// The last place of such an entry below a place where one stands.
+    pub(crate) fn before(
+        &self,
+        entries: &[Entry],
+        place: u32,
+        front: &[char],
+        back: &[char],
+    ) -> Option<u32>
+        requires entries { HasEntries entries.now self.now }
+        requires place { passes_at (has_word (front.now ++ back.now)) entries.now place ≡ true }
+        ensures { result ≡ last_where (has_word (front.now ++ back.now)) entries.now place }
+    {
+        self.down_from(entries, self.earlier_of(place), front, back)
+    }
+
+    /// The first place whose entry's word is `front` and `back` joined, from a place on down those of its hash.
+    fn down_from(
+        &self,
+        entries: &[Entry],
+        start: Option<u32>,
+        front: &[char],
+        back: &[char],
+    ) -> Option<u32>
+        requires { HasEntries entries.now self.now }
+        ensures { (bound : ℕ) → start ≡ last_where (has_hash (hash_of (front.now ++ back.now))) entries.now bound
+            → result ≡ last_where (has_word (front.now ++ back.now)) entries.now bound }
+    {
+        let mut next = start;
+        while let Some(place) = next {
+            if is_word_at(entries, place, front, back) {
+                return next;
+            }
+            next = self.earlier_of(place);
+        }
+        None
+    }
+
+    /// The last place below a place of an entry whose word has the same hash.
+    fn earlier_of(&self, place: u32) -> Option<u32>
+        ensures { result ≡ option_flatten (slice_get self.now.earlier.items place) }
+    {
+        self.earlier.get(place as usize).copied().flatten()
+    }
+}
+
+/// The hash of a text, taken on from the hash of what stands before it.
+pub(crate) fn fold(hash: u64, characters: &[char]) -> u64
+    ensures { result ≡ folded hash characters.now }
+{
+    let mut folded = hash;
+    for c in characters {
+        folded = folded.wrapping_mul(FACTOR).wrapping_add(*c as u64);
+    }
+    folded
+}
+
+/// Whether there is an entry at a place, and its word is `front` and `back` joined.
+fn is_word_at(entries: &[Entry], place: u32, front: &[char], back: &[char]) -> bool
+    ensures { result ≡ passes_at (has_word (front.now ++ back.now)) entries.now place }
+{
+    match entries.get(place as usize) {
+        None => false,
+        Some(entry) => is_joined(entry.word.as_slice(), front, back),
+    }
+}
+
+/// Whether a word is `front` and `back` joined.
+fn is_joined(word: &[char], front: &[char], back: &[char]) -> bool
+    ensures { result ≡ is_same_word word.now (front.now ++ back.now) }
+{
+    match word.strip_prefix(front) {
+        None => false,
+        Some(rest) => rest == back,
+    }
+}
