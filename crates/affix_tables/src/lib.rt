@@ -144,7 +144,7 @@ fn put(alloc: Global, table: &mut Table, text: &[char], place: u32) -> Result<()
 }
 
 /// Adds a place at the end of those that a table has at a text, which may be there or not.
-pub fn put_at(
+fn put_at(
     alloc: Global,
     by_text: &mut IndexMap<Vec<char>, Vec<u32>>,
     text: &[char],
