@@ -1,27 +1,30 @@
 -- What the entries of a table have at a text once a place is added.
-use Rattle.std.proofs.Common.{◌≡◌, ◌∙◌, refl, sym, ap, ℕ, Bool, true, false, cond, true≢false, List, [], ◌∷◌, ◌++◌, append-nil, nat_eq, Option, Some, None, Vec, Global, if◌then◌else◌}
+use Rattle.std.proofs.Common.{◌≡◌, ◌∙◌, refl, sym, ap, subst, ℕ, Bool, true, false, cond, true≢false, List, [], ◌∷◌, ◌++◌, append-nil, append_assoc, nat_eq, IsPermutation, Option, Some, None, Vec, Global, if◌then◌else◌}
 use Rattle.std.specs.Cmp.Lexicographic.{pointwise}
+use Rattle.std.specs.List.{flat_map}
 use Rattle.std.specs.Map.{lookup, set_value}
 use Rattle.std.specs.Option.{option_map_or}
 use Rattle.std.proofs.lemmas.Bool.{false_from_ne_true}
+use Rattle.std.proofs.lemmas.List.Concat.{flat_map-append}
+use Rattle.std.proofs.lemmas.List.Sorted.{IsPermutation-append_comm, IsPermutation-append_right}
 use Rattle.std.proofs.lemmas.Slice.Eq.{bytes_eq-Decides}
-use Rattle.affix_tables.specs.Tables.{places_at}
+use Rattle.affix_tables.specs.Tables.{places_at, all_places}
 
-abbrev Key : Type 0
+abbrev pub Key : Type 0
 Key = Vec ℕ Global
 
 abbrev Entry : Type 0
 Entry = Key × Key
 
 -- whether the key is the text
-abbrev is_key : List ℕ → Key → Bool
+abbrev pub is_key : List ℕ → Key → Bool
 is_key text key = pointwise nat_eq text key.items
 
 -- the places of what was found
 abbrev given : Option Key → List ℕ
 given found = option_map_or (λ places. places.items) found []
 
-both : (text other items : List ℕ) → pointwise nat_eq text items ≡ true → pointwise nat_eq other items ≡ true → pointwise nat_eq other text ≡ true
+pub both : (text other items : List ℕ) → pointwise nat_eq text items ≡ true → pointwise nat_eq other items ≡ true → pointwise nat_eq other text ≡ true
 both text other items one two = (bytes_eq-Decides other text).1 ((bytes_eq-Decides other items).0 two ∙ sym ((bytes_eq-Decides text items).0 one))
 
 first_alone : (text other items : List ℕ) → pointwise nat_eq text items ≡ true → pointwise nat_eq other items ≡ false → pointwise nat_eq other text ≡ false
@@ -70,3 +73,39 @@ places_at-new text other key places place is first (entry ∷ entries) there =
     by true b one two there rest = absurd (cc)
     by false true one two there rest = rw (second_alone text other entry.0.items one two) (sym (append-nil entry.1.items))
     by false false one two there rest = rest there
+
+-- ---- the places of all texts together
+pub all_places-set : (text : List ℕ) (places longer : Key) (place : ℕ) → longer.items ≡ places.items ++ place ∷ [] → (entries : List Entry) → lookup (is_key text) entries ≡ Some places → IsPermutation (all_places (set_value (is_key text) entries longer)) (all_places entries ++ place ∷ [])
+all_places-set text places longer place more [] there = absurd (cc)
+all_places-set text places longer place more (entry ∷ entries) there = by (is_key text entry.0) there (all_places-set text places longer place more entries)
+  where
+    same_places : {key : Key} → Some key ≡ Some places → key.items ≡ places.items
+    same_places is = cc
+
+    apart : (items others : List ℕ) → (items ++ place ∷ []) ++ others ≡ items ++ (place ∷ [] ++ others)
+    apart items others = append_assoc items (place ∷ []) others
+
+    together : (items others : List ℕ) → (items ++ others) ++ place ∷ [] ≡ items ++ (others ++ place ∷ [])
+    together items others = append_assoc items others (place ∷ [])
+
+    moved : (items others : List ℕ) → IsPermutation ((items ++ place ∷ []) ++ others) ((items ++ others) ++ place ∷ [])
+    moved items others =
+        subst (λ ys. IsPermutation ((items ++ place ∷ []) ++ others) ys) (sym (together items others))
+        (subst (λ xs. IsPermutation xs (items ++ (others ++ place ∷ []))) (sym (apart items others))
+        (IsPermutation-append_right items (place ∷ [] ++ others) (others ++ place ∷ []) (IsPermutation-append_comm (place ∷ []) others)))
+
+    by : (a : Bool) → cond a (Some entry.1) (lookup (is_key text) entries) ≡ Some places
+        → (lookup (is_key text) entries ≡ Some places → IsPermutation (all_places (set_value (is_key text) entries longer)) (all_places entries ++ place ∷ []))
+        → IsPermutation (all_places (cond a ((entry.0, longer) ∷ entries) (entry ∷ set_value (is_key text) entries longer))) (all_places (entry ∷ entries) ++ place ∷ [])
+    by true there rest =
+        subst (λ items. IsPermutation (items ++ all_places entries) ((entry.1.items ++ all_places entries) ++ place ∷ []))
+        (sym (more ∙ ap (λ items. items ++ place ∷ []) (sym (same_places there))))
+        (moved entry.1.items (all_places entries))
+    by false there rest =
+        subst (λ ys. IsPermutation (entry.1.items ++ all_places (set_value (is_key text) entries longer)) ys) (sym (together entry.1.items (all_places entries)))
+        (IsPermutation-append_right entry.1.items (all_places (set_value (is_key text) entries longer)) (all_places entries ++ place ∷ []) (rest there))
+
+pub all_places-new : (key places : Key) (place : ℕ) → places.items ≡ place ∷ [] → (entries : List Entry) → all_places (entries ++ (key, places) ∷ []) ≡ all_places entries ++ place ∷ []
+all_places-new key places place first entries =
+    flat_map-append (λ (entry : Entry). entry.1.items) entries ((key, places) ∷ [])
+    ∙ ap (λ items. all_places entries ++ items) (append-nil places.items ∙ first)

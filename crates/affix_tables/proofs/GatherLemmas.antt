@@ -5,7 +5,7 @@ use Rattle.std.specs.List.{flat_map, range_with_len, starts_with, ends_with}
 use Rattle.std.proofs.lemmas.Bool.{and_parts, and_from, eqb-true, eq-eqb, lt-ltb, le-ltb, ne_eqb, ltb-true}
 use Rattle.std.proofs.lemmas.Bool.Decides.{nat_tests}
 use Rattle.std.proofs.lemmas.List.Concat.{flat_map-append}
-use Rattle.std.proofs.lemmas.List.Sorted.{IsPermutation-refl, IsPermutation-append_left, IsPermutation-trans}
+use Rattle.std.proofs.lemmas.List.Sorted.{IsPermutation-refl, IsPermutation-append, IsPermutation-append_left, IsPermutation-trans}
 use Rattle.std.proofs.lemmas.Slice.Eq.{bytes_eq-Decides}
 use Rattle.spell_types.specs.declared.rules.Rule.{Rule}
 use Rattle.spell_types.specs.declared.rules.Side.{Side}
@@ -13,7 +13,7 @@ use Rattle.spell_types.specs.declared.rules.Side.TheVariants.{Prefix, Suffix}
 use Rattle.spell_types.specs.Derivations.{is_same_side}
 use Rattle.affix_tables.specs.declared.Table.{Table}
 use Rattle.affix_tables.specs.Places.{adds_on, places_where, suffix_places, prefix_places}
-use Rattle.affix_tables.specs.Tables.{places_at, IsTable, endings_below, fronts_below, front_places, ending_places}
+use Rattle.affix_tables.specs.Tables.{groups_at, all_places, IsTable, endings_below, fronts_below, front_places, ending_places}
 use Rattle.affix_tables.proofs.OrderLemmas.{sorted-same}
 use Rattle.affix_tables.proofs.PlaceLemmas.{range_more, places-same, places-none, places-split, places-rise}
 
@@ -22,9 +22,13 @@ flat_map_more f count =
     ap (flat_map f) (range_more count) ∙ flat_map-append f (range_with_len 0 count) (count ∷ [])
     ∙ ap (λ ys. flat_map f (range_with_len 0 count) ++ ys) (append-nil (f count))
 
-flat_map_same : (f g : ℕ → List ℕ) → ((x : ℕ) → f x ≡ g x) → (xs : List ℕ) → flat_map f xs ≡ flat_map g xs
-flat_map_same f g same [] = refl
-flat_map_same f g same (x ∷ xs) = ap₂ (λ ys zs. ys ++ zs) (same x) (flat_map_same f g same xs)
+flat_map_moved : (f g : ℕ → List ℕ) → ((x : ℕ) → IsPermutation (f x) (g x)) → (xs : List ℕ) → IsPermutation (flat_map f xs) (flat_map g xs)
+flat_map_moved f g moved [] = IsPermutation-refl []
+flat_map_moved f g moved (x ∷ xs) = IsPermutation-append (f x) (g x) (flat_map f xs) (flat_map g xs) (moved x) (flat_map_moved f g moved xs)
+
+-- the places of all groups of a text
+abbrev places_of : Table → List ℕ → List ℕ
+places_of table text = all_places (groups_at table.by_text.entries text)
 
 -- ---- tests
 split-apart : (s f a b : Bool) → (a ≡ true → b ≡ false) → (s && (f && a)) ≡ true → (s && (f && b)) ≡ false
@@ -104,11 +108,11 @@ module _ (side : Side) (size : ℕ) (text : ℕ → List ℕ) (fits : List ℕ �
       by true false a is = refl
       by false f a is = refl
 
-  all-gathered : (table : Table) → IsTable rules side table → IsPermutation (flat_map (λ count. places_at table.by_text.entries (text count)) (range_with_len 0 (min table.longest size + 1))) (places_where (adds_on side fits) rules)
+  all-gathered : (table : Table) → IsTable rules side table → IsPermutation (flat_map (λ count. places_of table (text count)) (range_with_len 0 (min table.longest size + 1))) (places_where (adds_on side fits) rules)
   all-gathered table holds =
       let limit = min table.longest size + 1 in
-      subst (λ found. IsPermutation found (places_where (adds_on side fits) rules))
-      (sym (flat_map_same (λ count. places_at table.by_text.entries (text count)) found_at (λ count. holds.at_text (text count)) (range_with_len 0 limit)))
+      IsPermutation-trans (flat_map (λ count. places_of table (text count)) (range_with_len 0 limit)) (flat_map found_at (range_with_len 0 limit)) (places_where (adds_on side fits) rules)
+      (flat_map_moved (λ count. places_of table (text count)) found_at (λ count. holds.at_text (text count)) (range_with_len 0 limit))
       (subst (λ places. IsPermutation (flat_map found_at (range_with_len 0 limit)) places) (all-shorter table holds)
       (gathered limit (omega arith)))
 
@@ -152,15 +156,15 @@ the_front word = record {
 pub rest-whole : (word : List ℕ) (place : ℕ) → take (length word - place) (drop place word) ≡ drop place word
 rest-whole word place = take_all (length word - place) (drop place word) (omega (arith, length-drop place word))
 
-pub endings-more : (table : Table) (word : List ℕ) (count : ℕ) (text found : List ℕ) → text ≡ drop (length word - count) word → found ≡ endings_below table word count → found ++ places_at table.by_text.entries text ≡ endings_below table word (count + 1)
+pub endings-more : (table : Table) (word : List ℕ) (count : ℕ) (text found : List ℕ) → text ≡ drop (length word - count) word → found ≡ endings_below table word count → found ++ places_of table text ≡ endings_below table word (count + 1)
 endings-more table word count text found is before =
-    ap₂ (λ ys zs. ys ++ zs) before (ap (places_at table.by_text.entries) is)
-    ∙ sym (flat_map_more (λ n. places_at table.by_text.entries (drop (length word - n) word)) count)
+    ap₂ (λ ys zs. ys ++ zs) before (ap (places_of table) is)
+    ∙ sym (flat_map_more (λ n. places_of table (drop (length word - n) word)) count)
 
-pub fronts-more : (table : Table) (word : List ℕ) (count : ℕ) (text found : List ℕ) → text ≡ take count word → found ≡ fronts_below table word count → found ++ places_at table.by_text.entries text ≡ fronts_below table word (count + 1)
+pub fronts-more : (table : Table) (word : List ℕ) (count : ℕ) (text found : List ℕ) → text ≡ take count word → found ≡ fronts_below table word count → found ++ places_of table text ≡ fronts_below table word (count + 1)
 fronts-more table word count text found is before =
-    ap₂ (λ ys zs. ys ++ zs) before (ap (places_at table.by_text.entries) is)
-    ∙ sym (flat_map_more (λ n. places_at table.by_text.entries (take n word)) count)
+    ap₂ (λ ys zs. ys ++ zs) before (ap (places_of table) is)
+    ∙ sym (flat_map_more (λ n. places_of table (take n word)) count)
 
 pub suffixes-found : (rules : List Rule) (table : Table) (word sorted : List ℕ) → IsTable rules Suffix table → IsPermutation (ending_places table word) sorted → IsSorted nat_cmp sorted → sorted ≡ suffix_places rules word
 unfolding suffix_places

@@ -11,13 +11,13 @@ use Rattle.spell_types.specs.Derivations.{is_same_side}
 use Rattle.affix_tables.specs.Places.{adds_on, places_where, suffix_places, prefix_places}
 use Rattle.affix_tables.proofs.PlaceLemmas.{places-members, places-rise}
 
-same_side : (side other : Side) → is_same_side side other ≡ true → other ≡ side
+pub same_side : (side other : Side) → is_same_side side other ≡ true → other ≡ side
 same_side Prefix Prefix same = refl
 same_side Prefix Suffix same = absurd (cc)
 same_side Suffix Prefix same = absurd (cc)
 same_side Suffix Suffix same = refl
 
-own_side : (side : Side) → is_same_side side side ≡ true
+pub own_side : (side : Side) → is_same_side side side ≡ true
 own_side Prefix = refl
 own_side Suffix = refl
 

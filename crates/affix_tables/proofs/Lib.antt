@@ -1,5 +1,6 @@
 mod EntryLemmas
 mod GatherLemmas
+mod GroupLemmas
 pub mod LawLemmas
 mod OrderLemmas
 mod PlaceLemmas

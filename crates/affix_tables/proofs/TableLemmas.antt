@@ -1,43 +1,61 @@
 -- A table with one rule more.
-use Rattle.std.proofs.Common.{◌≡◌, ◌∙◌, ◌⊎◌, inl, inr, sym, ap, ℕ, ◌≤◌, max, true, false, ◌&&◌, List, [], ◌∷◌, ◌++◌, append-nil, length, nat_eq, slice_get, Some, if◌then◌else◌, true≢false, arith}
+use Rattle.std.proofs.Common.{◌≡◌, ◌∙◌, ◌⊎◌, inl, inr, sym, ap, subst, ℕ, ◌≤◌, max, true, false, ◌&&◌, List, [], ◌∷◌, ◌++◌, append-nil, length, nat_eq, slice_get, Some, if◌then◌else◌, true≢false, IsPermutation, arith}
 use Rattle.std.specs.Cmp.Lexicographic.{pointwise}
+use Rattle.std.proofs.lemmas.List.Sorted.{IsPermutation-append_left, IsPermutation-refl, IsPermutation-trans}
 use Rattle.spell_types.specs.declared.rules.Rule.{Rule}
 use Rattle.spell_types.specs.declared.rules.Side.{Side}
 use Rattle.spell_types.specs.Derivations.{is_same_side}
 use Rattle.affix_tables.specs.declared.Table.{Table}
-use Rattle.affix_tables.specs.Places.{adds_on, places_where}
-use Rattle.affix_tables.specs.Tables.{places_at, IsTable}
+use Rattle.affix_tables.specs.Places.{adds_on, exchanges, places_where}
+use Rattle.affix_tables.specs.Tables.{places_at, groups_at, all_places, Puts, IsTable}
 use Rattle.affix_tables.proofs.PlaceLemmas.{slice_get-more, places-more}
 
 pub no_rules : (side : Side) (table : Table) → table.by_text.entries ≡ [] → IsTable [] side table
 no_rules side table empty = record {
-  at_text = λ text. ap (λ entries. places_at entries text) empty;
+  at_strip = λ text strip. ap (λ entries. places_at (groups_at entries text) strip) empty;
+  at_text = λ text. subst (λ places. IsPermutation places []) (sym (ap (λ entries. all_places (groups_at entries text)) empty)) (IsPermutation-refl []);
   bounded = λ place rule at on. absurd (cc);
 }
 
 pub rule_of_side : (rules : List Rule) (side : Side) (rule : Rule) (old new : Table) → is_same_side side rule.side ≡ true
-    → ((text : List ℕ) → places_at new.by_text.entries text ≡ places_at old.by_text.entries text ++ (if pointwise nat_eq text rule.add then length rules ∷ [] else []))
+    → Puts old.by_text.entries new.by_text.entries rule.add rule.strip (length rules)
     → new.longest ≡ max old.longest (length rule.add) → IsTable rules side old → IsTable (rules ++ rule ∷ []) side new
 rule_of_side rules side rule old new on put longest was = record {
+  at_strip = λ text strip.
+      put.at_strip text strip
+      ∙ ap (λ places. places ++ (if pointwise nat_eq text rule.add && pointwise nat_eq strip rule.strip then length rules ∷ [] else [])) (was.at_strip text strip)
+      ∙ ap (λ b. places_where (exchanges side text strip) rules ++ (if b && (pointwise nat_eq text rule.add && pointwise nat_eq strip rule.strip) then length rules ∷ [] else [])) (sym on)
+      ∙ sym (places-more (exchanges side text strip) rules rule);
   at_text = λ text.
-      put text
-      ∙ ap (λ places. places ++ (if pointwise nat_eq text rule.add then length rules ∷ [] else [])) (was.at_text text)
-      ∙ ap (λ b. places_where (adds_on side (pointwise nat_eq text)) rules ++ (if b && pointwise nat_eq text rule.add then length rules ∷ [] else [])) (sym on)
-      ∙ sym (places-more (adds_on side (pointwise nat_eq text)) rules rule);
+      subst (λ places. IsPermutation (all_places (groups_at new.by_text.entries text)) places)
+      (ap (λ b. places_where (adds_on side (pointwise nat_eq text)) rules ++ (if b && pointwise nat_eq text rule.add then length rules ∷ [] else [])) (sym on)
+      ∙ sym (places-more (adds_on side (pointwise nat_eq text)) rules rule))
+      (IsPermutation-trans (all_places (groups_at new.by_text.entries text)) (all_places (groups_at old.by_text.entries text) ++ last text) (places_where (adds_on side (pointwise nat_eq text)) rules ++ last text)
+      (put.at_text text)
+      (IsPermutation-append_left (last text) (all_places (groups_at old.by_text.entries text)) (places_where (adds_on side (pointwise nat_eq text)) rules) (was.at_text text)));
   bounded = λ place other at other_on. by place other other_on (slice_get-more rules rule place other at);
 }
   where
+    last : List ℕ → List ℕ
+    last text = if pointwise nat_eq text rule.add then length rules ∷ [] else []
+
     by : (place : ℕ) (other : Rule) → is_same_side side other.side ≡ true → (slice_get rules place ≡ Some other) ⊎ (rule ≡ other) → length other.add ≤ new.longest
     by place other other_on (inl at) = omega (arith, was.bounded place other at other_on, longest)
     by place other other_on (inr is) = omega (arith, longest, ap (λ (r : Rule). length r.add) is)
 
 pub rule_of_other_side : (rules : List Rule) (side : Side) (rule : Rule) (table : Table) → is_same_side side rule.side ≡ false → IsTable rules side table → IsTable (rules ++ rule ∷ []) side table
 rule_of_other_side rules side rule table off was = record {
+  at_strip = λ text strip.
+      was.at_strip text strip
+      ∙ sym (append-nil (places_where (exchanges side text strip) rules))
+      ∙ ap (λ b. places_where (exchanges side text strip) rules ++ (if b && (pointwise nat_eq text rule.add && pointwise nat_eq strip rule.strip) then length rules ∷ [] else [])) (sym off)
+      ∙ sym (places-more (exchanges side text strip) rules rule);
   at_text = λ text.
-      was.at_text text
-      ∙ sym (append-nil (places_where (adds_on side (pointwise nat_eq text)) rules))
+      subst (λ places. IsPermutation (all_places (groups_at table.by_text.entries text)) places)
+      (sym (append-nil (places_where (adds_on side (pointwise nat_eq text)) rules))
       ∙ ap (λ b. places_where (adds_on side (pointwise nat_eq text)) rules ++ (if b && pointwise nat_eq text rule.add then length rules ∷ [] else [])) (sym off)
-      ∙ sym (places-more (adds_on side (pointwise nat_eq text)) rules rule);
+      ∙ sym (places-more (adds_on side (pointwise nat_eq text)) rules rule))
+      (was.at_text text);
   bounded = λ place other at on. by place other on (slice_get-more rules rule place other at);
 }
   where

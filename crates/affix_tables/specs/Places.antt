@@ -1,5 +1,6 @@
 -- Which rules may have made a word, by their places in the list of rules.
 use Rattle.std.specs.Prelude.{ℕ, Bool, false, ◌&&◌, List, length, nat_eq, slice_get, Option, None, Some}
+use Rattle.std.specs.Cmp.Lexicographic.{pointwise}
 use Rattle.std.specs.List.{filter, range_with_len, starts_with, ends_with}
 use Rattle.spell_types.specs.declared.rules.Rule.{Rule}
 use Rattle.spell_types.specs.declared.rules.Side.{Side}
@@ -18,6 +19,11 @@ places_where test rules = filter (λ place. passes test (slice_get rules place))
 -- whether the rule is of the side, and its added text passes the test
 abbrev pub adds_on : Side → (List ℕ → Bool) → Rule → Bool
 adds_on side test rule = is_same_side side rule.side && test rule.add
+
+-- whether the rule is of the side, adds the one text and strips off the other
+abbrev pub exchanges : Side → List ℕ → List ℕ → Rule → Bool
+exchanges side added stripped rule =
+    is_same_side side rule.side && (pointwise nat_eq added rule.add && pointwise nat_eq stripped rule.strip)
 
 -- the places of the suffix rules whose added text ends the word
 unfoldable pub suffix_places : List Rule → List ℕ → List ℕ

@@ -1,20 +1,22 @@
 //! Affix rules by the texts that they add: which of them may have made a word.
 #![tactic(auto)]
 
-ghost use Rattle.std.specs.Prelude.{◌≡◌, ◌↔◌, ◌^◌, ◌<◌, ◌++◌, [], ◌∷◌, ℕ, List, Some, true, length, max, min, nat_eq, slice_get, Contains, OnOk, IfOk, if◌then◌else◌};
+ghost use Rattle.std.specs.Prelude.{◌≡◌, ◌↔◌, ◌^◌, ◌<◌, ◌≤◌, ◌++◌, [], ◌∷◌, ℕ, List, Some, true, length, max, min, nat_eq, slice_get, Contains, OnOk, IfOk, if◌then◌else◌};
 ghost use Rattle.std.specs.Cmp.Lexicographic.{pointwise};
 ghost use Rattle.spell_types.specs.Derivations.{is_same_side};
 ghost use Rattle.std.specs.List.{starts_with, ends_with};
-ghost use Rattle.std.specs.List.Sorted.{IsStrictlyIncreasing};
+ghost use Rattle.std.specs.List.Sorted.{IsStrictlyIncreasing, IsPermutation};
 ghost use Rattle.spell_types.specs.declared.rules.Rule.{Rule};
 ghost use Rattle.spell_types.specs.declared.rules.Side.TheVariants.{Prefix, Suffix};
 ghost use Rattle.affix_tables.specs.Places.{suffix_places, prefix_places};
-ghost use Rattle.affix_tables.specs.Tables.{places_at, ending_places, front_places, IsTable, IsTableOf};
+ghost use Rattle.affix_tables.specs.Groups.{places_in, AreApart, AreGroups};
+ghost use Rattle.affix_tables.specs.Tables.{places_at, groups_at, all_places, Puts, ending_places, front_places, IsTable, IsTableOf};
 
 #[cfg(test)]
 mod tests;
 
 use indexmap::IndexMap;
+use indexmap::map::Slice;
 use lists::NoMemory;
 use spell_types::{Rule, Side};
 use std::alloc::Global;
@@ -27,11 +29,18 @@ pub struct AffixTables {
     prefixes: Table,
 }
 
+/// The groups of rules that add one text: each text that one of them strips off, and the places of those that strip it
+/// off, rising.
+pub type Groups<'a> = Slice<'a, Vec<char>, Vec<u32>>;
+
+/// Groups as they are gathered.
+type GroupMap = IndexMap<Vec<char>, Vec<u32>>;
+
 /// The rules of one side.
 #[derive(Drop)]
 struct Table {
-    /// At each text that a rule adds, the places of the rules that add it, rising.
-    by_text: IndexMap<Vec<char>, Vec<u32>>,
+    /// At each text that a rule adds, the rules that add it, by the texts that they strip off.
+    by_text: IndexMap<Vec<char>, GroupMap>,
     /// No rule adds more characters.
     longest: usize,
 }
@@ -70,6 +79,36 @@ impl AffixTables {
         let mut fronts = places_at_fronts(alloc, &self.prefixes, word)?;
         fronts.sort_unstable();
         Ok(fronts)
+    }
+
+    /// The groups of the suffix rules that add this text. There are none where no rule adds it.
+    pub fn suffix_groups(&self, added: &[char]) -> Groups<'_>
+        ensures { (rules : List Rule) → IsTableOf rules self.now → AreGroups rules Suffix added.now result }
+    {
+        groups_of(&self.suffixes.by_text, added)
+    }
+
+    /// The groups of the prefix rules that add this text. There are none where no rule adds it.
+    pub fn prefix_groups(&self, added: &[char]) -> Groups<'_>
+        ensures { (rules : List Rule) → IsTableOf rules self.now → AreGroups rules Prefix added.now result }
+    {
+        groups_of(&self.prefixes.by_text, added)
+    }
+
+    /// No suffix rule adds more characters than this.
+    pub fn longest_suffix(&self) -> usize
+        ensures { (rules : List Rule) → IsTableOf rules self.now → (place : ℕ) (rule : Rule)
+            → slice_get rules place ≡ Some rule → rule.side ≡ Suffix → length rule.add ≤ result }
+    {
+        self.suffixes.longest
+    }
+
+    /// No prefix rule adds more characters than this.
+    pub fn longest_prefix(&self) -> usize
+        ensures { (rules : List Rule) → IsTableOf rules self.now → (place : ℕ) (rule : Rule)
+            → slice_get rules place ≡ Some rule → rule.side ≡ Prefix → length rule.add ≤ result }
+    {
+        self.prefixes.longest
     }
 }
 
@@ -117,7 +156,13 @@ fn add_rule(
     if !is_on(side, rule) {
         return Ok(());
     }
-    put(alloc, table, rule.add.as_slice(), place)?;
+    put(
+        alloc,
+        table,
+        rule.add.as_slice(),
+        rule.strip.as_slice(),
+        place,
+    )?;
     Ok(())
 }
 
@@ -132,15 +177,44 @@ fn is_on(side: Side, rule: &Rule) -> bool
     }
 }
 
-/// Adds a place at the end of those of a text.
-fn put(alloc: Global, table: &mut Table, text: &[char], place: u32) -> Result<(), NoMemory>
-    ensures at_text { OnOk result ((other : List ℕ) → places_at table.new.by_text.entries other
-        ≡ places_at table.old.by_text.entries other ++ (if pointwise nat_eq other text.now then place ∷ [] else [])) }
-    ensures longest { OnOk result (table.new.longest ≡ max table.old.longest (length text.now)) }
+/// Adds a place at the end of its group, which is that of the rules that add and strip off these texts.
+fn put(
+    alloc: Global,
+    table: &mut Table,
+    added: &[char],
+    stripped: &[char],
+    place: u32,
+) -> Result<(), NoMemory>
+    ensures place { OnOk result (Puts table.old.by_text.entries table.new.by_text.entries added.now stripped.now place) }
+    ensures longest { OnOk result (table.new.longest ≡ max table.old.longest (length added.now)) }
 {
-    put_at(alloc, &mut table.by_text, text, place)?;
-    table.longest = table.longest.max(text.len());
+    put_in_group(alloc, &mut table.by_text, added, stripped, place)?;
+    table.longest = table.longest.max(added.len());
     Ok(())
+}
+
+/// Adds a place at the end of its group, which may be there or not.
+fn put_in_group(
+    alloc: Global,
+    by_text: &mut IndexMap<Vec<char>, GroupMap>,
+    added: &[char],
+    stripped: &[char],
+    place: u32,
+) -> Result<(), NoMemory>
+    ensures { OnOk result (Puts by_text.old.entries by_text.new.entries added.now stripped.now place) }
+{
+    match by_text.get_mut(added) {
+        Some(groups) => {
+            put_at(alloc, groups, stripped, place)?;
+            Ok(())
+        }
+        None => {
+            let mut groups = IndexMap::new(alloc);
+            put_at(alloc, &mut groups, stripped, place)?;
+            by_text.insert(added.to_vec(alloc)?, groups)?;
+            Ok(())
+        }
+    }
 }
 
 /// Adds a place at the end of those that a table has at a text, which may be there or not.
@@ -150,8 +224,9 @@ fn put_at(
     text: &[char],
     place: u32,
 ) -> Result<(), NoMemory>
-    ensures { OnOk result ((other : List ℕ) → places_at by_text.new.entries other
+    ensures at_text { OnOk result ((other : List ℕ) → places_at by_text.new.entries other
         ≡ places_at by_text.old.entries other ++ (if pointwise nat_eq other text.now then place ∷ [] else [])) }
+    ensures all { OnOk result (IsPermutation (all_places by_text.new.entries) (all_places by_text.old.entries ++ place ∷ [])) }
 {
     match by_text.get_mut(text) {
         Some(places) => {
@@ -189,16 +264,39 @@ fn places_at_fronts(alloc: Global, table: &Table, word: &[char]) -> Result<Vec<u
     Ok(found)
 }
 
-/// Adds the places of a text, if it is there.
+/// Adds the places of all groups of a text, group by group.
 fn add_places(
-    by_text: &IndexMap<Vec<char>, Vec<u32>>,
+    by_text: &IndexMap<Vec<char>, GroupMap>,
     text: &[char],
     found: &mut Vec<u32>,
 ) -> Result<(), NoMemory>
-    ensures { OnOk result (found.new.items ≡ found.old.items ++ places_at by_text.now.entries text.now) }
+    ensures { OnOk result (found.new.items
+        ≡ found.old.items ++ all_places (groups_at by_text.now.entries text.now)) }
 {
-    if let Some(places) = by_text.get(text) {
-        found.extend_from_slice(places.as_slice())?;
+    let groups = groups_of(by_text, text);
+    for number in 0..groups.len() {
+        found.extend_from_slice(group_places(&groups, number))?;
     }
     Ok(())
+}
+
+/// The groups of a text; none where it is not there.
+fn groups_of<'a>(by_text: &'a IndexMap<Vec<char>, GroupMap>, text: &[char]) -> Groups<'a>
+    ensures groups { result ≡ groups_at by_text.now.entries text.now }
+    ensures apart { AreApart result }
+{
+    if let Some(groups) = by_text.get(text) {
+        return groups.as_slice();
+    }
+    Slice::new()
+}
+
+/// The places of the group with a number, from 0; none where there is none.
+pub fn group_places<'a>(groups: &Groups<'a>, number: usize) -> &'a [u32]
+    ensures { result.now ≡ places_in (slice_get groups.now number) }
+{
+    match groups.get_index(number) {
+        None => &[],
+        Some((_, places)) => places.as_slice(),
+    }
 }

@@ -34,6 +34,14 @@ P \u{e4}; S \u{e4}; S \u{e9}\u{df}; P a
 caf\u{e9}\u{df} | 2 | -
 a | - | 3";
 
+/// In the first row each rule has its side, what it adds and what it strips off. Each row below has a text, the places of each
+/// group of its suffix rules, and those of its prefix rules.
+const GROUPS: &str = "S s -; S s y; P s -; S s -; S - y; S - -; S s ay; S s y; P s y; S es y
+s | 0 3, 1 7, 6 | 2, 8
+- | 4, 5 | -
+es | 9 | -
+y | - | -";
+
 /// The characters of a text, and none of `-`.
 fn text_of(alloc: Global, text: &str) -> Result<Chars, Fail> {
     if text == "-" {
@@ -43,18 +51,20 @@ fn text_of(alloc: Global, text: &str) -> Result<Chars, Fail> {
 }
 
 fn rule_of(alloc: Global, row: &str) -> Result<Rule, Fail> {
-    let (side, add) = row.split_once(' ').unwrap_or((row, "-"));
+    let (side, texts) = row.split_once(' ').unwrap_or((row, "-"));
+    let (add, strip) = texts.split_once(' ').unwrap_or((texts, "-"));
     let side = if side == "P" {
         Side::Prefix
     } else {
         Side::Suffix
     };
     let add = text_of(alloc, add)?;
+    let strip = text_of(alloc, strip)?;
     Ok(Rule {
         side,
         flag: Flag(65),
         cross: true,
-        strip: Items::new(alloc),
+        strip,
         add,
         carried: FlagSet::new(alloc),
         condition: Items::new(alloc),
@@ -105,6 +115,44 @@ fn assert_block(rt: &impl Abort, alloc: Global, block: &str) -> Result<(), Fail>
     let tables = AffixTables::new(alloc, rules)?;
     for row in rows.split('\n') {
         assert_row(rt, alloc, &tables, row)?;
+    }
+    Ok(())
+}
+
+/// The groups that a field has stand apart by commas.
+fn assert_groups(
+    rt: &impl Abort,
+    alloc: Global,
+    groups: &Groups<'_>,
+    wanted: &str,
+    row: &str,
+) -> Result<(), Fail> {
+    let mut number = 0;
+    for group in wanted.split(", ").filter(|group| *group != "-") {
+        let places = places_of(alloc, group)?;
+        assert_eq!(rt; group_places(groups, number), places.as_slice(), "{row}");
+        number = (number + 1).min(100);
+    }
+    assert_eq!(rt; groups.len(), number, "{row}");
+    Ok(())
+}
+
+#[test]
+fn puts_rules_into_groups(rt: HostRuntime) -> Result<(), Fail> {
+    let alloc = rt.alloc();
+    let (first, rows) = GROUPS.split_once('\n').unwrap_or((GROUPS, ""));
+    let rules = rules_of(alloc, first)?;
+    let rules = rules.as_slice();
+    assert!(&rt; rules.len() < 100);
+    let tables = AffixTables::new(alloc, rules)?;
+    assert_eq!(&rt; tables.longest_suffix(), 2);
+    assert_eq!(&rt; tables.longest_prefix(), 1);
+    for row in rows.split('\n') {
+        let text = text_of(alloc, field(row, 0))?;
+        let suffixes = tables.suffix_groups(text.as_slice());
+        assert_groups(&rt, alloc, &suffixes, field(row, 1), row)?;
+        let prefixes = tables.prefix_groups(text.as_slice());
+        assert_groups(&rt, alloc, &prefixes, field(row, 2), row)?;
     }
     Ok(())
 }

@@ -1,8 +1,7 @@
 -- A rule of the side goes into the table, and one of the other side changes nothing.
-use Rattle.std.proofs.Common.{rules, ◌≡◌, ◌∙◌, sym, ap, max, true, false, [], ◌∷◌, ◌++◌, length, nat_eq, if◌then◌else◌}
-use Rattle.std.specs.Cmp.Lexicographic.{pointwise}
+use Rattle.std.proofs.Common.{rules, ◌≡◌, ◌∙◌, sym, ap, subst, max, true, false, length}
 use Rattle.spell_types.specs.Derivations.{is_same_side}
-use Rattle.affix_tables.specs.Tables.{places_at}
+use Rattle.affix_tables.specs.Tables.{Puts}
 use Rattle.affix_tables.proofs.TableLemmas.{rule_of_side, rule_of_other_side}
 use Rattle.affix_tables.proofs.add_rule.Goals as goal
 
@@ -15,9 +14,9 @@ pub returns : goal.returns
 returns c = λ before at was.
     let on : is_same_side c.args.side c.args.rule.now.side ≡ true = search rules in
     rule_of_side before c.args.side c.args.rule.now c.args.table.now c.put.new.table on
-    (λ text.
-    c.in_ok-put.ensures.at_text text
-    ∙ ap (λ added. places_at c.args.table.now.by_text.entries text ++ (if pointwise nat_eq text added then c.args.place ∷ [] else [])) c.as_slice.ensures
-    ∙ ap (λ place. places_at c.args.table.now.by_text.entries text ++ (if pointwise nat_eq text c.args.rule.now.add then place ∷ [] else [])) (sym at))
+    (subst (Puts c.args.table.now.by_text.entries c.put.new.table.by_text.entries c.args.rule.now.add c.args.rule.now.strip) (sym at)
+    (subst (λ strip. Puts c.args.table.now.by_text.entries c.put.new.table.by_text.entries c.args.rule.now.add strip c.args.place) c.as_slice-2.ensures
+    (subst (λ added. Puts c.args.table.now.by_text.entries c.put.new.table.by_text.entries added c.as_slice-2.result.now c.args.place) c.as_slice.ensures
+    c.in_ok-put.ensures.place)))
     (c.in_ok-put.ensures.longest ∙ ap (λ added. max c.args.table.now.longest (length added)) c.as_slice.ensures)
     was
