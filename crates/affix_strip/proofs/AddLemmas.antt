@@ -59,28 +59,35 @@ adds-push P d xs holds only = record { are = λ e. (λ inside. there e (Contains
     back e (inl inside) = Contains-append_left xs (d ∷ []) e inside
     back e (inr is) = subst (λ x. Contains (xs ++ d ∷ []) x) (sym (only e is)) (Contains-push xs d)
 
--- ---- a loop over places
-pub adds-first : (P : ℕ → Derivation → Type 0) (places : List ℕ) (xs : List Derivation) → Adds (AtSome P (take 0 places)) xs xs
-adds-first P places xs = adds-none (AtSome P (take 0 places)) xs (λ d some. none d some.among)
-  where
-    none : {place : ℕ} (d : Derivation) → Contains [] place → ⊥
-    none d (k, within, at) = omega (arith, within)
+-- ---- a loop over items
+module _ {X : Type 0} (P : X → Derivation → Type 0) where
+  pub adds-first : (items : List X) (xs : List Derivation) → Adds (AtSome P (take 0 items)) xs xs
+  adds-first items xs = adds-none (AtSome P (take 0 items)) xs (λ d some. none d some.among)
+    where
+      none : {item : X} (d : Derivation) → Contains [] item → ⊥
+      none d (k, within, at) = omega (arith, within)
 
-some-more : (P : ℕ → Derivation → Type 0) (places : List ℕ) (place : ℕ) (d : Derivation) → (AtSome P places d ⊎ P place d) ↔ AtSome P (places ++ place ∷ []) d
-some-more P places place d = (λ either. there either, λ some. back some (Contains-push_cases places place some.place some.among))
-  where
-    there : AtSome P places d ⊎ P place d → AtSome P (places ++ place ∷ []) d
-    there (inl some) = record { place = some.place; among = Contains-append_left places (place ∷ []) some.place some.among; is = some.is }
-    there (inr holds) = record { place = place; among = Contains-push places place; is = holds }
+  some-more : (items : List X) (item : X) (d : Derivation) → (AtSome P items d ⊎ P item d) ↔ AtSome P (items ++ item ∷ []) d
+  some-more items item d = (λ either. there either, λ some. back some (Contains-push_cases items item some.item some.among))
+    where
+      there : AtSome P items d ⊎ P item d → AtSome P (items ++ item ∷ []) d
+      there (inl some) = record { item = some.item; among = Contains-append_left items (item ∷ []) some.item some.among; is = some.is }
+      there (inr holds) = record { item = item; among = Contains-push items item; is = holds }
 
-    back : (some : AtSome P (places ++ place ∷ []) d) → Contains places some.place ⊎ (place ≡ some.place) → AtSome P places d ⊎ P place d
-    back some (inl among) = inl (record { place = some.place; among = among; is = some.is })
-    back some (inr same) = inr (subst (λ x. P x d) (sym same) some.is)
+      back : (some : AtSome P (items ++ item ∷ []) d) → Contains items some.item ⊎ (item ≡ some.item) → AtSome P items d ⊎ P item d
+      back some (inl among) = inl (record { item = some.item; among = among; is = some.is })
+      back some (inr same) = inr (subst (λ x. P x d) (sym same) some.is)
 
-pub adds-more : (P : ℕ → Derivation → Type 0) (places : List ℕ) (i d : ℕ) (xs ys zs : List Derivation) → i < length places → Adds (AtSome P (take i places)) xs ys → Adds (P (get_or places i d)) ys zs → Adds (AtSome P (take (i + 1) places)) xs zs
-adds-more P places i d xs ys zs within one two =
-    subst (λ some. Adds (AtSome P some) xs zs) (sym (take_more places i d within))
-    (adds-then (AtSome P (take i places)) (P (get_or places i d)) (AtSome P (take i places ++ get_or places i d ∷ [])) xs ys zs one two (some-more P (take i places) (get_or places i d)))
+  pub adds-more : (items : List X) (i : ℕ) (default : X) (xs ys zs : List Derivation) → i < length items → Adds (AtSome P (take i items)) xs ys → Adds (P (get_or items i default)) ys zs → Adds (AtSome P (take (i + 1) items)) xs zs
+  adds-more items i default xs ys zs within one two =
+      subst (λ some. Adds (AtSome P some) xs zs) (sym (take_more items i default within))
+      (adds-then (AtSome P (take i items)) (P (get_or items i default)) (AtSome P (take i items ++ get_or items i default ∷ [])) xs ys zs one two (some-more (take i items) (get_or items i default)))
 
-pub adds-last : (P : ℕ → Derivation → Type 0) (places : List ℕ) (i : ℕ) (xs ys : List Derivation) → length places ≤ i → Adds (AtSome P (take i places)) xs ys → Adds (AtSome P places) xs ys
-adds-last P places i xs ys past adds = subst (λ some. Adds (AtSome P some) xs ys) (take_all i places past) adds
+  pub adds-last : (items : List X) (i : ℕ) (xs ys : List Derivation) → length items ≤ i → Adds (AtSome P (take i items)) xs ys → Adds (AtSome P items) xs ys
+  adds-last items i xs ys past adds = subst (λ some. Adds (AtSome P some) xs ys) (take_all i items past) adds
+
+pub some-same : {X : Type 0} (P Q : X → Derivation → Type 0) (items : List X) → ((item : X) (d : Derivation) → P item d ↔ Q item d) → (d : Derivation) → AtSome P items d ↔ AtSome Q items d
+some-same P Q items same d = (
+  λ some. record { item = some.item; among = some.among; is = (same some.item d).0 some.is },
+  λ some. record { item = some.item; among = some.among; is = (same some.item d).1 some.is },
+)

@@ -1,9 +1,8 @@
 -- What each part of the walk finds.
-use Rattle.std.proofs.Common.{◌≡◌, ◌∙◌, ◌↔◌, ◌⊎◌, inl, inr, refl, sym, ap, subst, ℕ, suc, ◌<◌, ◌≤◌, length, true, false, true≢false, ◌||◌, List, [], slice_get, Contains, Option, None, Some, is_none, is_some, arith}
+use Rattle.std.proofs.Common.{◌≡◌, ◌∙◌, ◌↔◌, ◌⊎◌, inl, inr, refl, sym, ap, subst, ℕ, zero, suc, Bool, true, false, cond, true≢false, ◌&&◌, ◌||◌, List, [], ◌∷◌, length, map, filter, slice_get, Contains, Option, None, Some, is_none, is_some, arith}
 use Rattle.std.specs.Option.{option_map, option_map_or}
-use Rattle.std.proofs.lemmas.Bool.{cases_order}
-use Rattle.std.proofs.lemmas.Option.{slice_get_within}
-use Rattle.std.proofs.lemmas.Slice.Eq.{bytes_eq-Decides}
+use Rattle.std.proofs.lemmas.Bool.{and_parts, and_from}
+use Rattle.std.proofs.lemmas.List.Elements.{Contains-append_right}
 use Rattle.spell_types.specs.declared.Entry.{Entry}
 use Rattle.spell_types.specs.declared.Lexicon.{Lexicon}
 use Rattle.spell_types.specs.declared.derivations.Derivation.{Derivation}
@@ -12,18 +11,16 @@ use Rattle.spell_types.specs.declared.rules.Side.TheVariants.{Prefix, Suffix}
 use Rattle.spell_types.specs.Derivations.{affix_on, rule_on, is_right, form_of, derivation_of}
 use Rattle.spell_types.specs.Flags.{has}
 use Rattle.spell_types.specs.Licences.{is_licensed}
-use Rattle.affix_tables.specs.Places.{suffix_places, prefix_places}
-use Rattle.affix_strip.specs.Parts.{stem_of, with_first, with_suffixes, with_all, Passes, AtSome, Adds}
-use Rattle.affix_strip.specs.EntryTable.{has_word, passes_at, last_where}
-use Rattle.affix_strip.specs.Tables.{IsReady, may_be_outer}
-use Rattle.affix_strip.specs.Undone.{undone_at}
+use Rattle.affix_strip.specs.Parts.{stem_of, with_first, with_suffixes, with_all, Any, Outside, Passes, AtSome, Adds, From, FromAll, RuleFrom, Peels}
+use Rattle.affix_strip.specs.Peeling.{Peeled, ArePeeled, may_undo_at}
+use Rattle.affix_strip.specs.EntryTable.{AreEntriesOf}
+use Rattle.affix_strip.specs.Tables.{IsReady, may_be_outer, may_undo_outer}
 use Rattle.affix_strip.specs.declared.walk.Dictionary.{Dictionary}
-use Rattle.affix_strip.proofs.AddLemmas.{adds-none, adds-same, adds-then}
-use Rattle.affix_strip.proofs.EntryLemmas.{end_of, last_where-is, last_where-below, last_where-end, passes-entry}
+use Rattle.affix_strip.proofs.AddLemmas.{adds-none, adds-same, adds-then, some-same}
 use Rattle.affix_strip.proofs.InverseLemmas.{rule_on-side}
 use Rattle.affix_strip.proofs.LicenceLemmas.{licensed-order, form-parts, IsCarrier, carrier}
-use Rattle.affix_strip.proofs.StepLemmas.{IsAffix, step-none, step-some, step-nothing, step-all}
-use Rattle.affix_strip.proofs.TableLemmas.{on-rule, undone-suffix-inside, undone-prefix-inside}
+use Rattle.affix_strip.proofs.StepLemmas.{IsAffix, step-none, step-peeled}
+use Rattle.affix_strip.proofs.TableLemmas.{on-rule}
 
 the_first : (lexicon : Lexicon) → IsAffix lexicon Suffix (λ d. d.first)
 the_first lexicon = record { right = λ d is. (licensed-order lexicon d is).first }
@@ -34,168 +31,179 @@ the_second lexicon = record { right = λ d is. (licensed-order lexicon d is).sec
 the_prefix : (lexicon : Lexicon) → IsAffix lexicon Prefix (λ d. d.prefix)
 the_prefix lexicon = record { right = λ d is. (licensed-order lexicon d is).prefix }
 
--- derivations with these affixes
-abbrev pub With : Option ℕ → Option ℕ → Option ℕ → Derivation → Type 0
-With prefix first second d = (d.prefix ≡ prefix) × ((d.first ≡ first) × (d.second ≡ second))
+-- ---- lists of named rules
+pub none-in : {X : Type 0} {x : X} → Contains [] x → ⊥
+none-in (k, within, at) = omega (arith, within)
 
--- derivations with these outer affixes
-abbrev pub Outside : Option ℕ → Option ℕ → Derivation → Type 0
-Outside prefix second d = (d.prefix ≡ prefix) × (d.second ≡ second)
+none-of : {X : Type 0} (xs : List X) (x : X) → length xs ≡ 0 → Contains xs x → ⊥
+none-of xs x empty (k, within, at) = omega (arith, within, empty)
 
--- derivations with this prefix
-abbrev pub Behind : Option ℕ → Derivation → Type 0
-Behind prefix d = d.prefix ≡ prefix
+only-none : (n : Option ℕ) → Contains (None ∷ []) n ↔ (n ≡ None)
+only-none n = (λ inside. there inside, λ is. (0, omega arith, sym is))
+  where
+    there : Contains (None ∷ []) n → n ≡ None
+    there (zero, within, at) = sym at
+    there (suc k, within, at) = absurd (omega (arith, within))
+
+-- a rule of a list that passes a test is named
+record IsKept (test : ℕ → Bool) (places : List ℕ) (named : Option ℕ) : Type 0 where
+  place : ℕ
+  is : named ≡ Some place
+  among : Contains places place
+  passed : test place ≡ true
+
+kept-from : (test : ℕ → Bool) (places : List ℕ) (named : Option ℕ) → Contains (map (λ place. Some place) (filter test places)) named → IsKept test places named
+kept-from test [] named inside = absurd (none-in inside)
+kept-from test (place ∷ places) named inside = by (test place) refl inside (kept-from test places named)
+  where
+    later : IsKept test places named → IsKept test (place ∷ places) named
+    later is = record { place = is.place; is = is.is; among = Contains-append_right (place ∷ []) places is.place is.among; passed = is.passed }
+
+    first : test place ≡ true → Contains (Some place ∷ map (λ p. Some p) (filter test places)) named → (Contains (map (λ p. Some p) (filter test places)) named → IsKept test places named) → IsKept test (place ∷ places) named
+    first passed (zero, within, at) rest = record { place = place; is = sym at; among = (0, omega arith, refl); passed = passed }
+    first passed (suc k, within, at) rest = later (rest (k, omega (arith, within), at))
+
+    by : (b : Bool) → test place ≡ b → Contains (map (λ p. Some p) (cond b (place ∷ filter test places) (filter test places))) named → (Contains (map (λ p. Some p) (filter test places)) named → IsKept test places named) → IsKept test (place ∷ places) named
+    by true passed inside rest = first passed inside rest
+    by false failed inside rest = later (rest inside)
+
+from-kept : (test : ℕ → Bool) (places : List ℕ) (place : ℕ) → Contains places place → test place ≡ true → Contains (map (λ p. Some p) (filter test places)) (Some place)
+from-kept test [] place inside passed = absurd (none-in inside)
+from-kept test (other ∷ places) place (zero, within, at) passed =
+    subst (λ b. Contains (map (λ p. Some p) (cond b (other ∷ filter test places) (filter test places))) (Some place)) (sym (ap test at ∙ passed)) (0, omega arith, ap (λ p. Some p) at)
+from-kept test (other ∷ places) place (suc k, within, at) passed = by (test other) (from-kept test places place (k, omega (arith, within), at) passed)
+  where
+    by : (b : Bool) → Contains (map (λ p. Some p) (filter test places)) (Some place) → Contains (map (λ p. Some p) (cond b (other ∷ filter test places) (filter test places))) (Some place)
+    by true inside = Contains-append_right (Some other ∷ []) (map (λ p. Some p) (filter test places)) (Some place) inside
+    by false inside = inside
 
 -- ---- entries
--- those from the entry with a place on
-abbrev PassesFrom : Lexicon → Option ℕ → Option ℕ → Option ℕ → List ℕ → ℕ → Derivation → Type 0
-PassesFrom lexicon prefix first second stem from d = Passes lexicon (With prefix first second) (stem_of lexicon) stem d × (from ≤ d.entry)
+-- derivations with these affixes
+abbrev With : Option ℕ → Option ℕ → Option ℕ → Derivation → Type 0
+With prefix first second d = (d.prefix ≡ prefix) × ((d.first ≡ first) × (d.second ≡ second))
 
--- the derivations behind the next entry are added, which is the last one of the word below a bound
-pub record AddsBehind (lexicon : Lexicon) (prefix first second : Option ℕ) (stem : List ℕ) (next : Option ℕ) (before now : List Derivation) : Type 0 where
-  pub below : (bound : ℕ) × (next ≡ last_where (has_word stem) lexicon.entries bound)
-  pub adds : Adds (PassesFrom lexicon prefix first second stem (end_of next)) before now
+-- derivations with one of these outer affixes, and this first suffix
+abbrev Around : List (Option ℕ) → Option ℕ → List (Option ℕ) → Derivation → Type 0
+Around prefixes first seconds d = Outside prefixes seconds d × (d.first ≡ first)
 
-passes-word : (lexicon : Lexicon) (prefix first second : Option ℕ) (stem : List ℕ) (d : Derivation) → Passes lexicon (With prefix first second) (stem_of lexicon) stem d → passes_at (has_word stem) lexicon.entries d.entry ≡ true
-passes-word lexicon prefix first second stem d passes = by (slice_get lexicon.entries d.entry) passes.at
+entry-of : (lexicon : Lexicon) (stem entries : List ℕ) → AreEntriesOf lexicon.entries stem entries → (d : Derivation) → stem_of lexicon d ≡ Some stem → Contains entries d.entry
+entry-of lexicon stem entries are d is = by (slice_get lexicon.entries d.entry) refl is
   where
-    by : (found : Option Entry) → option_map (λ (e : Entry). e.word) found ≡ Some stem → option_map_or (has_word stem) found false ≡ true
-    by None at = absurd (cc)
-    by (Some entry) at =
-        let same : entry.word ≡ stem = cc in
-        (bytes_eq-Decides entry.word stem).1 same
+    by : (found : Option Entry) → slice_get lexicon.entries d.entry ≡ found → option_map (λ (e : Entry). e.word) found ≡ Some stem → Contains entries d.entry
+    by None at word = absurd (cc)
+    by (Some entry) at word = (are.are d.entry).1 (entry, at, cc)
 
-word-passes : (lexicon : Lexicon) (prefix first second : Option ℕ) (stem : List ℕ) (place : ℕ) → passes_at (has_word stem) lexicon.entries place ≡ true → stem_of lexicon (derivation_of place prefix first second) ≡ Some stem
-word-passes lexicon prefix first second stem place passes = by (slice_get lexicon.entries place) passes
+from-is : (lexicon : Lexicon) (prefix first second : Option ℕ) (stem entries : List ℕ) → AreEntriesOf lexicon.entries stem entries → (d : Derivation) → From lexicon prefix first second entries d ↔ Passes lexicon (With prefix first second) (stem_of lexicon) stem d
+from-is lexicon prefix first second stem entries are d = (λ some. there some, λ passes. record { item = d.entry; among = entry-of lexicon stem entries are d passes.at; is = (same passes.has, passes.licensed) })
   where
-    by : (found : Option Entry) → option_map_or (has_word stem) found false ≡ true → option_map (λ (e : Entry). e.word) found ≡ Some stem
-    by None is = absurd (true≢false (sym is))
-    by (Some entry) is = ap (λ w. Some w) ((bytes_eq-Decides entry.word stem).0 is)
+    word-at : (found : Option Entry) (entry : Entry) → found ≡ Some entry → entry.word ≡ stem → option_map (λ (e : Entry). e.word) found ≡ Some stem
+    word-at found entry at word = ap (option_map (λ (e : Entry). e.word)) at ∙ ap (λ w. Some w) word
 
-pub entries-first : (lexicon : Lexicon) (prefix first second : Option ℕ) (stem : List ℕ) (next : Option ℕ) (xs : List Derivation) → next ≡ last_where (has_word stem) lexicon.entries (length lexicon.entries) → AddsBehind lexicon prefix first second stem next xs xs
-entries-first lexicon prefix first second stem next xs is = record {
-  below = (length lexicon.entries, is);
-  adds = adds-none (PassesFrom lexicon prefix first second stem (end_of next)) xs none;
-}
+    known : (place : ℕ) → ((entry : Entry) × (slice_get lexicon.entries place ≡ Some entry) × (entry.word ≡ stem)) → stem_of lexicon (derivation_of place prefix first second) ≡ Some stem
+    known place (entry, at, word) = word-at (slice_get lexicon.entries place) entry at word
+
+    there : From lexicon prefix first second entries d → Passes lexicon (With prefix first second) (stem_of lexicon) stem d
+    there some = record {
+      licensed = some.is.1;
+      has = (ap (λ (e : Derivation). e.prefix) some.is.0, (ap (λ (e : Derivation). e.first) some.is.0, ap (λ (e : Derivation). e.second) some.is.0));
+      at = ap (stem_of lexicon) some.is.0 ∙ known some.item ((are.are some.item).0 some.among);
+    }
+
+    same : With prefix first second d → d ≡ derivation_of d.entry prefix first second
+    same (one, (two, three)) =
+        ap (λ p. derivation_of d.entry p d.first d.second) one
+        ∙ ap (λ f. derivation_of d.entry prefix f d.second) two
+        ∙ ap (derivation_of d.entry prefix first) three
+
+from-all : (lexicon : Lexicon) (prefixes : List (Option ℕ)) (first : Option ℕ) (seconds : List (Option ℕ)) (stem entries : List ℕ) → AreEntriesOf lexicon.entries stem entries
+    → (d : Derivation) → FromAll lexicon prefixes first seconds entries d ↔ Passes lexicon (Around prefixes first seconds) (stem_of lexicon) stem d
+from-all lexicon prefixes first seconds stem entries are d = (
+  λ some. there some ((from-is lexicon some.item first some.is.item stem entries are d).0 some.is.is),
+  λ passes. record {
+    item = d.prefix;
+    among = passes.has.0.0;
+    is = record {
+      item = d.second;
+      among = passes.has.0.1;
+      is = (from-is lexicon d.prefix first d.second stem entries are d).1 (record { licensed = passes.licensed; has = (refl, (passes.has.1, refl)); at = passes.at });
+    };
+  },
+)
   where
-    none : (d : Derivation) → PassesFrom lexicon prefix first second stem (end_of next) d → ⊥
-    none d (passes, from) = by (passes-entry (has_word stem) lexicon.entries d.entry word)
-      where
-        word : passes_at (has_word stem) lexicon.entries d.entry ≡ true
-        word = passes-word lexicon prefix first second stem d passes
+    there : (some : FromAll lexicon prefixes first seconds entries d) → Passes lexicon (With some.item first some.is.item) (stem_of lexicon) stem d → Passes lexicon (Around prefixes first seconds) (stem_of lexicon) stem d
+    there some passes = record {
+      licensed = passes.licensed;
+      has = ((subst (λ n. Contains prefixes n) (sym passes.has.0) some.among, subst (λ n. Contains seconds n) (sym passes.has.1.1) some.is.among), passes.has.1.0);
+      at = passes.at;
+    }
 
-        by : ((entry : Entry) × (slice_get lexicon.entries d.entry ≡ Some entry) × (has_word stem entry ≡ true)) → ⊥
-        by (entry, at, same) =
-            let within : d.entry < length lexicon.entries = slice_get_within lexicon.entries d.entry entry at in
-            let before : d.entry < end_of (last_where (has_word stem) lexicon.entries (length lexicon.entries)) = last_where-end (has_word stem) lexicon.entries (length lexicon.entries) d.entry within word in
-            let begins : end_of (last_where (has_word stem) lexicon.entries (length lexicon.entries)) ≤ d.entry = subst (λ found. end_of found ≤ d.entry) is from in
-            omega (arith, before, begins)
-
-pub entries-at : (lexicon : Lexicon) (prefix first second : Option ℕ) (stem : List ℕ) (place : ℕ) (xs ys : List Derivation) → AddsBehind lexicon prefix first second stem (Some place) xs ys → passes_at (has_word stem) lexicon.entries place ≡ true
-entries-at lexicon prefix first second stem place xs ys so = (last_where-is (has_word stem) lexicon.entries so.below.0 place (sym so.below.1)).1
-
-pub entries-more : (lexicon : Lexicon) (prefix first second : Option ℕ) (stem : List ℕ) (place : ℕ) (next : Option ℕ) (xs ys zs : List Derivation) → AddsBehind lexicon prefix first second stem (Some place) xs ys
-    → Adds (λ d. (d ≡ derivation_of place prefix first second) × (is_licensed lexicon d ≡ true)) ys zs
-    → next ≡ last_where (has_word stem) lexicon.entries place → AddsBehind lexicon prefix first second stem next xs zs
-entries-more lexicon prefix first second stem place next xs ys zs so one is = record {
-  below = (place, is);
-  adds = adds-then (PassesFrom lexicon prefix first second stem (suc place)) (λ d. (d ≡ derivation_of place prefix first second) × (is_licensed lexicon d ≡ true)) (PassesFrom lexicon prefix first second stem (end_of next)) xs ys zs so.adds one
-      (λ d. (there d, back d));
-}
-  where
-    ends : end_of next ≤ place
-    ends = subst (λ found. end_of found ≤ place) (sym is) (last_where-below (has_word stem) lexicon.entries place)
-
-    there : (d : Derivation) → PassesFrom lexicon prefix first second stem (suc place) d ⊎ ((d ≡ derivation_of place prefix first second) × (is_licensed lexicon d ≡ true)) → PassesFrom lexicon prefix first second stem (end_of next) d
-    there d (inl (passes, from)) = (passes, omega (arith, from, ends))
-    there d (inr (same, licensed)) = (
-      record {
-        licensed = licensed;
-        has = (ap (λ (e : Derivation). e.prefix) same, (ap (λ (e : Derivation). e.first) same, ap (λ (e : Derivation). e.second) same));
-        at = ap (stem_of lexicon) same ∙ word-passes lexicon prefix first second stem place (entries-at lexicon prefix first second stem place xs ys so);
-      },
-      subst (λ i. end_of next ≤ i) (sym (ap (λ (e : Derivation). e.entry) same)) ends,
-    )
-
-    same-parts : (d : Derivation) → d.entry ≡ place → With prefix first second d → d ≡ derivation_of place prefix first second
-    same-parts d at (one, (two, three)) =
-        ap (λ i. derivation_of i d.prefix d.first d.second) at
-        ∙ ap (λ p. derivation_of place p d.first d.second) one
-        ∙ ap (λ f. derivation_of place prefix f d.second) two
-        ∙ ap (derivation_of place prefix first) three
-
-    back : (d : Derivation) → PassesFrom lexicon prefix first second stem (end_of next) d → PassesFrom lexicon prefix first second stem (suc place) d ⊎ ((d ≡ derivation_of place prefix first second) × (is_licensed lexicon d ≡ true))
-    back d (passes, from) = by (cases_order d.entry place)
-      where
-        by : (d.entry ≡ place) ⊎ ((d.entry < place) ⊎ (place < d.entry)) → PassesFrom lexicon prefix first second stem (suc place) d ⊎ ((d ≡ derivation_of place prefix first second) × (is_licensed lexicon d ≡ true))
-        by (inl same) = inr (same-parts d same passes.has, passes.licensed)
-        by (inr (inl less)) =
-            let before : d.entry < end_of (last_where (has_word stem) lexicon.entries place) = last_where-end (has_word stem) lexicon.entries place d.entry less (passes-word lexicon prefix first second stem d passes) in
-            let begins : end_of (last_where (has_word stem) lexicon.entries place) ≤ d.entry = subst (λ found. end_of found ≤ d.entry) is from in
-            absurd (omega (arith, before, begins))
-        by (inr (inr more)) = inl (passes, omega (arith, more))
-
-pub entries-last : (lexicon : Lexicon) (prefix first second : Option ℕ) (stem : List ℕ) (xs ys : List Derivation) → AddsBehind lexicon prefix first second stem None xs ys → Adds (Passes lexicon (With prefix first second) (stem_of lexicon) stem) xs ys
-entries-last lexicon prefix first second stem xs ys so =
-    adds-same (PassesFrom lexicon prefix first second stem 0) (Passes lexicon (With prefix first second) (stem_of lexicon) stem) xs ys so.adds
-    (λ d. (λ from. from.0, λ passes. (passes, omega arith)))
+pub around-found : (lexicon : Lexicon) (prefixes : List (Option ℕ)) (first : Option ℕ) (seconds : List (Option ℕ)) (stem entries : List ℕ) (xs ys : List Derivation) → AreEntriesOf lexicon.entries stem entries
+    → Adds (FromAll lexicon prefixes first seconds entries) xs ys → Adds (Passes lexicon (Around prefixes first seconds) (stem_of lexicon) stem) xs ys
+around-found lexicon prefixes first seconds stem entries xs ys are adds =
+    adds-same (FromAll lexicon prefixes first seconds entries) (Passes lexicon (Around prefixes first seconds) (stem_of lexicon) stem) xs ys adds (from-all lexicon prefixes first seconds stem entries are)
 
 -- ---- the first suffix
-pub bare-found : (lexicon : Lexicon) (prefix second : Option ℕ) (stem : List ℕ) (xs ys : List Derivation) → Adds (Passes lexicon (With prefix None second) (stem_of lexicon) stem) xs ys → Adds (Passes lexicon (With prefix None second) (with_first lexicon) stem) xs ys
-bare-found lexicon prefix second stem xs ys adds =
-    adds-same (Passes lexicon (With prefix None second) (stem_of lexicon) stem) (Passes lexicon (With prefix None second) (with_first lexicon) stem) xs ys adds
-    (step-none lexicon Suffix (λ d. d.first) (the_first lexicon) (stem_of lexicon) (With prefix None second) (λ d has. has.1.0) stem)
+abbrev FirstPeels : Lexicon → List (Option ℕ) → List (Option ℕ) → Peeled → Derivation → Type 0
+FirstPeels lexicon prefixes seconds = Peels lexicon Suffix (λ d. d.first) (Outside prefixes seconds) (stem_of lexicon)
 
--- a second suffix stands behind a first one
-pub bare-none : (lexicon : Lexicon) (prefix second : Option ℕ) (stem : List ℕ) (xs : List Derivation) → is_some second ≡ true → Adds (Passes lexicon (With prefix None second) (with_first lexicon) stem) xs xs
-bare-none lexicon prefix second stem xs some =
-    adds-none (Passes lexicon (With prefix None second) (with_first lexicon) stem) xs
-    (λ d passes. no d second some passes.has (licensed-order lexicon d passes.licensed).inside)
+pub rules-found : (lexicon : Lexicon) (prefixes seconds : List (Option ℕ)) (peeled : Peeled) (entries : List ℕ) (xs ys : List Derivation) → AreEntriesOf lexicon.entries peeled.0 entries
+    → Adds (AtSome (RuleFrom lexicon prefixes seconds peeled.0 entries) peeled.1) xs ys → Adds (FirstPeels lexicon prefixes seconds peeled) xs ys
+rules-found lexicon prefixes seconds peeled entries xs ys are adds =
+    adds-same (AtSome (RuleFrom lexicon prefixes seconds peeled.0 entries) peeled.1) (FirstPeels lexicon prefixes seconds peeled) xs ys adds
+    (some-same (RuleFrom lexicon prefixes seconds peeled.0 entries)
+    (λ place d. (may_undo_at lexicon.affixes Suffix peeled.0 place ≡ true) × Passes lexicon (Around prefixes (Some place) seconds) (stem_of lexicon) peeled.0 d) peeled.1
+    (λ place d. (
+      λ both. (both.0, (from-all lexicon prefixes (Some place) seconds peeled.0 entries are d).0 both.1),
+      λ both. (both.0, (from-all lexicon prefixes (Some place) seconds peeled.0 entries are d).1 both.1),
+    )))
+
+pub no-rules-found : (lexicon : Lexicon) (prefixes seconds : List (Option ℕ)) (peeled : Peeled) (entries : List ℕ) (xs : List Derivation) → AreEntriesOf lexicon.entries peeled.0 entries → length entries ≡ 0
+    → Adds (FirstPeels lexicon prefixes seconds peeled) xs xs
+no-rules-found lexicon prefixes seconds peeled entries xs are empty =
+    adds-none (FirstPeels lexicon prefixes seconds peeled) xs
+    (λ d some. none-of entries d.entry empty (entry-of lexicon peeled.0 entries are d some.is.1.at))
+
+-- one affix, or none
+either : (lexicon : Lexicon) (named : Derivation → Option ℕ) (parts : Derivation → Type 0) (way : Derivation → Option (List ℕ)) (text : List ℕ) (d : Derivation)
+    → (Passes lexicon (λ d. parts d × (named d ≡ None)) way text d ⊎ Passes lexicon (λ d. parts d × (is_some (named d) ≡ true)) way text d) ↔ Passes lexicon parts way text d
+either lexicon named parts way text d = (λ one. there one, λ passes. back passes (named d) refl)
   where
-    no : (d : Derivation) (second : Option ℕ) → is_some second ≡ true → With prefix None second d → (is_none d.second || is_some d.first) ≡ true → ⊥
-    no d None some parts inside = absurd (cc)
-    no d (Some place) some (one, (two, three)) inside = true≢false (sym inside ∙ ap (λ n. is_none n || is_some d.first) three ∙ ap is_some two)
+    there : Passes lexicon (λ d. parts d × (named d ≡ None)) way text d ⊎ Passes lexicon (λ d. parts d × (is_some (named d) ≡ true)) way text d → Passes lexicon parts way text d
+    there (inl passes) = record { licensed = passes.licensed; has = passes.has.0; at = passes.at }
+    there (inr passes) = record { licensed = passes.licensed; has = passes.has.0; at = passes.at }
 
-pub first-found : (lexicon : Lexicon) (prefix second : Option ℕ) (place : ℕ) (text inner : List ℕ) (xs ys : List Derivation) → undone_at lexicon.affixes Suffix place text ≡ Some inner
-    → Adds (Passes lexicon (With prefix (Some place) second) (stem_of lexicon) inner) xs ys → Adds (Passes lexicon (With prefix (Some place) second) (with_first lexicon) text) xs ys
-first-found lexicon prefix second place text inner xs ys undone adds =
-    adds-same (Passes lexicon (With prefix (Some place) second) (stem_of lexicon) inner) (Passes lexicon (With prefix (Some place) second) (with_first lexicon) text) xs ys adds
-    (step-some lexicon Suffix (λ d. d.first) (the_first lexicon) (stem_of lexicon) (With prefix (Some place) second) place (λ d has. has.1.0) text inner undone)
+    back : Passes lexicon parts way text d → (n : Option ℕ) → named d ≡ n → Passes lexicon (λ d. parts d × (named d ≡ None)) way text d ⊎ Passes lexicon (λ d. parts d × (is_some (named d) ≡ true)) way text d
+    back passes None is = inl (record { licensed = passes.licensed; has = (passes.has, is); at = passes.at })
+    back passes (Some place) is = inr (record { licensed = passes.licensed; has = (passes.has, ap is_some is); at = passes.at })
 
-pub first-none : (lexicon : Lexicon) (prefix second : Option ℕ) (place : ℕ) (text : List ℕ) (xs : List Derivation) → undone_at lexicon.affixes Suffix place text ≡ None → Adds (Passes lexicon (With prefix (Some place) second) (with_first lexicon) text) xs xs
-first-none lexicon prefix second place text xs nothing =
-    adds-none (Passes lexicon (With prefix (Some place) second) (with_first lexicon) text) xs
-    (step-nothing lexicon Suffix (λ d. d.first) (the_first lexicon) (stem_of lexicon) (With prefix (Some place) second) place (λ d has. has.1.0) text nothing)
+-- the same derivations by parts that are said otherwise
+other-parts : (lexicon : Lexicon) (parts others : Derivation → Type 0) (way : Derivation → Option (List ℕ)) (text : List ℕ) (xs ys : List Derivation) → ((d : Derivation) → parts d ↔ others d)
+    → Adds (Passes lexicon parts way text) xs ys → Adds (Passes lexicon others way text) xs ys
+other-parts lexicon parts others way text xs ys same adds =
+    adds-same (Passes lexicon parts way text) (Passes lexicon others way text) xs ys adds (λ d. (
+      λ passes. record { licensed = passes.licensed; has = (same d).0 passes.has; at = passes.at },
+      λ passes. record { licensed = passes.licensed; has = (same d).1 passes.has; at = passes.at },
+    ))
 
-pub inside-found : (lexicon : Lexicon) (prefix second : Option ℕ) (text endings : List ℕ) (xs ys zs : List Derivation) → endings ≡ suffix_places lexicon.affixes.rules text
-    → Adds (Passes lexicon (With prefix None second) (with_first lexicon) text) xs ys
-    → Adds (AtSome (λ place. Passes lexicon (With prefix (Some place) second) (with_first lexicon) text) endings) ys zs
-    → Adds (Passes lexicon (Outside prefix second) (with_first lexicon) text) xs zs
-inside-found lexicon prefix second text endings xs ys zs are one two =
-    adds-then (Passes lexicon (With prefix None second) (with_first lexicon) text) (AtSome (λ place. Passes lexicon (With prefix (Some place) second) (with_first lexicon) text) endings) (Passes lexicon (Outside prefix second) (with_first lexicon) text) xs ys zs one two
-    (step-all lexicon Suffix (λ d. d.first) (the_first lexicon) (stem_of lexicon) (Outside prefix second) (With prefix None second) (λ place. With prefix (Some place) second)
-    (λ d. (λ (p, (f, s)). ((p, s), f), λ ((p, s), f). (p, (f, s))))
-    (λ place d. (λ (p, (f, s)). ((p, s), f), λ ((p, s), f). (p, (f, s))))
-    text endings (λ place inner undone. subst (λ ps. Contains ps place) (sym are) (undone-suffix-inside lexicon.affixes place text inner undone)))
+-- with a first suffix
+abbrev WithFirst : List (Option ℕ) → List (Option ℕ) → Derivation → Type 0
+WithFirst prefixes seconds d = Outside prefixes seconds d × (is_some d.first ≡ true)
+
+pub firsts-found : (lexicon : Lexicon) (prefixes seconds : List (Option ℕ)) (text : List ℕ) (endings : List Peeled) (xs ys : List Derivation) → ArePeeled lexicon.affixes.rules Suffix text endings
+    → Adds (AtSome (FirstPeels lexicon prefixes seconds) endings) xs ys → Adds (Passes lexicon (WithFirst prefixes seconds) (with_first lexicon) text) xs ys
+firsts-found lexicon prefixes seconds text endings xs ys are adds =
+    adds-same (AtSome (FirstPeels lexicon prefixes seconds) endings) (Passes lexicon (WithFirst prefixes seconds) (with_first lexicon) text) xs ys adds
+    (step-peeled lexicon Suffix (λ d. d.first) (the_first lexicon) (stem_of lexicon) (Outside prefixes seconds) text endings are)
+
+pub no-seconds-found : (lexicon : Lexicon) (prefixes seconds : List (Option ℕ)) (text : List ℕ) (xs : List Derivation) → length seconds ≡ 0 → Adds (Passes lexicon (WithFirst prefixes seconds) (with_first lexicon) text) xs xs
+no-seconds-found lexicon prefixes seconds text xs empty =
+    adds-none (Passes lexicon (WithFirst prefixes seconds) (with_first lexicon) text) xs
+    (λ d passes. none-of seconds d.second empty passes.has.0.1)
 
 -- ---- the second suffix
-pub outer-found : (lexicon : Lexicon) (prefix : Option ℕ) (place : ℕ) (text inner : List ℕ) (xs ys : List Derivation) → undone_at lexicon.affixes Suffix place text ≡ Some inner
-    → Adds (Passes lexicon (Outside prefix (Some place)) (with_first lexicon) inner) xs ys → Adds (Passes lexicon (Outside prefix (Some place)) (with_suffixes lexicon) text) xs ys
-outer-found lexicon prefix place text inner xs ys undone adds =
-    adds-same (Passes lexicon (Outside prefix (Some place)) (with_first lexicon) inner) (Passes lexicon (Outside prefix (Some place)) (with_suffixes lexicon) text) xs ys adds
-    (step-some lexicon Suffix (λ d. d.second) (the_second lexicon) (with_first lexicon) (Outside prefix (Some place)) place (λ d has. has.1) text inner undone)
-
-pub outer-none : (lexicon : Lexicon) (prefix : Option ℕ) (place : ℕ) (text : List ℕ) (xs : List Derivation) → undone_at lexicon.affixes Suffix place text ≡ None → Adds (Passes lexicon (Outside prefix (Some place)) (with_suffixes lexicon) text) xs xs
-outer-none lexicon prefix place text xs nothing =
-    adds-none (Passes lexicon (Outside prefix (Some place)) (with_suffixes lexicon) text) xs
-    (step-nothing lexicon Suffix (λ d. d.second) (the_second lexicon) (with_first lexicon) (Outside prefix (Some place)) place (λ d has. has.1) text nothing)
-
--- no suffix rule carries the flag of a second suffix that is not tried
-pub outer-barred : (dictionary : Dictionary) (prefix : Option ℕ) (place : ℕ) (text : List ℕ) (xs : List Derivation) → IsReady dictionary → may_be_outer dictionary place ≡ false → Adds (Passes dictionary.lexicon (Outside prefix (Some place)) (with_suffixes dictionary.lexicon) text) xs xs
-outer-barred dictionary prefix place text xs ready barred =
-    let rules = dictionary.lexicon.affixes.rules in
-    adds-none (Passes dictionary.lexicon (Outside prefix (Some place)) (with_suffixes dictionary.lexicon) text) xs
-    (λ d passes. no d passes.licensed (rule_on rules Suffix place) refl (ap (λ n. affix_on rules Suffix n) passes.has.1) (ap (is_right rules Suffix) (sym passes.has.1) ∙ (licensed-order dictionary.lexicon d passes.licensed).second))
+-- a rule that is a second suffix has a flag that some suffix carries
+outer-may : (dictionary : Dictionary) → IsReady dictionary → (d : Derivation) (place : ℕ) → is_licensed dictionary.lexicon d ≡ true → d.second ≡ Some place → may_be_outer dictionary place ≡ true
+outer-may dictionary ready d place licensed is = by (rule_on dictionary.lexicon.affixes.rules Suffix place) refl
   where
     carries : (rule : Rule) → IsCarrier dictionary.lexicon.affixes.rules rule → has dictionary.carried (Some rule.flag) ≡ true
     carries rule by =
@@ -204,43 +212,113 @@ outer-barred dictionary prefix place text xs ready barred =
         (rule_on-side dictionary.lexicon.affixes.rules Suffix by.place by.rule by.on)
         by.carries
 
-    told : (rule : Rule) → rule_on dictionary.lexicon.affixes.rules Suffix place ≡ Some rule → has dictionary.carried (Some rule.flag) ≡ false
-    told rule on =
-        sym (ap (λ found. option_map_or (λ (r : Rule). has dictionary.carried (Some r.flag)) found false) (on-rule dictionary.lexicon.affixes.rules Suffix place rule on)) ∙ barred
+    right : is_some (rule_on dictionary.lexicon.affixes.rules Suffix place) ≡ true
+    right = ap (is_right dictionary.lexicon.affixes.rules Suffix) (sym is) ∙ (licensed-order dictionary.lexicon d licensed).second
 
-    no : (d : Derivation) → is_licensed dictionary.lexicon d ≡ true → (found : Option Rule) → rule_on dictionary.lexicon.affixes.rules Suffix place ≡ found → affix_on dictionary.lexicon.affixes.rules Suffix d.second ≡ affix_on dictionary.lexicon.affixes.rules Suffix (Some place) → is_some (rule_on dictionary.lexicon.affixes.rules Suffix place) ≡ true → ⊥
-    no d licensed None on same right = true≢false (sym right ∙ ap is_some on)
-    no d licensed (Some rule) on same right = true≢false (sym (carries rule (carrier dictionary.lexicon d rule licensed (same ∙ on))) ∙ told rule on)
+    by : (found : Option Rule) → rule_on dictionary.lexicon.affixes.rules Suffix place ≡ found → may_be_outer dictionary place ≡ true
+    by None on = absurd (true≢false (sym right ∙ ap is_some on))
+    by (Some rule) on =
+        ap (λ found. option_map_or (λ (r : Rule). has dictionary.carried (Some r.flag)) found false) (on-rule dictionary.lexicon.affixes.rules Suffix place rule on)
+        ∙ carries rule (carrier dictionary.lexicon d rule licensed (ap (affix_on dictionary.lexicon.affixes.rules Suffix) is ∙ on))
 
-pub behind-found : (lexicon : Lexicon) (prefix : Option ℕ) (text endings : List ℕ) (xs ys zs : List Derivation) → endings ≡ suffix_places lexicon.affixes.rules text
-    → Adds (Passes lexicon (Outside prefix None) (with_first lexicon) text) xs ys
-    → Adds (AtSome (λ place. Passes lexicon (Outside prefix (Some place)) (with_suffixes lexicon) text) endings) ys zs
-    → Adds (Passes lexicon (Behind prefix) (with_suffixes lexicon) text) xs zs
-behind-found lexicon prefix text endings xs ys zs are one two =
-    adds-then (Passes lexicon (Outside prefix None) (with_suffixes lexicon) text) (AtSome (λ place. Passes lexicon (Outside prefix (Some place)) (with_suffixes lexicon) text) endings) (Passes lexicon (Behind prefix) (with_suffixes lexicon) text) xs ys zs
-    (adds-same (Passes lexicon (Outside prefix None) (with_first lexicon) text) (Passes lexicon (Outside prefix None) (with_suffixes lexicon) text) xs ys one
-    (step-none lexicon Suffix (λ d. d.second) (the_second lexicon) (with_first lexicon) (Outside prefix None) (λ d has. has.1) text))
-    two
-    (step-all lexicon Suffix (λ d. d.second) (the_second lexicon) (with_first lexicon) (Behind prefix) (Outside prefix None) (λ place. Outside prefix (Some place))
-    (λ d. (λ has. has, λ has. has)) (λ place d. (λ has. has, λ has. has))
-    text endings (λ place inner undone. subst (λ ps. Contains ps place) (sym are) (undone-suffix-inside lexicon.affixes place text inner undone)))
+-- a second suffix stands behind a first one
+first-inside : (lexicon : Lexicon) (d : Derivation) (place : ℕ) → is_licensed lexicon d ≡ true → d.second ≡ Some place → is_some d.first ≡ true
+first-inside lexicon d place licensed is = sym (ap (λ n. is_none n || is_some d.first) is) ∙ (licensed-order lexicon d licensed).inside
+
+abbrev OuterPeels : Lexicon → List (Option ℕ) → Peeled → Derivation → Type 0
+OuterPeels lexicon prefixes = Peels lexicon Suffix (λ d. d.second) (λ d. Contains prefixes d.prefix) (with_first lexicon)
+
+pub outer-found : (dictionary : Dictionary) (prefixes seconds : List (Option ℕ)) (peeled : Peeled) (xs ys : List Derivation) → IsReady dictionary → seconds ≡ map (λ place. Some place) (filter (may_undo_outer dictionary peeled.0) peeled.1)
+    → Adds (Passes dictionary.lexicon (WithFirst prefixes seconds) (with_first dictionary.lexicon) peeled.0) xs ys → Adds (OuterPeels dictionary.lexicon prefixes peeled) xs ys
+outer-found dictionary prefixes seconds peeled xs ys ready are adds =
+    adds-same (Passes dictionary.lexicon (WithFirst prefixes seconds) (with_first dictionary.lexicon) peeled.0) (OuterPeels dictionary.lexicon prefixes peeled) xs ys adds
+    (λ d. (λ passes. there d passes (kept-from (may_undo_outer dictionary peeled.0) peeled.1 d.second (subst (λ ns. Contains ns d.second) are passes.has.0.1)), λ some. back d some))
+  where
+    there : (d : Derivation) → Passes dictionary.lexicon (WithFirst prefixes seconds) (with_first dictionary.lexicon) peeled.0 d → IsKept (may_undo_outer dictionary peeled.0) peeled.1 d.second → OuterPeels dictionary.lexicon prefixes peeled d
+    there d passes is = record {
+      item = is.place;
+      among = is.among;
+      is = (
+        (and_parts (may_be_outer dictionary is.place) (may_undo_at dictionary.lexicon.affixes Suffix peeled.0 is.place) is.passed).1,
+        record { licensed = passes.licensed; has = (passes.has.0.0, is.is); at = passes.at },
+      );
+    }
+
+    back : (d : Derivation) → OuterPeels dictionary.lexicon prefixes peeled d → Passes dictionary.lexicon (WithFirst prefixes seconds) (with_first dictionary.lexicon) peeled.0 d
+    back d some =
+        let passes = some.is.1 in
+        let test = and_from (may_be_outer dictionary some.item) (may_undo_at dictionary.lexicon.affixes Suffix peeled.0 some.item) (outer-may dictionary ready d some.item passes.licensed passes.has.1) some.is.0 in
+        let inside = from-kept (may_undo_outer dictionary peeled.0) peeled.1 some.item some.among test in
+        record {
+          licensed = passes.licensed;
+          has = (
+            (passes.has.0, subst (λ n. Contains seconds n) (sym passes.has.1) (subst (λ ns. Contains ns (Some some.item)) (sym are) inside)),
+            first-inside dictionary.lexicon d some.item passes.licensed passes.has.1,
+          );
+          at = passes.at;
+        }
+
+-- derivations with one of these prefixes
+abbrev Behind : List (Option ℕ) → Derivation → Type 0
+Behind prefixes d = Contains prefixes d.prefix
+
+pub behind-found : (lexicon : Lexicon) (prefixes : List (Option ℕ)) (text : List ℕ) (endings : List Peeled) (xs ys zs us : List Derivation) → ArePeeled lexicon.affixes.rules Suffix text endings
+    → Adds (Passes lexicon (Around prefixes None (None ∷ [])) (stem_of lexicon) text) xs ys
+    → Adds (AtSome (FirstPeels lexicon prefixes (None ∷ [])) endings) ys zs
+    → Adds (AtSome (OuterPeels lexicon prefixes) endings) zs us
+    → Adds (Passes lexicon (Behind prefixes) (with_suffixes lexicon) text) xs us
+behind-found lexicon prefixes text endings xs ys zs us are bare firsts outers =
+    adds-then (Passes lexicon (λ d. Behind prefixes d × (d.second ≡ None)) (with_suffixes lexicon) text) (Passes lexicon (λ d. Behind prefixes d × (is_some d.second ≡ true)) (with_suffixes lexicon) text) (Passes lexicon (Behind prefixes) (with_suffixes lexicon) text) xs zs us
+    (adds-same (Passes lexicon (λ d. Behind prefixes d × (d.second ≡ None)) (with_first lexicon) text) (Passes lexicon (λ d. Behind prefixes d × (d.second ≡ None)) (with_suffixes lexicon) text) xs zs
+    (other-parts lexicon (Outside prefixes (None ∷ [])) (λ d. Behind prefixes d × (d.second ≡ None)) (with_first lexicon) text xs zs (λ d. (
+      λ has. (has.0, (only-none d.second).0 has.1),
+      λ has. (has.0, (only-none d.second).1 has.1),
+    )) inside)
+    (step-none lexicon Suffix (λ d. d.second) (the_second lexicon) (with_first lexicon) (λ d. Behind prefixes d × (d.second ≡ None)) (λ d has. has.1) text))
+    (adds-same (AtSome (OuterPeels lexicon prefixes) endings) (Passes lexicon (λ d. Behind prefixes d × (is_some d.second ≡ true)) (with_suffixes lexicon) text) zs us outers
+    (step-peeled lexicon Suffix (λ d. d.second) (the_second lexicon) (with_first lexicon) (Behind prefixes) text endings are))
+    (either lexicon (λ d. d.second) (Behind prefixes) (with_suffixes lexicon) text)
+  where
+    inside : Adds (Passes lexicon (Outside prefixes (None ∷ [])) (with_first lexicon) text) xs zs
+    inside =
+        adds-then (Passes lexicon (Around prefixes None (None ∷ [])) (with_first lexicon) text) (Passes lexicon (WithFirst prefixes (None ∷ [])) (with_first lexicon) text) (Passes lexicon (Outside prefixes (None ∷ [])) (with_first lexicon) text) xs ys zs
+        (adds-same (Passes lexicon (Around prefixes None (None ∷ [])) (stem_of lexicon) text) (Passes lexicon (Around prefixes None (None ∷ [])) (with_first lexicon) text) xs ys bare
+        (step-none lexicon Suffix (λ d. d.first) (the_first lexicon) (stem_of lexicon) (Around prefixes None (None ∷ [])) (λ d has. has.1) text))
+        (firsts-found lexicon prefixes (None ∷ []) text endings ys zs are firsts)
+        (either lexicon (λ d. d.first) (Outside prefixes (None ∷ [])) (with_first lexicon) text)
+
+pub no-prefixes-found : (lexicon : Lexicon) (prefixes : List (Option ℕ)) (text : List ℕ) (xs : List Derivation) → length prefixes ≡ 0 → Adds (Passes lexicon (Behind prefixes) (with_suffixes lexicon) text) xs xs
+no-prefixes-found lexicon prefixes text xs empty =
+    adds-none (Passes lexicon (Behind prefixes) (with_suffixes lexicon) text) xs (λ d passes. none-of prefixes d.prefix empty passes.has)
 
 -- ---- the prefix
-pub prefix-found : (lexicon : Lexicon) (place : ℕ) (text inner : List ℕ) (xs ys : List Derivation) → undone_at lexicon.affixes Prefix place text ≡ Some inner
-    → Adds (Passes lexicon (Behind (Some place)) (with_suffixes lexicon) inner) xs ys → Adds (Passes lexicon (Behind (Some place)) (with_all lexicon) text) xs ys
-prefix-found lexicon place text inner xs ys undone adds =
-    adds-same (Passes lexicon (Behind (Some place)) (with_suffixes lexicon) inner) (Passes lexicon (Behind (Some place)) (with_all lexicon) text) xs ys adds
-    (step-some lexicon Prefix (λ d. d.prefix) (the_prefix lexicon) (with_suffixes lexicon) (Behind (Some place)) place (λ d has. has) text inner undone)
+abbrev FrontPeels : Lexicon → Peeled → Derivation → Type 0
+FrontPeels lexicon = Peels lexicon Prefix (λ d. d.prefix) Any (with_suffixes lexicon)
 
-pub prefix-none : (lexicon : Lexicon) (place : ℕ) (text : List ℕ) (xs : List Derivation) → undone_at lexicon.affixes Prefix place text ≡ None → Adds (Passes lexicon (Behind (Some place)) (with_all lexicon) text) xs xs
-prefix-none lexicon place text xs nothing =
-    adds-none (Passes lexicon (Behind (Some place)) (with_all lexicon) text) xs
-    (step-nothing lexicon Prefix (λ d. d.prefix) (the_prefix lexicon) (with_suffixes lexicon) (Behind (Some place)) place (λ d has. has) text nothing)
+pub front-found : (lexicon : Lexicon) (prefixes : List (Option ℕ)) (peeled : Peeled) (xs ys : List Derivation) → prefixes ≡ map (λ place. Some place) (filter (may_undo_at lexicon.affixes Prefix peeled.0) peeled.1)
+    → Adds (Passes lexicon (Behind prefixes) (with_suffixes lexicon) peeled.0) xs ys → Adds (FrontPeels lexicon peeled) xs ys
+front-found lexicon prefixes peeled xs ys are adds =
+    adds-same (Passes lexicon (Behind prefixes) (with_suffixes lexicon) peeled.0) (FrontPeels lexicon peeled) xs ys adds
+    (λ d. (λ passes. there d passes (kept-from (may_undo_at lexicon.affixes Prefix peeled.0) peeled.1 d.prefix (subst (λ ns. Contains ns d.prefix) are passes.has)), λ some. back d some))
+  where
+    there : (d : Derivation) → Passes lexicon (Behind prefixes) (with_suffixes lexicon) peeled.0 d → IsKept (may_undo_at lexicon.affixes Prefix peeled.0) peeled.1 d.prefix → FrontPeels lexicon peeled d
+    there d passes is = record {
+      item = is.place;
+      among = is.among;
+      is = (is.passed, record { licensed = passes.licensed; has = (refl, is.is); at = passes.at });
+    }
+
+    back : (d : Derivation) → FrontPeels lexicon peeled d → Passes lexicon (Behind prefixes) (with_suffixes lexicon) peeled.0 d
+    back d some =
+        let passes = some.is.1 in
+        let inside = from-kept (may_undo_at lexicon.affixes Prefix peeled.0) peeled.1 some.item some.among some.is.0 in
+        record {
+          licensed = passes.licensed;
+          has = subst (λ n. Contains prefixes n) (sym passes.has.1) (subst (λ ns. Contains ns (Some some.item)) (sym are) inside);
+          at = passes.at;
+        }
 
 -- ---- all
-abbrev Any : Derivation → Type 0
-Any d = d ≡ d
-
 -- licensed, and of this form
 abbrev Gives : Lexicon → List ℕ → Derivation → Type 0
 Gives lexicon text d = (is_licensed lexicon d ≡ true) × (form_of lexicon d ≡ Some text)
@@ -251,24 +329,27 @@ gives-passes lexicon text d = (
   λ gives. record { licensed = gives.0; has = refl; at = sym (form-parts lexicon d gives.0) ∙ gives.1 },
 )
 
-pub all-found : (lexicon : Lexicon) (text fronts : List ℕ) (ys zs : List Derivation) → fronts ≡ prefix_places lexicon.affixes.rules text
-    → Adds (Passes lexicon (Behind None) (with_suffixes lexicon) text) [] ys
-    → Adds (AtSome (λ place. Passes lexicon (Behind (Some place)) (with_all lexicon) text) fronts) ys zs
+pub all-found : (lexicon : Lexicon) (text : List ℕ) (fronts : List Peeled) (ys zs : List Derivation) → ArePeeled lexicon.affixes.rules Prefix text fronts
+    → Adds (Passes lexicon (Behind (None ∷ [])) (with_suffixes lexicon) text) [] ys
+    → Adds (AtSome (FrontPeels lexicon) fronts) ys zs
     → (d : Derivation) → Contains zs d ↔ ((is_licensed lexicon d ≡ true) × (form_of lexicon d ≡ Some text))
 all-found lexicon text fronts ys zs are one two = λ d. (λ inside. there d ((found.are d).0 inside), λ gives. (found.are d).1 (inr gives))
   where
     found : Adds (Gives lexicon text) [] zs
     found =
         adds-same (Passes lexicon Any (with_all lexicon) text) (Gives lexicon text) [] zs
-        (adds-then (Passes lexicon (Behind None) (with_all lexicon) text) (AtSome (λ place. Passes lexicon (Behind (Some place)) (with_all lexicon) text) fronts) (Passes lexicon Any (with_all lexicon) text) [] ys zs
-        (adds-same (Passes lexicon (Behind None) (with_suffixes lexicon) text) (Passes lexicon (Behind None) (with_all lexicon) text) [] ys one
-        (step-none lexicon Prefix (λ d. d.prefix) (the_prefix lexicon) (with_suffixes lexicon) (Behind None) (λ d has. has) text))
-        two
-        (step-all lexicon Prefix (λ d. d.prefix) (the_prefix lexicon) (with_suffixes lexicon) Any (Behind None) (λ place. Behind (Some place))
-        (λ d. (λ is. (refl, is), λ both. both.1)) (λ place d. (λ is. (refl, is), λ both. both.1))
-        text fronts (λ place inner undone. subst (λ ps. Contains ps place) (sym are) (undone-prefix-inside lexicon.affixes place text inner undone))))
+        (adds-then (Passes lexicon (λ d. Any d × (d.prefix ≡ None)) (with_all lexicon) text) (Passes lexicon (λ d. Any d × (is_some d.prefix ≡ true)) (with_all lexicon) text) (Passes lexicon Any (with_all lexicon) text) [] ys zs
+        (adds-same (Passes lexicon (λ d. Any d × (d.prefix ≡ None)) (with_suffixes lexicon) text) (Passes lexicon (λ d. Any d × (d.prefix ≡ None)) (with_all lexicon) text) [] ys
+        (other-parts lexicon (Behind (None ∷ [])) (λ d. Any d × (d.prefix ≡ None)) (with_suffixes lexicon) text [] ys (λ d. (
+          λ inside. (refl, (only-none d.prefix).0 inside),
+          λ has. (only-none d.prefix).1 has.1,
+        )) one)
+        (step-none lexicon Prefix (λ d. d.prefix) (the_prefix lexicon) (with_suffixes lexicon) (λ d. Any d × (d.prefix ≡ None)) (λ d has. has.1) text))
+        (adds-same (AtSome (FrontPeels lexicon) fronts) (Passes lexicon (λ d. Any d × (is_some d.prefix ≡ true)) (with_all lexicon) text) ys zs two
+        (step-peeled lexicon Prefix (λ d. d.prefix) (the_prefix lexicon) (with_suffixes lexicon) Any text fronts are))
+        (either lexicon (λ d. d.prefix) Any (with_all lexicon) text))
         (gives-passes lexicon text)
 
     there : (d : Derivation) → Contains [] d ⊎ Gives lexicon text d → Gives lexicon text d
-    there d (inl (k, within, at)) = absurd (omega (arith, within))
+    there d (inl inside) = absurd (none-in inside)
     there d (inr gives) = gives

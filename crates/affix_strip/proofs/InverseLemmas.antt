@@ -11,7 +11,7 @@ use Rattle.spell_types.specs.Derivations.{is_same_side, rule_on, affix_on, is_ri
 use Rattle.spell_types.specs.Licences.{is_word}
 use Rattle.affix_classes.specs.Undoing.{undone_suffix, undone_prefix}
 use Rattle.affix_classes.proofs.BackLemmas.{prefix-undone, suffix-undone}
-use Rattle.affix_strip.specs.Undone.{undone_by, undone_at}
+use Rattle.affix_strip.proofs.UndoneWords.{undone_by, undone_at}
 
 -- the second function leads back from each word that the first one gives, and from no other
 pub record IsInverse (forward back : List ℕ → Option (List ℕ)) : Type 0 where

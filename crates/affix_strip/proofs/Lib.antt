@@ -5,6 +5,9 @@ pub mod InverseLemmas
 pub mod LicenceLemmas
 pub mod MemberLemmas
 pub mod OrderLemmas
+pub mod PeelLemmas
+pub mod PlaceLemmas
 pub mod SameLemmas
 pub mod StepLemmas
 pub mod TableLemmas
+pub mod UndoneWords

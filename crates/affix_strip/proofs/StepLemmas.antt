@@ -1,14 +1,16 @@
 -- One affix of a derivation: none is named, or a rule that can be undone from the word that it makes.
-use Rattle.std.proofs.Common.{◌≡◌, ◌∙◌, ◌↔◌, ◌⊎◌, inl, inr, refl, sym, ap, ℕ, true, List, Contains, Option, None, Some}
-use Rattle.std.proofs.lemmas.Option.{option_and_then_some}
+use Rattle.std.proofs.Common.{◌≡◌, ◌∙◌, ◌↔◌, refl, sym, ap, ℕ, true, true≢false, List, Option, None, Some, is_some, if◌then◌else◌}
+use Rattle.std.proofs.lemmas.Option.{option_and_then_some, cond_some}
 use Rattle.spell_types.specs.declared.Lexicon.{Lexicon}
 use Rattle.spell_types.specs.declared.derivations.Derivation.{Derivation}
 use Rattle.spell_types.specs.declared.rules.Side.{Side}
 use Rattle.spell_types.specs.Derivations.{affix_on, is_right, with_affix}
 use Rattle.spell_types.specs.Licences.{is_licensed}
-use Rattle.affix_strip.specs.Parts.{put_on, Passes, AtSome}
-use Rattle.affix_strip.specs.Undone.{undone_at}
+use Rattle.affix_strip.specs.Parts.{put_on, Passes, AtSome, Peels}
+use Rattle.affix_strip.specs.Peeling.{IsPeeled, ArePeeled, may_undo_at}
+use Rattle.affix_strip.proofs.UndoneWords.{undone_at}
 use Rattle.affix_strip.proofs.InverseLemmas.{undone_at-inverse}
+use Rattle.affix_strip.proofs.PeelLemmas.{leaves-undone, undone-had}
 
 none-put : (lexicon : Lexicon) (side : Side) (word : Option (List ℕ)) → put_on lexicon side None word ≡ word
 none-put lexicon side None = refl
@@ -65,29 +67,44 @@ module _ (lexicon : Lexicon) (side : Side) (named : Derivation → Option ℕ) (
       left : Passes lexicon parts after text d → Peeled place text d → before d ≡ Some inner
       left passes peeled = peeled.left ∙ sym peeled.undone ∙ undone
 
-  pub step-nothing : (parts : Derivation → Type 0) (place : ℕ) → ((d : Derivation) → parts d → named d ≡ Some place) → (text : List ℕ) → undone_at lexicon.affixes side place text ≡ None → (d : Derivation) → Passes lexicon parts after text d → ⊥
-  step-nothing parts place some text nothing d passes = no (peel place text d passes.licensed (some d passes.has) passes.at)
+  -- the derivations on this way whose affix is one of the rules that may have made the word are all that have one
+  pub step-peeled : (parts : Derivation → Type 0) (text : List ℕ) (found : List (List ℕ × List ℕ)) → ArePeeled lexicon.affixes.rules side text found
+      → (d : Derivation) → AtSome (Peels lexicon side named parts before) found d ↔ Passes lexicon (λ d. parts d × (is_some (named d) ≡ true)) after text d
+  step-peeled parts text found are d = (λ some. there some, λ passes. back passes (named d) refl)
     where
-      no : Peeled place text d → ⊥
-      no peeled = absurd (cc (peeled.undone, nothing))
+      own : (place : ℕ) → ((e : Derivation) → parts e × (named e ≡ Some place) → named e ≡ Some place)
+      own place e has = has.1
 
-  -- all derivations on this way have none or one of the rules that may have made the word
-  pub step-all : (parts none : Derivation → Type 0) (some : ℕ → Derivation → Type 0) → ((d : Derivation) → none d ↔ (parts d × (named d ≡ None))) → ((place : ℕ) (d : Derivation) → some place d ↔ (parts d × (named d ≡ Some place)))
-      → (text : List ℕ) (places : List ℕ) → ((place : ℕ) (inner : List ℕ) → undone_at lexicon.affixes side place text ≡ Some inner → Contains places place)
-      → (d : Derivation) → (Passes lexicon none after text d ⊎ AtSome (λ place. Passes lexicon (some place) after text) places d) ↔ Passes lexicon parts after text d
-  step-all parts none some none-is some-is text places inside d = (λ either. there either, λ passes. back passes (named d) refl)
-    where
-      there : Passes lexicon none after text d ⊎ AtSome (λ place. Passes lexicon (some place) after text) places d → Passes lexicon parts after text d
-      there (inl passes) = record { licensed = passes.licensed; has = ((none-is d).0 passes.has).0; at = passes.at }
-      there (inr at) = record { licensed = at.is.licensed; has = ((some-is at.place d).0 at.is.has).0; at = at.is.at }
+      there : AtSome (Peels lexicon side named parts before) found d → Passes lexicon (λ d. parts d × (is_some (named d) ≡ true)) after text d
+      there some =
+          let at = some.is in
+          let undone = leaves-undone lexicon.affixes side text at.item some.item.0 (are.sound some.item at.item some.among at.among)
+          ∙ ap (λ b. if b then Some some.item.0 else None) at.is.0 in
+          let passes = (step-some (λ e. parts e × (named e ≡ Some at.item)) at.item (own at.item) text some.item.0 undone d).0 at.is.1 in
+          record { licensed = passes.licensed; has = (passes.has.0, ap is_some passes.has.1); at = passes.at }
 
-      among : (place : ℕ) → Peeled place text d → Contains places place
-      among place peeled = inside place peeled.inner peeled.undone
+      -- what is left of the word is that of a group which has the rule
+      inside : (place : ℕ) → Passes lexicon (λ d. parts d × (is_some (named d) ≡ true)) after text d → named d ≡ Some place → Peeled place text d → IsPeeled found place → AtSome (Peels lexicon side named parts before) found d
+      inside place passes is left group =
+          let undone = sym (leaves-undone lexicon.affixes side text place group.peeled.0 (are.sound group.peeled place group.among group.has)) ∙ left.undone in
+          let both = cond_some (may_undo_at lexicon.affixes side group.peeled.0 place) group.peeled.0 left.inner undone in
+          record {
+            item = group.peeled;
+            among = group.among;
+            is = record {
+              item = place;
+              among = group.has;
+              is = (both.0, record { licensed = passes.licensed; has = (passes.has.0, is); at = left.left ∙ ap (λ w. Some w) (sym both.1) });
+            };
+          }
 
-      back : Passes lexicon parts after text d → (n : Option ℕ) → named d ≡ n → Passes lexicon none after text d ⊎ AtSome (λ place. Passes lexicon (some place) after text) places d
-      back passes None is = inl (record { licensed = passes.licensed; has = (none-is d).1 (passes.has, is); at = passes.at })
-      back passes (Some place) is = inr (record {
-        place = place;
-        among = among place (peel place text d passes.licensed is passes.at);
-        is = record { licensed = passes.licensed; has = (some-is place d).1 (passes.has, is); at = passes.at };
-      })
+      had : (place : ℕ) → Peeled place text d → IsPeeled found place
+      had place left =
+          let rule = undone-had lexicon.affixes side place text left.inner left.undone in
+          are.all place rule.rule rule.on rule.has
+
+      back : Passes lexicon (λ d. parts d × (is_some (named d) ≡ true)) after text d → (n : Option ℕ) → named d ≡ n → AtSome (Peels lexicon side named parts before) found d
+      back passes None is = absurd (true≢false (sym passes.has.1 ∙ ap is_some is))
+      back passes (Some place) is =
+          let left = peel place text d passes.licensed is passes.at in
+          inside place passes is left (had place left)

@@ -1,10 +1,14 @@
--- The tables of rules: one rule more, and which places they give.
-use Rattle.std.proofs.Common.{◌≡◌, ◌∙◌, ◌⊎◌, inl, inr, refl, sym, ap, subst, ℕ, zero, suc, ◌+◌, ◌<◌, Bool, true, false, cond, ◌&&◌, ◌||◌, true≢false, List, [], ◌∷◌, ◌++◌, length, take, get_or, nat_eq, slice_get, Contains, None, Some, if◌then◌else◌}
+-- The tables of a dictionary: one rule more; and which places they give.
+use Rattle.std.proofs.Common.{◌≡◌, ◌∙◌, ◌⊎◌, inl, inr, refl, sym, ap, subst, ℕ, zero, suc, ◌+◌, ◌<◌, Bool, true, false, cond, ◌&&◌, ◌||◌, true≢false, List, [], ◌∷◌, ◌++◌, length, take, get_or, nat_eq, slice_get, Contains, None, Some, if◌then◌else◌, Vec, Global, arith}
+use Rattle.std.specs.Cmp.Lexicographic.{pointwise}
 use Rattle.std.specs.List.{starts_with, ends_with}
 use Rattle.std.proofs.lemmas.Bool.{and_parts}
 use Rattle.std.proofs.lemmas.List.{take_more}
+use Rattle.std.proofs.lemmas.List.Elements.{Contains-append_left, Contains-append_right, Contains-append_cases}
 use Rattle.std.proofs.lemmas.Option.{option_and_then_some, cond_some}
+use Rattle.std.proofs.lemmas.Slice.Eq.{bytes_eq-Decides}
 use Rattle.spell_types.specs.declared.Affixes.{Affixes}
+use Rattle.spell_types.specs.declared.Entry.{Entry}
 use Rattle.spell_types.specs.declared.flags.Flag.{Flag}
 use Rattle.spell_types.specs.declared.rules.Rule.{Rule}
 use Rattle.spell_types.specs.declared.rules.Side.{Side}
@@ -18,19 +22,10 @@ use Rattle.affix_classes.specs.Undoing.{undone_suffix, undone_prefix, suffix_put
 use Rattle.affix_tables.specs.Places.{suffix_places, prefix_places}
 use Rattle.affix_tables.proofs.LawLemmas.{suffix-members, prefix-members}
 use Rattle.affix_strip.specs.Tables.{HasCarried}
-use Rattle.affix_strip.specs.Undone.{undone_at}
+use Rattle.affix_strip.proofs.UndoneWords.{undone_at}
 use Rattle.affix_strip.proofs.InverseLemmas.{rule_on-side}
 
 -- ---- a list with one item more
-get-front : {X : Type 0} (xs : List X) (x : X) (i : ℕ) (y : X) → slice_get xs i ≡ Some y → slice_get (xs ++ x ∷ []) i ≡ Some y
-get-front [] x i y at = absurd (cc)
-get-front (z ∷ xs) x zero y at = at
-get-front (z ∷ xs) x (suc i) y at = get-front xs x i y at
-
-get-end : {X : Type 0} (xs : List X) (x : X) → slice_get (xs ++ x ∷ []) (length xs) ≡ Some x
-get-end [] x = refl
-get-end (z ∷ xs) x = get-end xs x
-
 get-more : {X : Type 0} (xs : List X) (x : X) (i : ℕ) (y : X) → slice_get (xs ++ x ∷ []) i ≡ Some y → (slice_get xs i ≡ Some y) ⊎ ((i ≡ length xs) × (x ≡ y))
 get-more [] x zero y at = inr (refl, cc)
 get-more [] x (suc i) y at = absurd (cc)
@@ -87,25 +82,3 @@ pub on-rule : (rules : List Rule) (side : Side) (place : ℕ) (rule : Rule) → 
 on-rule rules side place rule on =
     option_and_then_some (λ (r : Rule). if is_same_side side r.side then Some r else None) (slice_get rules place) rule on (λ r at is.
     at ∙ ap (λ x. Some x) (cond_some (is_same_side side r.side) r rule is).1)
-
-pub undone-suffix-inside : (affixes : Affixes) (place : ℕ) (text inner : List ℕ) → undone_at affixes Suffix place text ≡ Some inner → Contains (suffix_places affixes.rules text) place
-undone-suffix-inside affixes place text inner is =
-    option_and_then_some (λ (rule : Rule). undone_suffix affixes.options.full_strip rule text) (rule_on affixes.rules Suffix place) inner is (λ rule on undone.
-    (suffix-members affixes.rules text place).1 (
-      rule,
-      on-rule affixes.rules Suffix place rule on,
-      rule_on-side affixes.rules Suffix place rule on,
-      (and_parts (ends_with nat_eq text rule.add) (may_strip affixes.options.full_strip rule (suffix_put_back rule text) && fits_back rule.condition (suffix_put_back rule text))
-          (cond_some _ (suffix_put_back rule text) inner undone).0).0,
-    ))
-
-pub undone-prefix-inside : (affixes : Affixes) (place : ℕ) (text inner : List ℕ) → undone_at affixes Prefix place text ≡ Some inner → Contains (prefix_places affixes.rules text) place
-undone-prefix-inside affixes place text inner is =
-    option_and_then_some (λ (rule : Rule). undone_prefix affixes.options.full_strip rule text) (rule_on affixes.rules Prefix place) inner is (λ rule on undone.
-    (prefix-members affixes.rules text place).1 (
-      rule,
-      on-rule affixes.rules Prefix place rule on,
-      rule_on-side affixes.rules Prefix place rule on,
-      (and_parts (starts_with nat_eq text rule.add) (may_strip affixes.options.full_strip rule (prefix_put_back rule text) && fits_front rule.condition (prefix_put_back rule text))
-          (cond_some _ (prefix_put_back rule text) inner undone).0).0,
-    ))

@@ -1,5 +1,5 @@
 -- Entries by a hash of their words.
-use Rattle.std.specs.Prelude.{◌≡◌, ℕ, zero, suc, ◌+◌, ◌*◌, ◌%◌, ◌^◌, Bool, false, List, length, fold, nat_eq, slice_get, Option, None, Some, if◌then◌else◌}
+use Rattle.std.specs.Prelude.{◌≡◌, ◌↔◌, ℕ, zero, suc, ◌+◌, ◌*◌, ◌%◌, ◌^◌, Bool, false, List, length, fold, nat_eq, slice_get, Contains, Option, None, Some, if◌then◌else◌}
 use Rattle.std.specs.Option.{option_map, option_map_or}
 use Rattle.indexmap.specs.IndexMap.{get}
 use Rattle.spell_types.specs.declared.Entry.{Entry}
@@ -35,3 +35,7 @@ pub record HasEntries (entries : List Entry) (table : EntryTable) : Type 0 where
   pub count : length table.earlier.items ≡ length entries
   pub last : (hash : ℕ) → get nat_eq table.last hash ≡ last_where (has_hash hash) entries (length entries)
   pub earlier : (place : ℕ) → slice_get table.earlier.items place ≡ option_map (λ entry. last_where (has_hash (hash_of entry.word)) entries place) (slice_get entries place)
+
+-- these are the places of the entries of a word
+pub record AreEntriesOf (entries : List Entry) (word places : List ℕ) : Type 0 where
+  pub are : (place : ℕ) → Contains places place ↔ ((entry : Entry) × (slice_get entries place ≡ Some entry) × (entry.word ≡ word))

@@ -1,5 +1,5 @@
 pub mod EntryTable
 pub mod Found
 pub mod Parts
+pub mod Peeling
 pub mod Tables
-pub mod Undone

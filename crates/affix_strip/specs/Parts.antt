@@ -5,8 +5,9 @@ use Rattle.spell_types.specs.declared.Lexicon.{Lexicon}
 use Rattle.spell_types.specs.declared.derivations.Derivation.{Derivation}
 use Rattle.spell_types.specs.declared.rules.Side.{Side}
 use Rattle.spell_types.specs.declared.rules.Side.TheVariants.{Prefix, Suffix}
-use Rattle.spell_types.specs.Derivations.{affix_on, with_affix}
+use Rattle.spell_types.specs.Derivations.{affix_on, with_affix, derivation_of}
 use Rattle.spell_types.specs.Licences.{is_licensed}
+use Rattle.affix_strip.specs.Peeling.{Peeled, may_undo_at}
 
 -- a word with the affix attached that is named, if one is
 abbrev pub put_on : Lexicon → Side → Option ℕ → Option (List ℕ) → Option (List ℕ)
@@ -35,12 +36,40 @@ pub record Passes (lexicon : Lexicon) (parts : Derivation → Type 0) (way : Der
   pub has : parts d
   pub at : way d ≡ Some word
 
--- it holds at one of the places
-pub record AtSome (holds : ℕ → Derivation → Type 0) (places : List ℕ) (d : Derivation) : Type 0 where
-  pub place : ℕ
-  pub among : Contains places place
-  pub is : holds place d
+-- it holds at one of the items
+pub record AtSome {X : Type 0} (holds : X → Derivation → Type 0) (items : List X) (d : Derivation) : Type 0 where
+  pub item : X
+  pub among : Contains items item
+  pub is : holds item d
 
 -- the second list has those of the first and those for which this holds, and no others
 pub record Adds (holds : Derivation → Type 0) (before now : List Derivation) : Type 0 where
   pub are : (d : Derivation) → Contains now d ↔ (Contains before d ⊎ holds d)
+
+-- each derivation
+abbrev pub Any : Derivation → Type 0
+Any d = d ≡ d
+
+-- the prefix, or none, is among these, and so is the second suffix
+abbrev pub Outside : List (Option ℕ) → List (Option ℕ) → Derivation → Type 0
+Outside prefixes seconds d = Contains prefixes d.prefix × Contains seconds d.second
+
+-- it is licensed, and has these affixes and one of these entries
+abbrev pub From : Lexicon → Option ℕ → Option ℕ → Option ℕ → List ℕ → Derivation → Type 0
+From lexicon prefix first second entries =
+    AtSome (λ entry d. (d ≡ derivation_of entry prefix first second) × (is_licensed lexicon d ≡ true)) entries
+
+-- it is licensed, and has one of these prefixes, this first suffix, one of these second ones and one of these entries
+abbrev pub FromAll : Lexicon → List (Option ℕ) → Option ℕ → List (Option ℕ) → List ℕ → Derivation → Type 0
+FromAll lexicon prefixes first seconds entries =
+    AtSome (λ prefix. AtSome (λ second. From lexicon prefix first second entries) seconds) prefixes
+
+-- the same, where the first suffix is a rule that may be attached to what is left of the word
+abbrev pub RuleFrom : Lexicon → List (Option ℕ) → List (Option ℕ) → List ℕ → List ℕ → ℕ → Derivation → Type 0
+RuleFrom lexicon prefixes seconds rest entries first d =
+    (may_undo_at lexicon.affixes Suffix rest first ≡ true) × FromAll lexicon prefixes (Some first) seconds entries d
+
+-- the affix is a rule of this group that may be attached to what it leaves, and what it leaves is the word on this way
+abbrev pub Peels : Lexicon → Side → (Derivation → Option ℕ) → (Derivation → Type 0) → (Derivation → Option (List ℕ)) → Peeled → Derivation → Type 0
+Peels lexicon side named parts way peeled =
+    AtSome (λ place d. (may_undo_at lexicon.affixes side peeled.0 place ≡ true) × Passes lexicon (λ d. parts d × (named d ≡ Some place)) way peeled.0 d) peeled.1

@@ -1,5 +1,5 @@
 -- What the tables of a dictionary hold.
-use Rattle.std.specs.Prelude.{◌≡◌, ℕ, Bool, true, false, List, slice_get, Some}
+use Rattle.std.specs.Prelude.{◌≡◌, ℕ, Bool, true, false, ◌&&◌, List, slice_get, Some}
 use Rattle.std.specs.Option.{option_map_or}
 use Rattle.spell_types.specs.declared.flags.Flag.{Flag}
 use Rattle.spell_types.specs.declared.rules.Rule.{Rule}
@@ -7,6 +7,7 @@ use Rattle.spell_types.specs.declared.rules.Side.TheVariants.{Suffix}
 use Rattle.spell_types.specs.Flags.{has}
 use Rattle.affix_tables.specs.Tables.{IsTableOf}
 use Rattle.affix_strip.specs.EntryTable.{HasEntries}
+use Rattle.affix_strip.specs.Peeling.{may_undo_at}
 use Rattle.affix_strip.specs.declared.walk.Dictionary.{Dictionary}
 
 -- the set has each flag that a suffix rule carries
@@ -23,3 +24,7 @@ pub record IsReady (dictionary : Dictionary) : Type 0 where
 abbrev pub may_be_outer : Dictionary → ℕ → Bool
 may_be_outer dictionary place =
     option_map_or (λ rule. has dictionary.carried (Some rule.flag)) (slice_get dictionary.lexicon.affixes.rules place) false
+
+-- whether the rule with a place may be a second suffix that is attached to this
+abbrev pub may_undo_outer : Dictionary → List ℕ → ℕ → Bool
+may_undo_outer dictionary rest place = may_be_outer dictionary place && may_undo_at dictionary.lexicon.affixes Suffix rest place

@@ -5,7 +5,7 @@ ghost use Rattle.std.specs.Prelude.{◌≡◌, ◌++◌, [], ◌∷◌, ◌^◌,
 ghost use Rattle.std.specs.Option.{option_flatten};
 ghost use Rattle.spell_types.specs.declared.Entry.{Entry};
 ghost use Rattle.spell_types.specs.Cases.{is_same_word};
-ghost use Rattle.affix_strip.specs.EntryTable.{folded, hash_of, has_hash, has_word, passes_at, last_where, HasEntries};
+ghost use Rattle.affix_strip.specs.EntryTable.{folded, hash_of, has_hash, has_word, passes_at, last_where, HasEntries, AreEntriesOf};
 
 use indexmap::IndexMap;
 use lists::NoMemory;
@@ -54,14 +54,27 @@ impl EntryTable {
         Ok(())
     }
 
-    /// The last place of an entry whose word is `front` and `back` joined. The hash is that of the word.
-    pub(crate) fn last_of(
+    /// The places of the entries of a word, from the last one on.
+    pub(crate) fn places_of(
         &self,
+        alloc: Global,
         entries: &[Entry],
-        hash: u64,
-        front: &[char],
-        back: &[char],
-    ) -> Option<u32>
+        word: &[char],
+    ) -> Result<Vec<u32>, NoMemory>
+        requires { HasEntries entries.now self.now }
+        ensures { IfOk result (λ places. AreEntriesOf entries.now word.now places.items) }
+    {
+        let mut places = Vec::new(alloc);
+        let mut next = self.last_of(entries, fold(START, word), word, &[]);
+        while let Some(place) = next {
+            places.push(place)?;
+            next = self.before(entries, place, word, &[]);
+        }
+        Ok(places)
+    }
+
+    /// The last place of an entry whose word is `front` and `back` joined. The hash is that of the word.
+    fn last_of(&self, entries: &[Entry], hash: u64, front: &[char], back: &[char]) -> Option<u32>
         requires entries { HasEntries entries.now self.now }
         requires hash { hash ≡ hash_of (front.now ++ back.now) }
         ensures { result ≡ last_where (has_word (front.now ++ back.now)) entries.now (length entries.now) }
@@ -70,13 +83,7 @@ impl EntryTable {
     }
 
     /// The last place of such an entry below a place where one stands.
-    pub(crate) fn before(
-        &self,
-        entries: &[Entry],
-        place: u32,
-        front: &[char],
-        back: &[char],
-    ) -> Option<u32>
+    fn before(&self, entries: &[Entry], place: u32, front: &[char], back: &[char]) -> Option<u32>
         requires entries { HasEntries entries.now self.now }
         requires place { passes_at (has_word (front.now ++ back.now)) entries.now place ≡ true }
         ensures { result ≡ last_where (has_word (front.now ++ back.now)) entries.now place }

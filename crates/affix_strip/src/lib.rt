@@ -10,6 +10,7 @@ ghost use Rattle.spell_types.specs.Sanity.{IsSane};
 ghost use Rattle.affix_strip.specs.Found.{derivations_of, derivation_cmp, AreInOrder};
 
 mod entry_table;
+mod peeling;
 #[cfg(test)]
 mod tests;
 mod walk;

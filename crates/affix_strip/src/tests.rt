@@ -236,6 +236,21 @@ fn says_what_derivations_are() {
     derivations_are();
 }
 
+/// Rules that add and strip off the same, and have other conditions and flags.
+const GROUPED_RULES: &str = "S F 0 s 0 [aeiou]t; S G 0 s 0 [^aeiou]t; P K 0 re 0 d; P L 0 re 0 c";
+
+const GROUPED_ENTRIES: &str = "cat F; cat G; belt G; belt F; dot FK; cot GL; cot FL";
+
+const GROUPED: &str =
+    "cats: 0 - 0 -; belts: 2 - 1 -; redots: 4 2 0 -; recots: 6 3 0 -; recot: 5 3 - -, 6 3 - -; recats: ";
+
+#[test]
+fn tells_rules_of_a_group_apart(rt: HostRuntime) -> Result<(), Fail> {
+    let alloc = rt.alloc();
+    let stems = lexicon_of(&rt, alloc, false, GROUPED_RULES, GROUPED_ENTRIES)?;
+    assert_words(&rt, alloc, &stems, GROUPED)
+}
+
 #[test]
 fn strips_words_whole(rt: HostRuntime) -> Result<(), Fail> {
     let alloc = rt.alloc();

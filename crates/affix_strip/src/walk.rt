@@ -1,20 +1,21 @@
 //! The walk from a word to its derivations: affixes that may have made it are undone, and what is left is looked up.
 
-ghost use Rattle.std.specs.Prelude.{◌≡◌, ◌++◌, ◌^◌, ◌<◌, ◌↔◌, ℕ, List, Some, None, true, length, Contains, OnOk, IfOk, if◌then◌else◌};
+ghost use Rattle.std.specs.Prelude.{◌≡◌, ◌++◌, ◌^◌, ◌<◌, ◌↔◌, [], ◌∷◌, ℕ, List, Some, None, true, length, map, filter, is_some, Contains, OnOk, IfOk, if◌then◌else◌};
 ghost use Rattle.spell_types.specs.declared.derivations.Derivation.{Derivation};
 ghost use Rattle.spell_types.specs.Derivations.{is_same_side, form_of};
 ghost use Rattle.spell_types.specs.Flags.{put_all};
 ghost use Rattle.spell_types.specs.Licences.{is_licensed};
-ghost use Rattle.affix_tables.specs.Places.{suffix_places, prefix_places};
-ghost use Rattle.affix_strip.specs.Parts.{stem_of, with_first, with_suffixes, with_all, Passes, AtSome, Adds};
-ghost use Rattle.affix_strip.specs.Tables.{HasCarried, IsReady, may_be_outer};
-ghost use Rattle.affix_strip.specs.Undone.{undone_by, undone_at};
+ghost use Rattle.affix_strip.specs.EntryTable.{AreEntriesOf};
+ghost use Rattle.affix_strip.specs.Parts.{stem_of, with_first, with_suffixes, Any, Outside, Passes, AtSome, Adds, From, FromAll, RuleFrom, Peels};
+ghost use Rattle.affix_strip.specs.Peeling.{may_undo, may_undo_at, fits_on};
+ghost use Rattle.affix_strip.specs.Tables.{HasCarried, IsReady, may_be_outer, may_undo_outer};
 
-use crate::entry_table::{EntryTable, START, fold};
-use affix_classes::{undo_prefix, undo_suffix};
+use crate::entry_table::EntryTable;
+use crate::peeling::{Peeled, peel};
+use affix_classes::{matches_back, matches_front};
 use affix_tables::AffixTables;
 use lists::NoMemory;
-use spell_types::{Chars, Derivation, FlagSet, Lexicon, Rule, Side, has, licensed};
+use spell_types::{Derivation, FlagSet, Lexicon, Rule, Side, has, licensed};
 use std::alloc::Global;
 
 /// A dictionary, and tables of its rules and entries.
@@ -37,9 +38,9 @@ impl Dictionary {
         ensures lexicon { IfOk result (λ made. made.lexicon ≡ lexicon) }
         ensures ready { IfOk result (λ made. IsReady made) }
     {
-        let rules = AffixTables::new(alloc, lexicon.affixes.rules.as_slice())?;
-        let by_word = EntryTable::new(alloc, lexicon.entries.as_slice())?;
-        let carried = carried_by_suffixes(alloc, lexicon.affixes.rules.as_slice())?;
+        let rules = AffixTables::new(alloc, &lexicon.affixes.rules)?;
+        let by_word = EntryTable::new(alloc, &lexicon.entries)?;
+        let carried = carried_by_suffixes(alloc, &lexicon.affixes.rules)?;
         Ok(Dictionary {
             lexicon,
             rules,
@@ -55,116 +56,274 @@ impl Dictionary {
             ↔ ((is_licensed self.now.lexicon d ≡ true) × (form_of self.now.lexicon d ≡ Some word.now))) }
     {
         let mut found = Vec::new(alloc);
-        self.add_behind(alloc, None, word, &mut found)?;
-        let fronts = self.rules.prefixes_of(alloc, word)?;
-        self.add_each_prefix(alloc, fronts.as_slice(), word, &mut found)?;
+        self.add_behind(alloc, &[None], word, &mut found)?;
+        let fronts = peel(alloc, &self.rules, Side::Prefix, word)?;
+        self.add_each_front(alloc, fronts.as_slice(), &mut found)?;
         Ok(found)
     }
 
-    /// Adds the derivations of a word with one of these prefixes.
-    fn add_each_prefix(
+    /// Adds the derivations of a word with a prefix. Given are the groups of prefixes that may have made it.
+    fn add_each_front(
         &self,
         alloc: Global,
-        fronts: &[u32],
-        word: &[char],
+        fronts: &[Peeled<'_>],
         found: &mut Vec<Derivation>,
     ) -> Result<(), NoMemory>
         requires { IsReady self.now }
-        ensures { OnOk result (Adds (AtSome (λ place. Passes self.now.lexicon (λ d. d.prefix ≡ Some place)
-            (with_all self.now.lexicon) word.now) fronts.now) found.old.items found.new.items) }
+        ensures { OnOk result (Adds (AtSome (Peels self.now.lexicon Side.Prefix (λ d. d.prefix) Any
+            (with_suffixes self.now.lexicon)) fronts.now) found.old.items found.new.items) }
     {
-        for prefix in fronts {
-            self.add_prefix(alloc, *prefix, word, found)?;
+        for front in fronts {
+            self.add_front(alloc, front, found)?;
         }
         Ok(())
     }
 
-    /// Adds the derivations of a word with this prefix.
-    fn add_prefix(
+    /// Adds those of them that have a prefix of this group.
+    fn add_front(
         &self,
         alloc: Global,
-        prefix: u32,
-        word: &[char],
+        front: &Peeled<'_>,
         found: &mut Vec<Derivation>,
     ) -> Result<(), NoMemory>
         requires { IsReady self.now }
-        ensures { OnOk result (Adds (Passes self.now.lexicon (λ d. d.prefix ≡ Some prefix)
-            (with_all self.now.lexicon) word.now) found.old.items found.new.items) }
+        ensures { OnOk result (Adds (Peels self.now.lexicon Side.Prefix (λ d. d.prefix) Any
+            (with_suffixes self.now.lexicon) front.now) found.old.items found.new.items) }
     {
-        match undo(alloc, &self.lexicon, Side::Prefix, prefix, word)? {
-            None => Ok(()),
-            Some(rest) => self.add_behind(alloc, Some(prefix), rest.as_slice(), found),
-        }
+        let prefixes = self.undoable(alloc, Side::Prefix, front)?;
+        self.add_behind(alloc, prefixes.as_slice(), front.rest(), found)
     }
 
-    /// Adds the derivations with this prefix, or with none, that have this word behind it.
+    /// Adds the derivations with one of these prefixes, or with none if that is among them, that have this word behind it.
     fn add_behind(
         &self,
         alloc: Global,
-        prefix: Option<u32>,
+        prefixes: &[Option<u32>],
         rest: &[char],
         found: &mut Vec<Derivation>,
     ) -> Result<(), NoMemory>
         requires { IsReady self.now }
-        ensures { OnOk result (Adds (Passes self.now.lexicon (λ d. d.prefix ≡ prefix)
+        ensures { OnOk result (Adds (Passes self.now.lexicon (λ d. Contains prefixes.now d.prefix)
             (with_suffixes self.now.lexicon) rest.now) found.old.items found.new.items) }
     {
-        let endings = self.rules.suffixes_of(alloc, rest)?;
+        if prefixes.is_empty() {
+            return Ok(());
+        }
+        let endings = peel(alloc, &self.rules, Side::Suffix, rest)?;
         let endings = endings.as_slice();
-        self.add_inside(alloc, prefix, None, rest, endings, found)?;
-        self.add_each_outer(alloc, prefix, endings, rest, found)
+        self.add_bare(alloc, prefixes, rest, found)?;
+        self.add_each_first(alloc, prefixes, &[None], endings, found)?;
+        self.add_each_outer(alloc, prefixes, endings, found)
     }
 
-    /// Adds those of them that have one of these second suffixes.
+    /// Adds those of them that have a second suffix. Given are the groups of suffixes that may have made the word.
     fn add_each_outer(
         &self,
         alloc: Global,
-        prefix: Option<u32>,
-        endings: &[u32],
-        rest: &[char],
+        prefixes: &[Option<u32>],
+        endings: &[Peeled<'_>],
         found: &mut Vec<Derivation>,
     ) -> Result<(), NoMemory>
         requires { IsReady self.now }
-        ensures { OnOk result (Adds (AtSome (λ place. Passes self.now.lexicon (λ d. (d.prefix ≡ prefix) × (d.second ≡ Some place))
-            (with_suffixes self.now.lexicon) rest.now) endings.now) found.old.items found.new.items) }
+        ensures { OnOk result (Adds (AtSome (Peels self.now.lexicon Side.Suffix (λ d. d.second)
+            (λ d. Contains prefixes.now d.prefix) (with_first self.now.lexicon)) endings.now) found.old.items found.new.items) }
     {
-        for second in endings {
-            self.add_outer(alloc, prefix, *second, rest, found)?;
+        for ending in endings {
+            self.add_outer(alloc, prefixes, ending, found)?;
         }
         Ok(())
     }
 
-    /// Adds those of them that have this second suffix.
+    /// Adds those of them that have a second suffix of this group.
     fn add_outer(
         &self,
         alloc: Global,
-        prefix: Option<u32>,
-        second: u32,
-        rest: &[char],
+        prefixes: &[Option<u32>],
+        ending: &Peeled<'_>,
         found: &mut Vec<Derivation>,
     ) -> Result<(), NoMemory>
         requires { IsReady self.now }
-        ensures { OnOk result (Adds (Passes self.now.lexicon (λ d. (d.prefix ≡ prefix) × (d.second ≡ Some second))
-            (with_suffixes self.now.lexicon) rest.now) found.old.items found.new.items) }
+        ensures { OnOk result (Adds (Peels self.now.lexicon Side.Suffix (λ d. d.second)
+            (λ d. Contains prefixes.now d.prefix) (with_first self.now.lexicon) ending.now) found.old.items found.new.items) }
     {
-        if !self.may_be_outer(second) {
+        let seconds = self.undoable_outer(alloc, ending)?;
+        self.add_inside(alloc, prefixes, seconds.as_slice(), ending.rest(), found)
+    }
+
+    /// Adds the derivations with one of these prefixes and one of these second suffixes that have this word inside of them.
+    fn add_inside(
+        &self,
+        alloc: Global,
+        prefixes: &[Option<u32>],
+        seconds: &[Option<u32>],
+        inner: &[char],
+        found: &mut Vec<Derivation>,
+    ) -> Result<(), NoMemory>
+        requires { IsReady self.now }
+        ensures { OnOk result (Adds (Passes self.now.lexicon
+            (λ d. Outside prefixes.now seconds.now d × (is_some d.first ≡ true))
+            (with_first self.now.lexicon) inner.now) found.old.items found.new.items) }
+    {
+        if seconds.is_empty() {
             return Ok(());
         }
-        match undo(alloc, &self.lexicon, Side::Suffix, second, rest)? {
-            None => Ok(()),
-            Some(inner) => {
-                let inner = inner.as_slice();
-                let endings = self.rules.suffixes_of(alloc, inner)?;
-                self.add_inside(
-                    alloc,
-                    prefix,
-                    Some(second),
-                    inner,
-                    endings.as_slice(),
-                    found,
-                )
-            }
+        let endings = peel(alloc, &self.rules, Side::Suffix, inner)?;
+        self.add_each_first(alloc, prefixes, seconds, endings.as_slice(), found)
+    }
+
+    /// Adds the derivations with one of these prefixes that have this word behind it, and no suffix.
+    fn add_bare(
+        &self,
+        alloc: Global,
+        prefixes: &[Option<u32>],
+        word: &[char],
+        found: &mut Vec<Derivation>,
+    ) -> Result<(), NoMemory>
+        requires { IsReady self.now }
+        ensures { OnOk result (Adds (Passes self.now.lexicon
+            (λ d. Outside prefixes.now (None ∷ []) d × (d.first ≡ None))
+            (stem_of self.now.lexicon) word.now) found.old.items found.new.items) }
+    {
+        let entries = self.entries_of(alloc, word)?;
+        let entries = entries.as_slice();
+        add_each_prefix(&self.lexicon, prefixes, None, &[None], entries, found)
+    }
+
+    /// Adds the derivations with one of these prefixes, one of these second suffixes, and a first one. Given are the groups
+    /// of suffixes that may have made the word inside.
+    fn add_each_first(
+        &self,
+        alloc: Global,
+        prefixes: &[Option<u32>],
+        seconds: &[Option<u32>],
+        endings: &[Peeled<'_>],
+        found: &mut Vec<Derivation>,
+    ) -> Result<(), NoMemory>
+        requires { IsReady self.now }
+        ensures { OnOk result (Adds (AtSome (Peels self.now.lexicon Side.Suffix (λ d. d.first)
+            (Outside prefixes.now seconds.now) (stem_of self.now.lexicon)) endings.now) found.old.items found.new.items) }
+    {
+        for ending in endings {
+            self.add_first(alloc, prefixes, seconds, ending, found)?;
         }
+        Ok(())
+    }
+
+    /// Adds those of them that have a first suffix of this group. What it leaves is looked up once, and rules are
+    /// looked at only where that is an entry's word.
+    fn add_first(
+        &self,
+        alloc: Global,
+        prefixes: &[Option<u32>],
+        seconds: &[Option<u32>],
+        ending: &Peeled<'_>,
+        found: &mut Vec<Derivation>,
+    ) -> Result<(), NoMemory>
+        requires { IsReady self.now }
+        ensures { OnOk result (Adds (Peels self.now.lexicon Side.Suffix (λ d. d.first)
+            (Outside prefixes.now seconds.now) (stem_of self.now.lexicon) ending.now) found.old.items found.new.items) }
+    {
+        let rest = ending.rest();
+        let entries = self.entries_of(alloc, rest)?;
+        let entries = entries.as_slice();
+        if entries.is_empty() {
+            return Ok(());
+        }
+        self.add_each_rule(prefixes, ending.places(), seconds, rest, entries, found)
+    }
+
+    /// Adds the derivations with one of these prefixes, one of these second suffixes, and as first suffix one of these rules
+    /// that may be attached to this, that come from one of these entries.
+    fn add_each_rule(
+        &self,
+        prefixes: &[Option<u32>],
+        firsts: &[u32],
+        seconds: &[Option<u32>],
+        rest: &[char],
+        entries: &[u32],
+        found: &mut Vec<Derivation>,
+    ) -> Result<(), NoMemory>
+        ensures { OnOk result (Adds (AtSome (RuleFrom self.now.lexicon prefixes.now seconds.now rest.now entries.now) firsts.now)
+            found.old.items found.new.items) }
+    {
+        for first in firsts {
+            self.add_rule(prefixes, *first, seconds, rest, entries, found)?;
+        }
+        Ok(())
+    }
+
+    /// Adds those of them that have this first suffix.
+    fn add_rule(
+        &self,
+        prefixes: &[Option<u32>],
+        first: u32,
+        seconds: &[Option<u32>],
+        rest: &[char],
+        entries: &[u32],
+        found: &mut Vec<Derivation>,
+    ) -> Result<(), NoMemory>
+        ensures { OnOk result (Adds (RuleFrom self.now.lexicon prefixes.now seconds.now rest.now entries.now first)
+            found.old.items found.new.items) }
+    {
+        if !self.may_undo(Side::Suffix, rest, first) {
+            return Ok(());
+        }
+        add_each_prefix(
+            &self.lexicon,
+            prefixes,
+            Some(first),
+            seconds,
+            entries,
+            found,
+        )
+    }
+
+    /// The rules of a group that may be attached to what it leaves.
+    fn undoable(
+        &self,
+        alloc: Global,
+        side: Side,
+        peeled: &Peeled<'_>,
+    ) -> Result<Vec<Option<u32>>, NoMemory>
+        ensures { IfOk result (λ kept. kept.items ≡ map (λ place. Some place)
+            (filter (may_undo_at self.now.lexicon.affixes side peeled.now.0) peeled.now.1)) }
+    {
+        let rest = peeled.rest();
+        let kept = peeled
+            .places()
+            .iter()
+            .copied()
+            .filter(|place| self.may_undo(side, rest, *place))
+            .map(|place| Some(place))
+            .collect(alloc)?;
+        Ok(kept)
+    }
+
+    /// The suffix rules of a group that may be second suffixes and be attached to what it leaves.
+    fn undoable_outer(
+        &self,
+        alloc: Global,
+        peeled: &Peeled<'_>,
+    ) -> Result<Vec<Option<u32>>, NoMemory>
+        ensures { IfOk result (λ kept. kept.items ≡ map (λ place. Some place)
+            (filter (may_undo_outer self.now peeled.now.0) peeled.now.1)) }
+    {
+        let rest = peeled.rest();
+        let kept = peeled
+            .places()
+            .iter()
+            .copied()
+            .filter(|place| self.may_undo_outer(rest, *place))
+            .map(|place| Some(place))
+            .collect(alloc)?;
+        Ok(kept)
+    }
+
+    /// Whether a suffix rule may be a second suffix, and be attached to this.
+    fn may_undo_outer(&self, rest: &[char], place: u32) -> bool
+        ensures { result ≡ may_undo_outer self.now rest.now place }
+    {
+        self.may_be_outer(place) && self.may_undo(Side::Suffix, rest, place)
     }
 
     /// Whether a rule may be a second suffix: some suffix rule carries its flag.
@@ -177,112 +336,84 @@ impl Dictionary {
         }
     }
 
-    /// Adds the derivations with these outer affixes, or with none, that have this word inside of them. The rules that may
-    /// have made the word are given.
-    fn add_inside(
-        &self,
-        alloc: Global,
-        prefix: Option<u32>,
-        second: Option<u32>,
-        inner: &[char],
-        endings: &[u32],
-        found: &mut Vec<Derivation>,
-    ) -> Result<(), NoMemory>
-        requires ready { IsReady self.now }
-        requires endings { endings.now ≡ suffix_places self.now.lexicon.affixes.rules inner.now }
-        ensures { OnOk result (Adds (Passes self.now.lexicon (λ d. (d.prefix ≡ prefix) × (d.second ≡ second))
-            (with_first self.now.lexicon) inner.now) found.old.items found.new.items) }
+    /// Whether the rule with a place leaves this: something is left of the word that it is undone from, or words may be
+    /// stripped whole, and its condition fits.
+    fn may_undo(&self, side: Side, rest: &[char], place: u32) -> bool
+        ensures { result ≡ may_undo_at self.now.lexicon.affixes side rest.now place }
     {
-        self.add_bare(prefix, second, inner, found)?;
-        self.add_each_first(alloc, prefix, second, endings, inner, found)
-    }
-
-    /// Adds those of them that have no first suffix.
-    fn add_bare(
-        &self,
-        prefix: Option<u32>,
-        second: Option<u32>,
-        stem: &[char],
-        found: &mut Vec<Derivation>,
-    ) -> Result<(), NoMemory>
-        requires { IsReady self.now }
-        ensures { OnOk result (Adds (Passes self.now.lexicon (λ d. (d.prefix ≡ prefix) × ((d.first ≡ None) × (d.second ≡ second)))
-            (with_first self.now.lexicon) stem.now) found.old.items found.new.items) }
-    {
-        if second.is_some() {
-            return Ok(());
-        }
-        self.add_entries(prefix, None, second, stem, found)
-    }
-
-    /// Adds those of them that have one of these first suffixes.
-    fn add_each_first(
-        &self,
-        alloc: Global,
-        prefix: Option<u32>,
-        second: Option<u32>,
-        endings: &[u32],
-        inner: &[char],
-        found: &mut Vec<Derivation>,
-    ) -> Result<(), NoMemory>
-        requires { IsReady self.now }
-        ensures { OnOk result (Adds (AtSome (λ place. Passes self.now.lexicon
-            (λ d. (d.prefix ≡ prefix) × ((d.first ≡ Some place) × (d.second ≡ second)))
-            (with_first self.now.lexicon) inner.now) endings.now) found.old.items found.new.items) }
-    {
-        for first in endings {
-            self.add_first(alloc, prefix, *first, second, inner, found)?;
-        }
-        Ok(())
-    }
-
-    /// Adds those of them that have this first suffix.
-    fn add_first(
-        &self,
-        alloc: Global,
-        prefix: Option<u32>,
-        first: u32,
-        second: Option<u32>,
-        inner: &[char],
-        found: &mut Vec<Derivation>,
-    ) -> Result<(), NoMemory>
-        requires { IsReady self.now }
-        ensures { OnOk result (Adds (Passes self.now.lexicon (λ d. (d.prefix ≡ prefix) × ((d.first ≡ Some first) × (d.second ≡ second)))
-            (with_first self.now.lexicon) inner.now) found.old.items found.new.items) }
-    {
-        match undo(alloc, &self.lexicon, Side::Suffix, first, inner)? {
-            None => Ok(()),
-            Some(stem) => self.add_entries(prefix, Some(first), second, stem.as_slice(), found),
+        match self.lexicon.affixes.rules.as_slice().get(place as usize) {
+            None => false,
+            Some(rule) => { may_undo(self.lexicon.affixes.options.full_strip, side, rest, rule) }
         }
     }
 
-    /// Adds the derivations with these affixes from the entries of a word.
-    fn add_entries(
-        &self,
-        prefix: Option<u32>,
-        first: Option<u32>,
-        second: Option<u32>,
-        stem: &[char],
-        found: &mut Vec<Derivation>,
-    ) -> Result<(), NoMemory>
+    /// The places of the entries of a word.
+    fn entries_of(&self, alloc: Global, word: &[char]) -> Result<Vec<u32>, NoMemory>
         requires { IsReady self.now }
-        ensures { OnOk result (Adds (Passes self.now.lexicon (λ d. (d.prefix ≡ prefix) × ((d.first ≡ first) × (d.second ≡ second)))
-            (stem_of self.now.lexicon) stem.now) found.old.items found.new.items) }
+        ensures { IfOk result (λ places. AreEntriesOf self.now.lexicon.entries word.now places.items) }
     {
-        let entries = self.lexicon.entries.as_slice();
-        let mut next = self.by_word.last_of(entries, fold(START, stem), stem, &[]);
-        while let Some(entry) = next {
-            let d = Derivation {
-                entry,
-                prefix,
-                first,
-                second,
-            };
-            add_licensed(&self.lexicon, d, found)?;
-            next = self.by_word.before(entries, entry, stem, &[]);
-        }
-        Ok(())
+        self.by_word.places_of(alloc, &self.lexicon.entries, word)
     }
+}
+
+/// Adds the derivations with one of these prefixes, this first suffix and one of these second ones, that come from one of
+/// these entries and are licensed.
+fn add_each_prefix(
+    lexicon: &Lexicon,
+    prefixes: &[Option<u32>],
+    first: Option<u32>,
+    seconds: &[Option<u32>],
+    entries: &[u32],
+    found: &mut Vec<Derivation>,
+) -> Result<(), NoMemory>
+    ensures { OnOk result (Adds (FromAll lexicon.now prefixes.now first seconds.now entries.now)
+        found.old.items found.new.items) }
+{
+    for prefix in prefixes {
+        add_each_second(lexicon, *prefix, first, seconds, entries, found)?;
+    }
+    Ok(())
+}
+
+/// Adds those of them that have this prefix.
+fn add_each_second(
+    lexicon: &Lexicon,
+    prefix: Option<u32>,
+    first: Option<u32>,
+    seconds: &[Option<u32>],
+    entries: &[u32],
+    found: &mut Vec<Derivation>,
+) -> Result<(), NoMemory>
+    ensures { OnOk result (Adds (AtSome (λ second. From lexicon.now prefix first second entries.now) seconds.now)
+        found.old.items found.new.items) }
+{
+    for second in seconds {
+        add_each_entry(lexicon, prefix, first, *second, entries, found)?;
+    }
+    Ok(())
+}
+
+/// Adds the derivations with these affixes from these entries that are licensed.
+fn add_each_entry(
+    lexicon: &Lexicon,
+    prefix: Option<u32>,
+    first: Option<u32>,
+    second: Option<u32>,
+    entries: &[u32],
+    found: &mut Vec<Derivation>,
+) -> Result<(), NoMemory>
+    ensures { OnOk result (Adds (From lexicon.now prefix first second entries.now) found.old.items found.new.items) }
+{
+    for entry in entries {
+        let d = Derivation {
+            entry: *entry,
+            prefix,
+            first,
+            second,
+        };
+        add_licensed(lexicon, d, found)?;
+    }
+    Ok(())
 }
 
 /// Adds a derivation, if it is licensed.
@@ -330,36 +461,20 @@ fn put_all(flags: &FlagSet, set: &mut FlagSet) -> Result<(), NoMemory>
     Ok(())
 }
 
-/// The word without the affix of the rule with a place, if it is one of the side.
-fn undo(
-    alloc: Global,
-    lexicon: &Lexicon,
-    side: Side,
-    place: u32,
-    word: &[char],
-) -> Result<Option<Chars>, NoMemory>
-    ensures { IfOk result (λ found. found ≡ undone_at lexicon.now.affixes side place word.now) }
+/// Whether a rule may be attached to this. `full_strip` says whether a rule may strip a word whole: the option FULLSTRIP of
+/// hunspell(5).
+fn may_undo(full_strip: bool, side: Side, rest: &[char], rule: &Rule) -> bool
+    ensures { result ≡ may_undo full_strip side rest.now rule.now }
 {
-    match lexicon.affixes.rules.as_slice().get(place as usize) {
-        None => Ok(None),
-        Some(rule) => undo_rule(alloc, rule, lexicon.affixes.options.full_strip, side, word),
-    }
+    (full_strip || rule.strip.as_slice().len() < rest.len()) && fits_on(side, rule, rest)
 }
 
-/// The word that a rule was attached to, if it is one of the side.
-fn undo_rule(
-    alloc: Global,
-    rule: &Rule,
-    full_strip: bool,
-    side: Side,
-    word: &[char],
-) -> Result<Option<Chars>, NoMemory>
-    ensures { IfOk result (λ found.
-        found ≡ (if is_same_side side rule.now.side then undone_by side full_strip rule.now word.now else None)) }
+/// Whether a rule's condition fits the side's end of a word.
+fn fits_on(side: Side, rule: &Rule, word: &[char]) -> bool
+    ensures { result ≡ fits_on side rule.now.condition word.now }
 {
-    match (side, rule.side) {
-        (Side::Prefix, Side::Prefix) => undo_prefix(alloc, rule, full_strip, word),
-        (Side::Suffix, Side::Suffix) => undo_suffix(alloc, rule, full_strip, word),
-        _ => Ok(None),
+    match side {
+        Side::Prefix => matches_front(&rule.condition, word),
+        Side::Suffix => matches_back(&rule.condition, word),
     }
 }

@@ -14,6 +14,10 @@ use Rattle.spell_types.specs.declared.rules.Side.{Side}
 abbrev pub Group : Type 0
 Group = Vec ℕ Global × Vec ℕ Global
 
+-- what the rules of a group strip off, if there is one
+abbrev pub strip_in : Option Group → List ℕ
+strip_in group = option_map_or (λ g. g.0.items) group []
+
 -- the places of a group, if there is one
 abbrev pub places_in : Option Group → List ℕ
 places_in group = option_map_or (λ g. g.1.items) group []

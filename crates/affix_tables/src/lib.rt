@@ -9,7 +9,7 @@ ghost use Rattle.std.specs.List.Sorted.{IsStrictlyIncreasing, IsPermutation};
 ghost use Rattle.spell_types.specs.declared.rules.Rule.{Rule};
 ghost use Rattle.spell_types.specs.declared.rules.Side.TheVariants.{Prefix, Suffix};
 ghost use Rattle.affix_tables.specs.Places.{suffix_places, prefix_places};
-ghost use Rattle.affix_tables.specs.Groups.{places_in, AreApart, AreGroups};
+ghost use Rattle.affix_tables.specs.Groups.{strip_in, places_in, AreApart, AreGroups};
 ghost use Rattle.affix_tables.specs.Tables.{places_at, groups_at, all_places, Puts, ending_places, front_places, IsTable, IsTableOf};
 
 #[cfg(test)]
@@ -289,6 +289,16 @@ fn groups_of<'a>(by_text: &'a IndexMap<Vec<char>, GroupMap>, text: &[char]) -> G
         return groups.as_slice();
     }
     Slice::new()
+}
+
+/// What the rules of the group with a number, from 0, strip off; nothing where there is none.
+pub fn group_strip<'a>(groups: &Groups<'a>, number: usize) -> &'a [char]
+    ensures { result.now ≡ strip_in (slice_get groups.now number) }
+{
+    match groups.get_index(number) {
+        None => &[],
+        Some((strip, _)) => strip.as_slice(),
+    }
 }
 
 /// The places of the group with a number, from 0; none where there is none.

@@ -1,18 +1,20 @@
--- The derivations with one second suffix more are added.
-use Rattle.std.proofs.Common.{◌≡◌, Some, arith}
-use Rattle.affix_strip.specs.Parts.{with_suffixes, Passes}
+-- The derivations with a second suffix of one group more are added.
+use Rattle.std.proofs.Common.{◌≡◌, subst, None, Some, arith, Contains}
+use Rattle.spell_types.specs.declared.rules.Side.TheVariants.{Suffix}
+use Rattle.affix_strip.specs.Parts.{Adds, Peels, with_first}
 use Rattle.affix_strip.proofs.AddLemmas.{adds-first, adds-more, adds-last}
 use Rattle.affix_strip.proofs.walk.Dictionary.add_each_outer.Goals as goal
 
-pub loop-second-init : goal.loop-second-init
-loop-second-init c = adds-first (λ place. Passes c.args.self.now.lexicon (λ d. (d.prefix ≡ c.args.prefix) × (d.second ≡ Some place)) (with_suffixes c.args.self.now.lexicon) c.args.rest.now) c.args.endings.now c.args.found.now.items
+pub loop-ending-init : goal.loop-ending-init
+loop-ending-init c = adds-first (Peels c.args.self.now.lexicon Suffix (λ d. d.second) (λ d. Contains c.args.prefixes.now d.prefix) (with_first c.args.self.now.lexicon)) c.args.endings.now c.args.found.now.items
 
-pub loop-second-preserved : goal.loop-second-preserved
-loop-second-preserved c =
-    adds-more (λ place. Passes c.args.self.now.lexicon (λ d. (d.prefix ≡ c.args.prefix) × (d.second ≡ Some place)) (with_suffixes c.args.self.now.lexicon) c.args.rest.now) c.args.endings.now c.loop-second.second-index 0 c.args.found.now.items c.loop-second.found.items c.add_outer.new.found.items
-    (omega arith) c.loop-second.invariant c.in_ok-add_outer.ensures
+pub loop-ending-preserved : goal.loop-ending-preserved
+loop-ending-preserved c =
+    adds-more (Peels c.args.self.now.lexicon Suffix (λ d. d.second) (λ d. Contains c.args.prefixes.now d.prefix) (with_first c.args.self.now.lexicon)) c.args.endings.now c.loop-ending.ending-index c.ending-item.result c.args.found.now.items c.loop-ending.found.items c.add_outer.new.found.items
+    (omega arith) c.loop-ending.invariant
+    (subst (λ item. Adds (Peels c.args.self.now.lexicon Suffix (λ d. d.second) (λ d. Contains c.args.prefixes.now d.prefix) (with_first c.args.self.now.lexicon) item) c.loop-ending.found.items c.add_outer.new.found.items) c.ending-item.is c.in_ok-add_outer.ensures)
 
 pub returns : goal.returns
 returns c =
-    adds-last (λ place. Passes c.args.self.now.lexicon (λ d. (d.prefix ≡ c.args.prefix) × (d.second ≡ Some place)) (with_suffixes c.args.self.now.lexicon) c.args.rest.now) c.args.endings.now c.loop-second.second-index c.args.found.now.items c.loop-second.found.items
-    (omega arith) c.loop-second.invariant
+    adds-last (Peels c.args.self.now.lexicon Suffix (λ d. d.second) (λ d. Contains c.args.prefixes.now d.prefix) (with_first c.args.self.now.lexicon)) c.args.endings.now c.loop-ending.ending-index c.args.found.now.items c.loop-ending.found.items
+    (omega arith) c.loop-ending.invariant

@@ -1,8 +1,9 @@
--- So far the derivations with the second suffixes before the loop's place are added.
-use Rattle.std.proofs.Common.{◌≡◌, Some, take}
-use Rattle.affix_strip.specs.Parts.{with_suffixes, Passes, AtSome, Adds}
+-- So far what comes before the loop's place is added.
+use Rattle.std.proofs.Common.{◌≡◌, None, Some, take, Contains}
+use Rattle.spell_types.specs.declared.rules.Side.TheVariants.{Suffix}
+use Rattle.affix_strip.specs.Parts.{Peels, with_first}
+use Rattle.affix_strip.specs.Parts.{AtSome, Adds}
 use Rattle.affix_strip.proofs.walk.Dictionary.add_each_outer.Given as goal
 
-abbrev pub invariant-loop-second : goal.invariant-loop-second
-invariant-loop-second l =
-    Adds (AtSome (λ place. Passes l.self.lexicon (λ d. (d.prefix ≡ l.prefix) × (d.second ≡ Some place)) (with_suffixes l.self.lexicon) l.rest) (take l.second-index l.endings)) l.initial.found.items l.found.items
+abbrev pub invariant-loop-ending : goal.invariant-loop-ending
+invariant-loop-ending l = Adds (AtSome (Peels l.self.lexicon Suffix (λ d. d.second) (λ d. Contains l.prefixes d.prefix) (with_first l.self.lexicon)) (take l.ending-index l.endings)) l.initial.found.items l.found.items
