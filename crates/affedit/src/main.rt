@@ -39,13 +39,7 @@ fn main(rt: HostRuntime) -> ExitCode {
             let mut files = RealFiles::new(&rt);
             let mut input = StdSource::new(&rt);
             run(
-                &rt,
-                alloc,
-                &words,
-                &mut files,
-                &mut input,
-                &mut out,
-                &FreeGate,
+                &rt, alloc, &words, &mut files, &mut input, &mut out, &FreeGate,
             )
             .status
         }

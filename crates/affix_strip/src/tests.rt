@@ -222,13 +222,17 @@ const FITTING: &str =
     "tries: 3 - 7 -; trys: ; days: 4 - 8 -; daies: ; teaz: ; went: ; go: 5 - - -; \
     ran: 9 - - -, 9 - 11 -, 9 12 - -, 9 12 11 -; 0: ; und: ";
 
+fn assert_all(rt: &impl Abort, alloc: Global, stems: &Stems) -> Result<(), Fail> {
+    assert_words(rt, alloc, stems, AFFIXED)?;
+    assert_words(rt, alloc, stems, LICENSED)?;
+    assert_words(rt, alloc, stems, FITTING)
+}
+
 #[test]
 fn derives_words(rt: HostRuntime) -> Result<(), Fail> {
     let alloc = rt.alloc();
     let stems = lexicon_of(&rt, alloc, false, RULES, ENTRIES)?;
-    assert_words(&rt, alloc, &stems, AFFIXED)?;
-    assert_words(&rt, alloc, &stems, LICENSED)?;
-    assert_words(&rt, alloc, &stems, FITTING)
+    assert_all(&rt, alloc, &stems)
 }
 
 #[test]
@@ -289,24 +293,31 @@ fn assert_homonyms(rt: &impl Abort, alloc: Global, stems: &Stems, count: u32) ->
 
 #[test]
 fn derives_homonyms(rt: HostRuntime) -> Result<(), Fail> {
-    let stems = stems_of_homonyms(&rt, rt.alloc(), 9)?;
-    assert_homonyms(&rt, rt.alloc(), &stems, 9)
+    let alloc = rt.alloc();
+    let stems = stems_of_homonyms(&rt, alloc, 1000)?;
+    assert_homonyms(&rt, alloc, &stems, 1000)
 }
 
 /// Homonyms of two words that have one hash.
 const ALIKE: &str = "akaihaalsioa S; eadaaenaaaai 0; akaihaalsioa 0; eadaaenaaaai S";
 
+const APART: &str =
+    "akaihaalsioa: 0 - - -, 2 - - -; eadaaenaaaai: 1 - - -, 3 - - -; akaihaalsioas: 0 - 0 -; eadaaenaaaais: 3 - 0 -";
+
+fn hash_of(alloc: Global, text: &str) -> Result<u64, Fail> {
+    Ok(fold(START, &text_of(alloc, text)?))
+}
+
+#[test]
+fn has_two_words_of_one_hash(rt: HostRuntime) -> Result<(), Fail> {
+    let hash = hash_of(rt.alloc(), "akaihaalsioa")?;
+    assert_eq!(rt; hash_of(rt.alloc(), "eadaaenaaaai")?, hash);
+    Ok(())
+}
+
 #[test]
 fn tells_words_of_one_hash_apart(rt: HostRuntime) -> Result<(), Fail> {
     let alloc = rt.alloc();
-    let word = text_of(alloc, "akaihaalsioa")?;
-    let other = text_of(alloc, "eadaaenaaaai")?;
-    assert_eq!(rt; fold(START, word.as_slice()), fold(START, other.as_slice()));
     let stems = lexicon_of(&rt, alloc, false, "S S 0 s 0", ALIKE)?;
-    assert_words(
-        &rt,
-        alloc,
-        &stems,
-        "akaihaalsioa: 0 - - -, 2 - - -; eadaaenaaaai: 1 - - -, 3 - - -; akaihaalsioas: 0 - 0 -; eadaaenaaaais: 3 - 0 -",
-    )
+    assert_words(&rt, alloc, &stems, APART)
 }

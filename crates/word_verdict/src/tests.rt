@@ -169,25 +169,56 @@ fn assert_verdicts(
     Ok(())
 }
 
+/// That some words are right and others wrong.
+fn assert_both(
+    rt: &impl Abort,
+    alloc: Global,
+    speller: &Speller,
+    right: &str,
+    wrong: &str,
+) -> Result<(), Fail> {
+    assert_verdicts(rt, alloc, speller, right, true)?;
+    assert_verdicts(rt, alloc, speller, wrong, false)
+}
+
+/// The same by a dictionary of these entries. What owns a dictionary makes one call, since each further one is long to prove.
+fn assert_judged(
+    rt: &impl Abort,
+    alloc: Global,
+    wordchars: &str,
+    entries: &str,
+    right: &str,
+    wrong: &str,
+) -> Result<(), Fail> {
+    let speller = speller_of(rt, alloc, wordchars, entries)?;
+    assert_both(rt, alloc, &speller, right, wrong)
+}
+
 const ENTRIES: &str = "Paris kg/K tea/S bar/S bars/Z it's etc";
 
+/// The last word is the empty one.
 const RIGHT: &str =
     "Paris PARIS kg tea teas Tea TEAS bar Bar BAR it's it\u{2019}s t*ea tea-bar tea-kg 1.5 1,000-2 etc \
-    TEA-bar";
+    TEA-bar ";
 
 const WRONG: &str =
     "paris Kg KG bars Bars BARS its tEa tea-bars tea--bar tea-1 .5 1..5 - etc. 1.5.";
 
 #[test]
 fn judges_words(rt: HostRuntime) -> Result<(), Fail> {
-    let alloc = rt.alloc();
-    let speller = speller_of(&rt, alloc, "", ENTRIES)?;
-    assert_verdicts(&rt, alloc, &speller, RIGHT, true)?;
-    assert_verdicts(&rt, alloc, &speller, WRONG, false)?;
-    assert_verdict(&rt, alloc, &speller, "", true)?;
-    let dotted = speller_of(&rt, alloc, ".", ENTRIES)?;
-    assert_verdicts(&rt, alloc, &dotted, "etc. etc... 1.5. Tea.", true)?;
-    assert_verdicts(&rt, alloc, &dotted, ". bars. etd.", false)
+    assert_judged(&rt, rt.alloc(), "", ENTRIES, RIGHT, WRONG)
+}
+
+#[test]
+fn drops_dots_at_the_end(rt: HostRuntime) -> Result<(), Fail> {
+    assert_judged(
+        &rt,
+        rt.alloc(),
+        ".",
+        ENTRIES,
+        "etc. etc... 1.5. Tea.",
+        ". bars. etd.",
+    )
 }
 
 fn repeated(alloc: Global, c: char, count: usize) -> Result<String, Fail> {
@@ -204,9 +235,7 @@ fn bounds_words_by_characters(rt: HostRuntime) -> Result<(), Fail> {
     let digits = repeated(alloc, '7', 101)?;
     let longest = repeated(alloc, '\u{e4}', 100)?;
     let longer = repeated(alloc, '\u{e4}', 101)?;
-    let speller = speller_of(&rt, alloc, "", longest.as_str())?;
-    assert_verdict(&rt, alloc, &speller, digits.as_str(), true)?;
-    assert_verdict(&rt, alloc, &speller, longest.as_str(), true)?;
-    let other = speller_of(&rt, alloc, "", longer.as_str())?;
-    assert_verdict(&rt, alloc, &other, longer.as_str(), false)
+    let entries = format!(in alloc; "{longest} {longer}")?;
+    let right = format!(in alloc; "{digits} {longest}")?;
+    assert_judged(&rt, alloc, "", &entries, &right, &longer)
 }
