@@ -1,7 +1,8 @@
 #!/usr/bin/env bash
 # Times `check` on large dictionaries: an .aff file of 16 MB, one of 100,000 rules, a .dic file of 1,000,000 entries, and a
 # text of 1,000 words by 300 rules and 50,000 entries; and on hostile ones, with a text of 1,000 words: 100,000 rules that add
-# one text under 100,000 conditions, or strip 100,000 texts, 1,000 entries of one word, and 1,000,000 entries that begin alike.
+# one text under 100,000 conditions, or strip 100,000 texts (by 100 words), 1,000 entries of one word, and 1,000,000 entries that
+# begin alike.
 # Prints seconds and the most memory that was used.
 set -euo pipefail
 top=$(cd "$(dirname "$0")/.." && pwd)
@@ -25,11 +26,12 @@ awk "$words"' BEGIN { print "FLAG num"; print "SFX 1 Y 100000"; for (r = 0; r < 
 awk "$words"' BEGIN { print "FLAG num"; print "SFX 1 Y 100000"; for (r = 0; r < 100000; r++) print "SFX", 1, word(r), "s", "." }' > strips.aff
 awk "$words"' BEGIN { print 50000; for (i = 0; i < 50000; i++) print word(i) "/1" }' > conditions.dic
 awk "$words"' BEGIN { for (k = 0; k < 1000; k++) printf "%ss%s", word((k * 7919) % 100000), k % 10 == 9 ? "\n" : " " }' > conditions.text
+head -n 10 conditions.text > strips.text
 printf 'SFX A Y 1\nSFX A 0 s .\nPFX B Y 1\nPFX B 0 re .\n' > homonyms.aff
 awk 'BEGIN { print 1000; for (i = 0; i < 1000; i++) print "work/AB" }' > homonyms.dic
 awk 'BEGIN { count = split("work works rework reworks", words, " "); for (k = 0; k < 1000; k++) printf "%s%s", words[k % count + 1], k % 10 == 9 ? "\n" : " " }' > homonyms.text
-awk 'BEGIN { print 1000000; for (i = 0; i < 1000000; i++) printf "constitutional%06d/AB\n", i }' > fronts.dic
-awk 'BEGIN { for (k = 0; k < 1000; k++) printf "constitutional%06d%s%s", (k * 7919) % 1000000, k % 2 ? "s" : "", k % 10 == 9 ? "\n" : " " }' > fronts.text
+awk 'BEGIN { print 1000000; for (i = 0; i < 1000000; i++) printf "preco%06d/AB\n", i }' > fronts.dic
+awk 'BEGIN { for (k = 0; k < 1000; k++) printf "preco%06d%s%s", (k * 7919) % 1000000, k % 2 ? "s" : "", k % 10 == 9 ? "\n" : " " }' > fronts.text
 
 program=$top/crates/affedit/out/affedit
 measure() {
@@ -47,6 +49,6 @@ measure "an .aff of 100,000 rules" rules.aff zero.dic empty
 measure "a .dic of 1,000,000 entries" empty million.dic empty
 measure "300 rules, 50,000 entries, 1,000 words" strip.aff strip.dic strip.text
 measure "100,000 rules of one text and other conditions" conditions.aff conditions.dic conditions.text
-measure "100,000 rules of one text that strip others" strips.aff conditions.dic conditions.text
+measure "100,000 rules that strip others, 100 words" strips.aff conditions.dic strips.text
 measure "1,000 entries of one word" homonyms.aff homonyms.dic homonyms.text
 measure "1,000,000 entries that begin alike" homonyms.aff fronts.dic fronts.text
