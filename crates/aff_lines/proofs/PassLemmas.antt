@@ -6,6 +6,7 @@ use Rattle.std.specs.Option.{option_or}
 use Rattle.std.proofs.lemmas.List.{take_more, append-nil, map-append}
 use Rattle.std.proofs.lemmas.Bool.Decides.{nat_tests}
 use Rattle.std.proofs.lemmas.Grind.{flat_map-append}
+use Rattle.lists.specs.Laws.{or-none}
 use Rattle.spell_types.specs.declared.flags.Flag.{Flag}
 use Rattle.spell_types.specs.declared.flags.FlagKind.{FlagKind}
 use Rattle.aff_lines.specs.declared.faults.AffWhy.TheVariants.{Twice}
@@ -128,10 +129,6 @@ sets_turn kind sets pushed set lines place line within is grown same so_far =
     ∙ ap (λ s. sets ++ s ∷ []) same
     ∙ ap (λ s. s ++ set_in kind line.now ∷ []) so_far
     ∙ sym (ap (map (set_in kind)) whole ∙ map-append (set_in kind) (lines_at before) (line.now ∷ []))
-
-or-none : (found : Option Fault) → option_or found None ≡ found
-or-none None = refl
-or-none (Some found) = refl
 
 -- the first fault of three passes
 first_of_three : (first second third : List Fault) (a b c : Option Fault) → a ≡ least_of first → b ≡ least_of second → c ≡ least_of third

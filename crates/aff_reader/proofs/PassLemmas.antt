@@ -2,6 +2,7 @@
 use Rattle.std.proofs.Common.{◌≡◌, ℕ, Bool, true, false, cond, List, [], ◌∷◌, ◌++◌, Option, Some, None, Result, Ok, Err, IfOk, IfErr, refl, sym, ap, subst, ◌∙◌}
 use Rattle.std.specs.Option.{option_or}
 use Rattle.std.specs.Result.{IsErrAnd}
+use Rattle.lists.specs.Laws.{or-none, or-assoc}
 use Rattle.spell_types.specs.declared.Affixes.{Affixes}
 use Rattle.spell_types.specs.declared.flags.Flag.{Flag}
 use Rattle.spell_types.specs.declared.flags.FlagKind.{FlagKind}
@@ -13,14 +14,6 @@ use Rattle.aff_lines.specs.Faults.{least_of, first_fault, is_before, sooner, IsF
 use Rattle.aff_lines.specs.Passes.{early_passes, IsFirst}
 use Rattle.aff_lines.specs.Rows.{rows_of}
 use Rattle.aff_reader.specs.Grammar.{kind_of, aliases_of, late_faults, aff_passes, aff_said, unless_fault, aff_read, AffReads, AffRefuses, IsRead}
-
-or-none : (found : Option Fault) → option_or found None ≡ found
-or-none None = refl
-or-none (Some fault) = refl
-
-or-assoc : (a b c : Option Fault) → option_or a (option_or b c) ≡ option_or (option_or a b) c
-or-assoc None b c = refl
-or-assoc (Some a) b c = refl
 
 -- a pass behind others decides where they have no fault
 pub first_behind : (passes : List (List Fault)) (late : List Fault) → first_fault (passes ++ late ∷ []) ≡ option_or (first_fault passes) (least_of late)

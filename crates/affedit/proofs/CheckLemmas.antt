@@ -6,6 +6,7 @@ use Rattle.std.proofs.lemmas.List.Elements.{All-from_recursion}
 use Rattle.std.proofs.lemmas.Str.{encodes-append, encodes-chars, scalars-chars, chars-encodes, IsCharBoundary-at_seam}
 use Rattle.std.proofs.Math.Seq.{take-append_seam, drop-append_seam}
 use lib.Utf8.{scalar, scalars}
+use Rattle.std.proofs.lemmas.Bool.{and_parts}
 use Rattle.spell_types.specs.declared.Lexicon.{Lexicon}
 use Rattle.spell_types.specs.Yields.{yields}
 use Rattle.mark_types.specs.Words.{Word, byte_count, words_of, StandsIn}
@@ -14,14 +15,10 @@ use Rattle.mark_types.specs.Handed.{span_of, mark_of}
 use Rattle.mark_types.specs.declared.Mark.{Mark}
 use Rattle.affedit.specs.Paragraphs.{MayBeCut, cut_out, marks_at}
 
-both : (a b : Bool) → (a && b) ≡ true → (a ≡ true) × (b ≡ true)
-both true b h = (refl, h)
-both false b h = absurd cc
-
 scalars-parts : (front back : List ℕ) → scalars (front ++ back) ≡ true → (scalars front ≡ true) × (scalars back ≡ true)
 scalars-parts [] back all = (refl, all)
 scalars-parts (c ∷ front) back all =
-    let each = both (scalar c) _ all in
+    let each = and_parts (scalar c) _ all in
     let rest = scalars-parts front back each.1 in
     (rw (each.0, rest.0) refl, rest.1)
 

@@ -9,6 +9,7 @@ use Rattle.std.proofs.lemmas.List.Elements.{All-from_recursion}
 use Rattle.std.proofs.lemmas.Str.{encodes-append, length-encode}
 use lib.Utf8.{encode}
 use Rattle.std.proofs.Math.ListN.{drop_of_length-le}
+use Rattle.lists.specs.Laws.{byte_length-cons, byte_length-append}
 use Rattle.mark_types.specs.Characters.{line_feed, is_letter_or_digit}
 use Rattle.mark_types.specs.Words.{Word, Placed, placed, belongs, first_of, characters_of, byte_count, word_of, is_outside, words_of}
 use Rattle.mark_types.specs.declared.Span.{Span}
@@ -23,12 +24,6 @@ spans_from wordchars run at before (c ∷ text) =
     cond (belongs wordchars before c (first_of text))
     (spans_from wordchars (Some (extended run at c)) (at + len_utf8 c) c text)
     (closed run at ++ spans_from wordchars None (at + len_utf8 c) c text)
-
-pub byte_count-cons : (c : ℕ) (text : List ℕ) → byte_count (c ∷ text) ≡ len_utf8 c + byte_count text
-byte_count-cons c text = length-append (encode c) (encode_utf8_all text) ∙ ap (λ n. n + byte_count text) (length-encode c)
-
-byte_count-append : (front back : List ℕ) → byte_count (front ++ back) ≡ byte_count front + byte_count back
-byte_count-append front back = ap length (encodes-append front back) ∙ length-append (encode_utf8_all front) (encode_utf8_all back)
 
 list_any-push : {X : Type 0} (p : X → Bool) (xs : List X) (x : X) → list_any p (xs ++ x ∷ []) ≡ (list_any p xs || p x)
 list_any-push p [] x = elim (p x) as (λ b. (b || false) ≡ b) [ true ↦ refl | false ↦ refl ]
@@ -69,7 +64,7 @@ held-extended : (held : List Placed) (run : Option Run) (at c : ℕ) → IsOpen 
 held-extended [] None at c is = record {
   from = refl;
   is_word = sym (list_any-push is_letter_or_digit [] c);
-  ends = let one = byte_count-cons c [] in omega (arith, one);
+  ends = let one = byte_length-cons c [] in omega (arith, one);
   inside = (refl, tt);
 }
 held-extended [] (Some run) at c is = absurd is
@@ -81,7 +76,7 @@ held-extended (first ∷ more) (Some run) at c is =
     record {
       from = is.from;
       is_word = ap (λ b. b || is_letter_or_digit c) is.is_word ∙ sym (list_any-push is_letter_or_digit characters c) ∙ ap (list_any is_letter_or_digit) (sym longer);
-      ends = let sizes = byte_count-append characters (c ∷ []) in let one = byte_count-cons c [] in let same = ap byte_count longer in omega (arith, is.ends, sizes, one, same);
+      ends = let sizes = byte_length-append characters (c ∷ []) in let one = byte_length-cons c [] in let same = ap byte_count longer in omega (arith, is.ends, sizes, one, same);
       inside = inside-push (first ∷ more) last is.inside refl;
     }
 
@@ -159,7 +154,7 @@ some-bytes c = grind (arith, nat_tests)
 
 characters-few : (text : List ℕ) → length text ≤ byte_count text
 characters-few [] = omega arith
-characters-few (c ∷ text) = let rest = characters-few text in let one = byte_count-cons c text in let some = some-bytes c in omega arith
+characters-few (c ∷ text) = let rest = characters-few text in let one = byte_length-cons c text in let some = some-bytes c in omega arith
 
 pub words-few : (wordchars text : List ℕ) → length (map span_of (words_of wordchars text)) ≤ byte_count text
 words-few wordchars text =

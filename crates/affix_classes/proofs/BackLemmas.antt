@@ -6,6 +6,7 @@ use Rattle.std.proofs.Math.Seq.{take-append_seam, drop-append_seam}
 use Rattle.std.proofs.lemmas.Slice.Eq.{starts_is, ends_is}
 use Rattle.std.specs.Prelude.{Result, Ok, Err, IfOk}
 use Rattle.std.specs.List.{starts_with, ends_with}
+use Rattle.std.proofs.lemmas.Bool.{and_parts}
 use Rattle.spell_types.specs.declared.rules.Side.{Side}
 use Rattle.spell_types.specs.declared.rules.Side.TheVariants.{Prefix, Suffix}
 use Rattle.spell_types.specs.declared.rules.Rule.{Rule}
@@ -35,10 +36,6 @@ starts_reverse = record {
   back = λ old new word has. ap (λ rest. old ++ rest) (drop-append_seam new (drop (length old) word)) ∙ sym ((starts_is Decides-eqb word old _ refl).0 has);
 }
 
-both : (a b : Bool) → (a && b) ≡ true → (a ≡ true) × (b ≡ true)
-both true b holds = (refl, holds)
-both false b holds = cc
-
 given : {X : Type 0} (b : Bool) (x y : X) → cond b (Some x) None ≡ Some y → (b ≡ true) × (x ≡ y)
 given true x y is = (refl, cc)
 given false x y is = cc
@@ -50,7 +47,7 @@ giving a b x y one two same = rw (one, two) (ap (λ z. Some z) same)
 there : (has : List ℕ → List ℕ → Bool) (change : List ℕ → List ℕ → List ℕ → List ℕ) (P : List ℕ → Bool) → IsReversible has change → (strip add word stem : List ℕ) → cond (has word add && P (change add strip word)) (Some (change add strip word)) None ≡ Some stem → cond (has stem strip && P stem) (Some (change strip add stem)) None ≡ Some word
 there has change P reversible strip add word stem is =
     let told = given _ (change add strip word) stem is in
-    let tests = both (has word add) _ told.0 in
+    let tests = and_parts (has word add) _ told.0 in
     giving (has stem strip) (P stem) (change strip add stem) word
     (ap (λ s. has s strip) (sym told.1) ∙ reversible.put add strip word tests.0)
     (ap P (sym told.1) ∙ tests.1)
@@ -59,7 +56,7 @@ there has change P reversible strip add word stem is =
 again : (has : List ℕ → List ℕ → Bool) (change : List ℕ → List ℕ → List ℕ → List ℕ) (P : List ℕ → Bool) → IsReversible has change → (strip add word stem : List ℕ) → cond (has stem strip && P stem) (Some (change strip add stem)) None ≡ Some word → cond (has word add && P (change add strip word)) (Some (change add strip word)) None ≡ Some stem
 again has change P reversible strip add word stem is =
     let told = given _ (change strip add stem) word is in
-    let tests = both (has stem strip) (P stem) told.0 in
+    let tests = and_parts (has stem strip) (P stem) told.0 in
     let same : change add strip word ≡ stem = ap (change add strip) (sym told.1) ∙ reversible.back strip add stem tests.0 in
     giving (has word add) (P (change add strip word)) (change add strip word) stem
     (ap (λ w. has w add) (sym told.1) ∙ reversible.put strip add stem tests.0)

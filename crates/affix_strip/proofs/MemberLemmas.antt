@@ -6,6 +6,7 @@ use Rattle.std.proofs.lemmas.Bool.{and_parts, and_from}
 use Rattle.std.proofs.lemmas.List.Elements.{All-contains, filter_passes, Contains-append_left, Contains-append_right}
 use Rattle.std.proofs.lemmas.List.FromFn.{length-range_with_len, get_or-range_with_len}
 use Rattle.std.proofs.lemmas.Option.{slice_get_within}
+use Rattle.lists.specs.Laws.{contains-head, contains-tail, contains-map, contains-flat_map, contains-filter, contains-range}
 use Rattle.spell_types.specs.declared.Entry.{Entry}
 use Rattle.spell_types.specs.declared.Lexicon.{Lexicon}
 use Rattle.spell_types.specs.declared.derivations.Derivation.{Derivation}
@@ -19,36 +20,6 @@ use Rattle.affix_strip.proofs.InverseLemmas.{is_word-same, same-is_word}
 use Rattle.affix_strip.proofs.LicenceLemmas.{licensed-named}
 
 -- ---- what lists contain
-contains-head : {X : Type 0} (x : X) (xs : List X) → Contains (x ∷ xs) x
-contains-head x xs = (0, omega arith, refl)
-
-contains-tail : {X : Type 0} (y x : X) (xs : List X) → Contains xs x → Contains (y ∷ xs) x
-contains-tail y x xs (k, within, at) = (suc k, omega arith, at)
-
-contains-map : {X Y : Type 0} (f : X → Y) (xs : List X) (x : X) → Contains xs x → Contains (map f xs) (f x)
-contains-map f [] x (k, within, at) = absurd (omega arith)
-contains-map f (y ∷ xs) x (zero, within, at) = (0, omega arith, ap f at)
-contains-map f (y ∷ xs) x (suc k, within, at) = contains-tail (f y) (f x) (map f xs) (contains-map f xs x (k, omega arith, at))
-
-contains-flat_map : {X Y : Type 0} (f : X → List Y) (xs : List X) (x : X) (y : Y) → Contains xs x → Contains (f x) y → Contains (flat_map f xs) y
-contains-flat_map f [] x y (k, within, at) inside = absurd (omega arith)
-contains-flat_map f (z ∷ xs) x y (zero, within, at) inside = Contains-append_left (f z) (flat_map f xs) y (subst (λ w. Contains (f w) y) (sym at) inside)
-contains-flat_map f (z ∷ xs) x y (suc k, within, at) inside = Contains-append_right (f z) (flat_map f xs) y (contains-flat_map f xs x y (k, omega arith, at) inside)
-
-contains-filter : {X : Type 0} (p : X → Bool) (xs : List X) (x : X) → Contains xs x → p x ≡ true → Contains (filter p xs) x
-contains-filter p [] x (k, within, at) passes = absurd (omega arith)
-contains-filter p (y ∷ xs) x (zero, within, at) passes =
-    subst (λ b. Contains (cond b (y ∷ filter p xs) (filter p xs)) x) (sym (ap p at ∙ passes)) (0, omega arith, at)
-contains-filter p (y ∷ xs) x (suc k, within, at) passes = more (p y) (contains-filter p xs x (k, omega arith, at) passes)
-  where
-    more : (b : Bool) → Contains (filter p xs) x → Contains (cond b (y ∷ filter p xs) (filter p xs)) x
-    more true inside = contains-tail y x (filter p xs) inside
-    more false inside = inside
-
-contains-range : (count place : ℕ) → place < count → Contains (range_with_len 0 count) place
-contains-range count place below =
-    (place, omega (arith, length-range_with_len 0 count), get_or-range_with_len 0 count place place below ∙ omega arith)
-
 -- ---- what is licensed is there
 abbrev InRange : ℕ → Option ℕ → Type 0
 InRange count None = Unit {0}

@@ -6,16 +6,13 @@ use Rattle.std.specs.Option.{option_cmp}
 use Rattle.std.specs.Ordering.{ordering_then, nat_cmp}
 use Rattle.std.proofs.lemmas.Bool.Decides.{nat_tests}
 use Rattle.std.proofs.lemmas.List.Kept.{IsStrictlySortedBy-filter}
+use Rattle.lists.specs.Laws.{each-append, each-weaker}
 use Rattle.spell_types.specs.declared.Lexicon.{Lexicon}
 use Rattle.spell_types.specs.declared.derivations.Derivation.{Derivation}
 use Rattle.spell_types.specs.Derivations.{choices, derivation_of, all_from, all_derivations}
 use Rattle.affix_strip.specs.Found.{derives, derivations_of, derivation_cmp, AreInOrder}
 
 -- ---- what holds of each
-each-append : {X : Type 0} (P : X → Type 0) (xs ys : List X) → AllByRecursion P xs → AllByRecursion P ys → AllByRecursion P (xs ++ ys)
-each-append P [] ys front back = back
-each-append P (x ∷ xs) ys front back = (front.0, each-append P xs ys front.1 back)
-
 each-map : {X Y : Type 0} (P : Y → Type 0) (f : X → Y) (xs : List X) → AllByRecursion (λ x. P (f x)) xs → AllByRecursion P (map f xs)
 each-map P f [] each = tt
 each-map P f (x ∷ xs) each = (each.0, each-map P f xs each.1)
@@ -23,10 +20,6 @@ each-map P f (x ∷ xs) each = (each.0, each-map P f xs each.1)
 each-flat_map : {X Y : Type 0} (P : Y → Type 0) (f : X → List Y) (xs : List X) → AllByRecursion (λ x. AllByRecursion P (f x)) xs → AllByRecursion P (flat_map f xs)
 each-flat_map P f [] each = tt
 each-flat_map P f (x ∷ xs) each = each-append P (f x) (flat_map f xs) each.0 (each-flat_map P f xs each.1)
-
-each-weaker : {X : Type 0} (P Q : X → Type 0) → ((x : X) → P x → Q x) → (xs : List X) → AllByRecursion P xs → AllByRecursion Q xs
-each-weaker P Q weaker [] each = tt
-each-weaker P Q weaker (x ∷ xs) each = (weaker x each.0, each-weaker P Q weaker xs each.1)
 
 each-always : {X : Type 0} (P : X → Type 0) → ((x : X) → P x) → (xs : List X) → AllByRecursion P xs
 each-always P always [] = tt

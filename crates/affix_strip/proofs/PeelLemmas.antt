@@ -7,6 +7,7 @@ use Rattle.std.proofs.lemmas.List.{take_more, map-append}
 use Rattle.std.proofs.lemmas.List.Elements.{Contains-append_left, Contains-append_right, Contains-append_cases}
 use Rattle.std.proofs.lemmas.Option.{option_and_then_some, cond_some, slice_get-get_or}
 use Rattle.std.proofs.lemmas.Slice.Eq.{bytes_eq-Decides}
+use Rattle.lists.specs.Laws.{contains-map}
 use Rattle.spell_types.specs.declared.Affixes.{Affixes}
 use Rattle.spell_types.specs.declared.rules.Rule.{Rule}
 use Rattle.spell_types.specs.declared.rules.Side.{Side}
@@ -49,11 +50,6 @@ peeled-none rules side word = record {
   sound = λ peeled place (k, within, at) has. absurd (omega (arith, within));
   all = λ place rule on has below. absurd (omega (arith, below));
 }
-
-contains-map : {X Y : Type 0} (f : X → Y) (xs : List X) (x : X) → Contains xs x → Contains (map f xs) (f x)
-contains-map f [] x (k, within, at) = absurd (omega (arith, within))
-contains-map f (y ∷ xs) x (zero, within, at) = (0, omega arith, ap f at)
-contains-map f (y ∷ xs) x (suc k, within, at) = Contains-append_right (f y ∷ []) (map f xs) (f x) (contains-map f xs x (k, omega (arith, within), at))
 
 record IsFrom {X Y : Type 0} (f : X → Y) (xs : List X) (y : Y) : Type 0 where
   item : X

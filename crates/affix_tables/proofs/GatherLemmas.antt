@@ -12,10 +12,11 @@ use Rattle.spell_types.specs.declared.rules.Side.{Side}
 use Rattle.spell_types.specs.declared.rules.Side.TheVariants.{Prefix, Suffix}
 use Rattle.spell_types.specs.Derivations.{is_same_side}
 use Rattle.affix_tables.specs.declared.Table.{Table}
+use Rattle.lists.specs.Laws.{range_more}
 use Rattle.affix_tables.specs.Places.{adds_on, places_where, suffix_places, prefix_places}
 use Rattle.affix_tables.specs.Tables.{groups_at, all_places, IsTable, endings_below, fronts_below, front_places, ending_places}
 use Rattle.affix_tables.proofs.OrderLemmas.{sorted-same}
-use Rattle.affix_tables.proofs.PlaceLemmas.{range_more, places-same, places-none, places-split, places-rise}
+use Rattle.affix_tables.proofs.PlaceLemmas.{places-same, places-none, places-split, places-rise}
 
 flat_map_more : (f : ℕ → List ℕ) (count : ℕ) → flat_map f (range_with_len 0 (count + 1)) ≡ flat_map f (range_with_len 0 count) ++ f count
 flat_map_more f count =

@@ -10,15 +10,11 @@ use Rattle.std.proofs.lemmas.List.FromFn.{map-range_with_len_more, length-range_
 use Rattle.std.proofs.lemmas.List.Kept.{IsStrictlySortedBy-filter}
 use Rattle.std.proofs.lemmas.List.Sorted.{IsPermutation-refl, IsPermutation-cons, IsPermutation-middle, IsPermutation-trans}
 use Rattle.std.proofs.lemmas.Option.{slice_get_within}
+use Rattle.lists.specs.Laws.{range_more, contains-filter, contains-range}
 use Rattle.spell_types.specs.declared.rules.Rule.{Rule}
 use Rattle.affix_tables.specs.Places.{passes, places_where}
 
 -- ---- filters
-pub range_more : (count : ℕ) → range_with_len 0 (count + 1) ≡ range_with_len 0 count ++ count ∷ []
-range_more count =
-    sym (map-id (range_with_len 0 (count + 1))) ∙ map-range_with_len_more (λ place. place) 0 count count (omega arith)
-    ∙ ap (λ xs. xs ++ count ∷ []) (map-id (range_with_len 0 count))
-
 filter-range : (p q : ℕ → Bool) (from count : ℕ) → ((place : ℕ) → place < from + count → p place ≡ q place) → filter p (range_with_len from count) ≡ filter q (range_with_len from count)
 filter-range p q from zero same = refl
 filter-range p q from (suc count) same =
@@ -119,23 +115,6 @@ places-rise test rules =
     IsStrictlySortedBy-filter nat_cmp (λ place. passes test (slice_get rules place)) (range_with_len 0 (length rules)) (range-rises 0 (length rules))
 
 -- ---- their members
-contains-tail : (y x : ℕ) (xs : List ℕ) → Contains xs x → Contains (y ∷ xs) x
-contains-tail y x xs (k, within, at) = (suc k, omega (arith, within), at)
-
-contains-filter : (p : ℕ → Bool) (xs : List ℕ) (x : ℕ) → Contains xs x → p x ≡ true → Contains (filter p xs) x
-contains-filter p [] x (k, within, at) holds = absurd (omega (arith, within))
-contains-filter p (y ∷ xs) x (zero, within, at) holds =
-    subst (λ b. Contains (cond b (y ∷ filter p xs) (filter p xs)) x) (sym (ap p at ∙ holds)) (0, omega arith, at)
-contains-filter p (y ∷ xs) x (suc k, within, at) holds = more (p y) (contains-filter p xs x (k, omega (arith, within), at) holds)
-  where
-    more : (b : Bool) → Contains (filter p xs) x → Contains (cond b (y ∷ filter p xs) (filter p xs)) x
-    more true inside = contains-tail y x (filter p xs) inside
-    more false inside = inside
-
-contains-range : (count place : ℕ) → place < count → Contains (range_with_len 0 count) place
-contains-range count place below =
-    (place, omega (arith, below, length-range_with_len 0 count), get_or-range_with_len 0 count place place below ∙ omega arith)
-
 -- a place is among them just where a rule stands there that passes the test
 pub places-members : (test : Rule → Bool) (rules : List Rule) (place : ℕ) → Contains (places_where test rules) place ↔ ((rule : Rule) × (slice_get rules place ≡ Some rule) × (test rule ≡ true))
 places-members test rules place = (

@@ -4,12 +4,8 @@ use Rattle.std.specs.List.{filter, range_with_len}
 use Rattle.std.proofs.lemmas.List.{map-append, map-id, append-nil, append_assoc}
 use Rattle.std.proofs.lemmas.List.Elements.{filter-append}
 use Rattle.std.proofs.lemmas.List.FromFn.{map-range_with_len_more}
+use Rattle.lists.specs.Laws.{range_more}
 use Rattle.break_points.specs.declared.ways.Way.{Way}
-
-range_more : (count : ℕ) → range_with_len 0 (count + 1) ≡ range_with_len 0 count ++ count ∷ []
-range_more count =
-    sym (map-id (range_with_len 0 (count + 1))) ∙ map-range_with_len_more (λ place. place) 0 count count (omega arith)
-    ∙ ap (λ xs. xs ++ count ∷ []) (map-id (range_with_len 0 count))
 
 kept_more : (f : ℕ → Way) (test : ℕ → Bool) (place : ℕ) → map f (filter test (range_with_len 0 (place + 1))) ≡ map f (filter test (range_with_len 0 place)) ++ map f (cond (test place) (place ∷ []) [])
 kept_more f test place =

@@ -5,6 +5,7 @@ use Rattle.std.proofs.lemmas.Bool.Decides.{nat_tests, Decides-eqb}
 use Rattle.std.proofs.lemmas.List.{take_more, take_all, drop_all}
 use Rattle.std.proofs.lemmas.List.Elements.{filter-append}
 use Rattle.std.proofs.lemmas.Slice.Eq.{starts_is}
+use Rattle.std.proofs.lemmas.Bool.{and_parts}
 use Rattle.spell_types.specs.declared.conversions.Conversion.{Conversion}
 use Rattle.spell_types.specs.Conversions.{fits, longer_of, longest, best_fit, replaced, more_read, converted_behind, converted}
 use Rattle.conversions.specs.Longer.{is_longer}
@@ -92,14 +93,10 @@ best_fit-fits : (table : List Conversion) (text : List ℕ) (row : Conversion) �
 unfolding best_fit
 best_fit-fits table text row found = longest_passes (fits text) table row found
 
-both : (a b : Bool) → (a && b) ≡ true → (a ≡ true) × (b ≡ true)
-both true b holds = (refl, holds)
-both false b holds = absurd (false≢true holds)
-
 -- its pattern isn't empty, and no longer than the text
 pub best_fit-reads : (table : List Conversion) (text : List ℕ) (row : Conversion) → best_fit table text ≡ Some row → (0 < length row.from) × (length row.from ≤ length text)
 best_fit-reads table text row found =
-    let tests = both (nat_lt 0 (length row.from)) _ (best_fit-fits table text row found) in
+    let tests = and_parts (nat_lt 0 (length row.from)) _ (best_fit-fits table text row found) in
     let stands : text ≡ row.from ++ drop (length row.from) text = (starts_is Decides-eqb text row.from _ refl).0 tests.1 in
     (grind (arith, nat_tests), omega (arith, ap length stands, length-append row.from (drop (length row.from) text)))
 

@@ -4,6 +4,7 @@ use Rattle.std.specs.Option.{option_copied}
 use Rattle.std.specs.Str.{chars, IsUtf8}
 use Rattle.std.specs.Char.{IsScalar}
 use Rattle.std.specs.Str.Pattern.{FindsTextPrefix, LacksTextAt, StripsPrefix}
+use Rattle.std.proofs.lemmas.Bool.{and_parts}
 use Rattle.std.proofs.lemmas.Bool.Decides.{nat_tests}
 use Rattle.std.proofs.lemmas.List.{append-nil}
 use Rattle.std.proofs.lemmas.Str.{chars-append, chars_past_char, scalars-chars, inside_one, IsUtf8-encode, encode_ascii, chars-nil}
@@ -63,11 +64,7 @@ lone-behind (next ∷ more) lone =
 
 -- ---- the first character of a text
 first-scalar : (text rest : List ℕ) (c : ℕ) → IsUtf8 text → text ≡ encode c ++ rest → IsScalar c
-first-scalar text rest c utf8 is = both (scalar c) (scalars (chars rest)) (sym (ap scalars (chars_past_char text rest c utf8 is)) ∙ scalars-chars text utf8)
-  where
-    both : (a b : Bool) → (a && b) ≡ true → a ≡ true
-    both true b h = refl
-    both false b h = absurd cc
+first-scalar text rest c utf8 is = (and_parts (scalar c) (scalars (chars rest)) (sym (ap scalars (chars_past_char text rest c utf8 is)) ∙ scalars-chars text utf8)).0
 
 chars-after : (c : ℕ) (rest : List ℕ) → IsScalar c → chars (encode c ++ rest) ≡ c ∷ chars rest
 chars-after c rest is =

@@ -11,7 +11,8 @@ use Rattle.mark_types.specs.Characters.{is_word_character, line_feed, is_letter_
 use Rattle.mark_types.specs.Words.{Word, Placed, placed, belongs, first_of, characters_of, byte_count, word_of, is_outside, words_of, StandsIn}
 use Rattle.mark_types.specs.Marks.{LocatedWord, located_at, located_in, located_words, in_paragraph, one_by_one, joined, marks_of, is_unknown}
 use Rattle.mark_types.proofs.Cutting.{slice_split-append, slice_split-map}
-use Rattle.mark_types.proofs.Standing.{byte_count-cons, byte_count-append, words_of-stand}
+use Rattle.lists.specs.Laws.{byte_length-cons, byte_length-append}
+use Rattle.mark_types.proofs.Standing.{words_of-stand}
 
 -- the characters of a text that holds a line feed
 
@@ -36,7 +37,7 @@ placed-append wordchars byte before next [] rest at =
       ap (λ b. placed_at wordchars byte before line_feed (first_of rest) ∷ placed wordchars b line_feed rest) here,
     )
 placed-append wordchars byte before next (c ∷ text) rest at =
-    let more = placed-append wordchars (byte + len_utf8 c) c next text rest (omega (arith, at, byte_count-cons c text)) in (
+    let more = placed-append wordchars (byte + len_utf8 c) c next text rest (omega (arith, at, byte_length-cons c text)) in (
       more.0,
       more.1,
       ap (λ after. placed_at wordchars byte before c after ∷ placed wordchars (byte + len_utf8 c) c (text ++ line_feed ∷ rest)) (first_of-append text rest)
@@ -118,7 +119,7 @@ locate number paragraphs word = located_in number paragraphs word.from word
 
 stands-early : (text : List ℕ) (word : Word) → StandsIn text word → word.from ≤ byte_count text
 stands-early text word stands =
-    let whole = ap byte_count stands.whole ∙ byte_count-append stands.front (word.characters ++ stands.back) in
+    let whole = ap byte_count stands.whole ∙ byte_length-append stands.front (word.characters ++ stands.back) in
     omega (arith, whole, stands.from)
 
 locate-early : (number : ℕ) (text : List ℕ) (more : List (List ℕ)) (words : List Word) → AllByRecursion (StandsIn text) words

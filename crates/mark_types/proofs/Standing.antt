@@ -7,13 +7,8 @@ use Rattle.std.proofs.lemmas.Str.{encodes-append, length-encode}
 use Rattle.mark_types.specs.Characters.{line_feed, is_letter_or_digit}
 use Rattle.mark_types.specs.Words.{Placed, placed, characters_of, byte_count, word_of, is_outside, words_of, StandsIn}
 use lib.Utf8.{encode}
+use Rattle.lists.specs.Laws.{byte_length-cons, byte_length-append}
 use Rattle.mark_types.proofs.Cutting.{IsPart, slice_split-parts}
-
-pub byte_count-cons : (c : ℕ) (text : List ℕ) → byte_count (c ∷ text) ≡ len_utf8 c + byte_count text
-byte_count-cons c text = length-append (encode c) (encode_utf8_all text) ∙ ap (λ n. n + byte_count text) (length-encode c)
-
-pub byte_count-append : (front back : List ℕ) → byte_count (front ++ back) ≡ byte_count front + byte_count back
-byte_count-append front back = ap length (encodes-append front back) ∙ length-append (encode_utf8_all front) (encode_utf8_all back)
 
 characters_of-placed : (wordchars : List ℕ) (byte before : ℕ) (text : List ℕ) → characters_of (placed wordchars byte before text) ≡ text
 characters_of-placed wordchars byte before [] = refl
@@ -41,7 +36,7 @@ placed-byte wordchars byte before (c ∷ text) [] p back whole = let here : byte
 placed-byte wordchars byte before (c ∷ text) (q ∷ front) p back whole =
     let later = placed-byte wordchars (byte + len_utf8 c) c text front p back (ap rest_of whole) in
     let same : c ≡ q.character = ap first_character whole in
-    let more = byte_count-cons c (characters_of front) in
+    let more = byte_length-cons c (characters_of front) in
     rw (← same) (omega (arith, later, more))
 
 characters_of-append : (front back : List Placed) → characters_of (front ++ back) ≡ characters_of front ++ characters_of back
