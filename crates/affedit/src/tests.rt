@@ -1,6 +1,12 @@
 //! Whole runs over objects in memory.
 
+mod affix_tables;
+mod case_tables;
+mod derivations;
+mod flag_tables;
+mod licence_tables;
 mod tables;
+mod word_tables;
 mod words;
 
 use crate::run::run;

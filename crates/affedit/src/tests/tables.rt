@@ -89,7 +89,7 @@ fn file_of(alloc: Global, lines: &str) -> Result<String, AllocError> {
 }
 
 /// Runs all rows of a table, which are so many runs.
-fn assert_table<R: Threads + Wait + Sync + Abort>(
+pub(super) fn assert_table<R: Threads + Wait + Sync + Abort>(
     rt: &R,
     alloc: Global,
     table: &str,

@@ -34,8 +34,8 @@ fn repeated(alloc: Global, part: &str, count: usize) -> Result<String, AllocErro
 fn checks_long_words(rt: HostRuntime) -> Result<(), Fail> {
     let alloc = rt.alloc();
     let cases = [
-        ("", "a", 100, "", 0),
-        ("", "a", 101, "", 1),
+        ("", "\u{e4}", 100, "", 0),
+        ("", "\u{e4}", 101, "", 1),
         ("WORDCHARS 0123456789\n", "7", 101, "", 0),
         ("WORDCHARS -\n", "a-", 49, "a", 0),
         ("WORDCHARS -\n", "-", 99, "a", 0),
