@@ -2,8 +2,6 @@
 #![tactic(auto)]
 
 mod reading;
-#[cfg(test)]
-mod tests;
 mod undoing;
 
 pub use reading::{ConditionFault, conditions_are_read_by_pieces, read_condition};

@@ -16,8 +16,6 @@ use text_lines::decimal;
 
 mod first;
 mod slashes;
-#[cfg(test)]
-mod tests;
 
 pub use slashes::push_before_slash;
 pub use spell_types::has;

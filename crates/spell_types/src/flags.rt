@@ -110,26 +110,3 @@ fn search(flags: &[Flag], flag: Flag) -> Result<usize, usize>
 {
     flags.binary_search(&flag)
 }
-
-#[cfg(test)]
-mod tests {
-    use super::*;
-    use std::test::Fail;
-
-    #[test]
-    fn keeps_flags_in_order(rt: HostRuntime) -> Result<(), Fail> {
-        let mut set = FlagSet::new(rt.alloc());
-        for number in [7, 3, 9, 3, 0, u64::MAX, 9] {
-            set.insert(Flag(number))?;
-        }
-        let want = [Flag(0), Flag(3), Flag(7), Flag(9), Flag(u64::MAX)];
-        assert_eq!(rt; set.as_slice(), want.as_slice());
-        let made = set.copy(rt.alloc())?;
-        assert_eq!(rt; made.as_slice(), want.as_slice());
-        assert!(rt; has(&made, Some(Flag(0))));
-        assert!(rt; !has(&made, Some(Flag(1))));
-        assert!(rt; !has(&made, None));
-        sets_have_their_flags();
-        Ok(())
-    }
-}

@@ -13,8 +13,6 @@ mod flags;
 mod licences;
 mod rules;
 mod signs;
-#[cfg(test)]
-mod tests;
 mod texts;
 
 pub use attaching::{attach, joined, matches_back, matches_front};

@@ -6,8 +6,6 @@ ghost use Rattle.spell_types.specs.Sanity.{IsSane};
 
 mod numbers;
 mod pieces;
-#[cfg(test)]
-mod tests;
 mod words;
 
 use affix_strip::Stems;
