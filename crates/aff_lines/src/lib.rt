@@ -25,8 +25,6 @@ mod faults;
 mod names;
 mod passes;
 mod rows;
-#[cfg(test)]
-mod tests;
 mod values;
 
 pub use causes::{line_why, number_at, number_in, unless};

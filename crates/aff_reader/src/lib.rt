@@ -23,12 +23,8 @@ use tables::{read_breaks, read_conversions};
 mod anchored_texts;
 mod class_lines;
 mod class_rules;
-#[cfg(test)]
-mod class_tests;
 mod classes;
 mod tables;
-#[cfg(test)]
-mod tests;
 
 /// Reads the file, or tells its first fault. Faults are looked for in four passes: the encoding, with lines
 /// that are not UTF-8; the type of flags; the flag aliases; all other options. The first pass that has a fault

@@ -5,6 +5,9 @@ mod case_tables;
 mod derivations;
 mod flag_tables;
 mod licence_tables;
+mod readers;
+mod refusals;
+mod spellings;
 mod tables;
 mod word_tables;
 mod words;
@@ -98,15 +101,11 @@ fn assert_checked<R: Threads + Wait + Sync + Abort>(
     aff: &[u8],
     dic: &[u8],
     text: &[u8],
-    want: &str,
+    want: &[u8],
     status: u8,
 ) -> Result<(), AllocError> {
     let seen = run_check_of(rt, alloc, aff, dic, text, NO_FAULTS)?;
-    assert_eq!(rt;
-        seen.written.as_slice(),
-        want.as_bytes(),
-        "by {aff:?} and {dic:?}"
-    );
+    assert_eq!(rt; seen.written.as_slice(), want, "by {aff:?} and {dic:?}");
     assert_eq!(rt; seen.status, status, "by {aff:?} and {dic:?}");
     Ok(())
 }
@@ -125,7 +124,7 @@ fn reads_bytes_of_any_kind(rt: HostRuntime) -> Result<(), Fail> {
         (b"\n\nhello\rwrld", "3 6 10 wrld\n1 of 2\n", 1),
     ];
     for (text, want, status) in texts {
-        assert_checked(&rt, alloc, AFF, DIC, text, want, status)?;
+        assert_checked(&rt, alloc, AFF, DIC, text, want.as_bytes(), status)?;
     }
     let refused: [(&[u8], &[u8], &str); 6] = [
         (b"# x\n\xff\nSFX A Y 0\n", DIC, "aff 2 NotUtf8\n"),
@@ -136,7 +135,7 @@ fn reads_bytes_of_any_kind(rt: HostRuntime) -> Result<(), Fail> {
         (b"", b"1\na/\n\xff\n", "dic 3 NotUtf8\n"),
     ];
     for (aff, dic, want) in refused {
-        assert_checked(&rt, alloc, aff, dic, b"", want, 3)?;
+        assert_checked(&rt, alloc, aff, dic, b"", want.as_bytes(), 3)?;
     }
     Ok(())
 }

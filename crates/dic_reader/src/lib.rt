@@ -25,8 +25,6 @@ use text_lines::{line_text, lines};
 
 mod cutting;
 mod faults;
-#[cfg(test)]
-mod tests;
 mod words;
 
 pub use faults::{DicFault, DicWhy};

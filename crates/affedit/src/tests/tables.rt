@@ -1,6 +1,7 @@
 //! Tables of runs of `check`, as text.
 //!
-//! Rows are parted by blank lines. A line `aff`, `dic` or `text` has the lines of that file, with bars between them; a
+//! Rows are parted by blank lines. A line `aff`, `dic` or `text` has the lines of that file, with bars between them, so that
+//! the last one has an end where a bar stands behind it; `3*LINE` is a line three times, and U+FFFD a byte that is no text. A
 //! file that is not named is empty. A line that begins with a digit runs `check`: it has the exit status and the lines
 //! that are to be printed. A further text in a row is checked by the same dictionary. `#` begins a remark.
 
@@ -14,18 +15,18 @@ use std::thread::Threads;
 /// What a row names so far.
 #[derive(Drop)]
 struct Row {
-    aff: String,
-    dic: String,
-    text: String,
+    aff: Vec<u8>,
+    dic: Vec<u8>,
+    text: Vec<u8>,
     runs: usize,
 }
 
 impl Row {
     fn new(alloc: Global) -> Row {
         Row {
-            aff: String::new(alloc),
-            dic: String::new(alloc),
-            text: String::new(alloc),
+            aff: Vec::new(alloc),
+            dic: Vec::new(alloc),
+            text: Vec::new(alloc),
             runs: 0,
         }
     }
@@ -50,9 +51,9 @@ impl Row {
     }
 
     fn clear(&mut self, alloc: Global) {
-        self.aff = String::new(alloc);
-        self.dic = String::new(alloc);
-        self.text = String::new(alloc);
+        self.aff = Vec::new(alloc);
+        self.dic = Vec::new(alloc);
+        self.text = Vec::new(alloc);
     }
 
     fn run<R: Threads + Wait + Sync + Abort>(
@@ -62,30 +63,52 @@ impl Row {
         status: &str,
         says: &str,
     ) -> Result<(), AllocError> {
-        let want = file_of(alloc, says)?;
+        let mut want = file_of(alloc, says)?;
+        want.push(b'\n')?;
         let status = status.parse().unwrap_or(u8::MAX);
-        assert_checked(
-            rt,
-            alloc,
-            self.aff.as_bytes(),
-            self.dic.as_bytes(),
-            self.text.as_bytes(),
-            want.as_str(),
-            status,
-        )?;
+        assert_checked(rt, alloc, &self.aff, &self.dic, &self.text, &want, status)?;
         self.runs = self.runs.saturating_add(1);
         Ok(())
     }
 }
 
-/// The lines between bars, each with its end.
-fn file_of(alloc: Global, lines: &str) -> Result<String, AllocError> {
-    let mut file = String::new(alloc);
-    for line in lines.split('|') {
-        file.push_str(line)?;
-        file.push('\n')?;
+/// The bytes of a file that is written in a table.
+pub(super) fn file_of(alloc: Global, lines: &str) -> Result<Vec<u8>, AllocError> {
+    let mut file = Vec::new(alloc);
+    for (place, line) in lines.split('|').enumerate() {
+        if place > 0 {
+            file.push(b'\n')?;
+        }
+        push_lines(line, &mut file)?;
     }
     Ok(file)
+}
+
+/// Adds a line, or one that stands so many times behind another one.
+fn push_lines(line: &str, file: &mut Vec<u8>) -> Result<(), AllocError> {
+    let Some((count, repeated)) = line.split_once('*') else {
+        return push_line(line, file);
+    };
+    let Ok(count) = count.parse::<u32>() else {
+        return push_line(line, file);
+    };
+    for number in 0..count {
+        if number > 0 {
+            file.push(b'\n')?;
+        }
+        push_line(repeated, file)?;
+    }
+    Ok(())
+}
+
+fn push_line(line: &str, file: &mut Vec<u8>) -> Result<(), AllocError> {
+    for (place, text) in line.split('\u{FFFD}').enumerate() {
+        if place > 0 {
+            file.push(0xFF)?;
+        }
+        file.extend_from_slice(text.as_bytes())?;
+    }
+    Ok(())
 }
 
 /// Runs all rows of a table, which are so many runs.

@@ -7,14 +7,14 @@ use std::test::Fail;
 // The first line is not ended in the first case, and spaces and tabs stand where they may in the second.
 #[test]
 fn checks_by_lines_of_any_form(rt: HostRuntime) -> Result<(), Fail> {
-    assert_checked(&rt, rt.alloc(), b"", b"0", b"a", "1 0 1 a\n1 of 1\n", 1)?;
+    assert_checked(&rt, rt.alloc(), b"", b"0", b"a", b"1 0 1 a\n1 of 1\n", 1)?;
     assert_checked(
         &rt,
         rt.alloc(),
         b" set x\n\tSET\tutf-8 more\nUNKNOWN\n",
         b"  12 words\n a b \n\tx\n \t\nok po:noun\nc\td",
         b"ok c a",
-        "1 5 6 a\n1 of 3\n",
+        b"1 5 6 a\n1 of 3\n",
         1,
     )?;
     Ok(())
