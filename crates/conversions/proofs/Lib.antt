@@ -1,2 +1,5 @@
 pub mod Steps
 pub mod Best
+pub mod Patterns
+pub mod Rows
+pub mod Ignoring

@@ -1,56 +1,12 @@
--- The best row of a longer table, and a text converted step by step.
-use Rattle.std.proofs.Common.{◌≡◌, ℕ, zero, suc, ◌+◌, ◌-◌, ◌<◌, ◌≤◌, Bool, true, false, cond, ◌&&◌, List, [], ◌∷◌, ◌++◌, length, drop, take, get_or, filter, nat_lt, Option, Some, None, refl, sym, ap, ◌∙◌, append_assoc, append-nil, length-append, arith}
+-- A text converted step by step.
+use Rattle.std.proofs.Common.{◌≡◌, ℕ, zero, suc, ◌+◌, ◌-◌, ◌<◌, ◌≤◌, Bool, true, false, cond, ◌&&◌, List, [], ◌∷◌, ◌++◌, length, drop, take, get_or, filter, nat_lt, Option, Some, None, refl, sym, ap, ap₂, ◌∙◌, append_assoc, append-nil, length-append, arith}
 use Rattle.std.proofs.lemmas.Bool.{false≢true, ltb-true, ltb-false, lt-ltb, le-ltb}
 use Rattle.std.proofs.lemmas.Bool.Decides.{nat_tests, Decides-eqb}
-use Rattle.std.proofs.lemmas.List.{take_more, take_all, drop_all}
-use Rattle.std.proofs.lemmas.List.Elements.{filter-append}
+use Rattle.std.proofs.lemmas.List.{take_more, take_all, drop_all, drop_more}
 use Rattle.std.proofs.lemmas.Slice.Eq.{starts_is}
 use Rattle.std.proofs.lemmas.Bool.{and_parts}
 use Rattle.spell_types.specs.declared.conversions.Conversion.{Conversion}
 use Rattle.spell_types.specs.Conversions.{fits, longer_of, longest, best_fit, replaced, more_read, converted_behind, converted}
-use Rattle.conversions.specs.Longer.{is_longer}
-
-three_tests : (first best last : Conversion) (p q : Bool) → nat_lt (length best.from) (length last.from) ≡ p → nat_lt (length first.from) (length best.from) ≡ q → longer_of first (cond p (Some last) (Some best)) ≡ cond (nat_lt (length (cond q best first).from) (length last.from)) last (cond q best first)
-three_tests first best last true true one two =
-    let three : nat_lt (length first.from) (length last.from) ≡ true = lt-ltb _ _ (omega (arith, ltb-true (length best.from) (length last.from) one, ltb-true (length first.from) (length best.from) two)) in
-    ap (λ b. cond b last first) three ∙ sym (ap (λ b. cond b last best) one)
-three_tests first best last true false one two = refl
-three_tests first best last false true one two = ap (λ b. cond b best first) two ∙ sym (ap (λ b. cond b last best) one)
-three_tests first best last false false one two =
-    let three : nat_lt (length first.from) (length last.from) ≡ false = le-ltb _ _ (omega (arith, ltb-false (length best.from) (length last.from) one, ltb-false (length first.from) (length best.from) two)) in
-    ap (λ b. cond b best first) two ∙ sym (ap (λ b. cond b last first) three)
-
-longer_of_three : (first best last : Conversion) → longer_of first (cond (nat_lt (length best.from) (length last.from)) (Some last) (Some best))
-    ≡ cond (nat_lt (length (longer_of first (Some best)).from) (length last.from)) last (longer_of first (Some best))
-longer_of_three first best last = three_tests first best last (nat_lt (length best.from) (length last.from)) (nat_lt (length first.from) (length best.from)) refl refl
-
-some_cond : {X : Type 0} (b : Bool) (x y : X) → Some (cond b x y) ≡ cond b (Some x) (Some y)
-some_cond true x y = refl
-some_cond false x y = refl
-
-longer_of-push : (first last : Conversion) (best : Option Conversion) → Some (longer_of first (cond (is_longer last best) (Some last) best)) ≡ cond (is_longer last (Some (longer_of first best))) (Some last) (Some (longer_of first best))
-longer_of-push first last None = some_cond (nat_lt (length first.from) (length last.from)) last first
-longer_of-push first last (Some best) = ap (λ (row : Conversion). Some row) (longer_of_three first best last) ∙ some_cond (nat_lt (length (longer_of first (Some best)).from) (length last.from)) last (longer_of first (Some best))
-
--- a row at the end is the best one only if it is longer than the best before it
-longest-push : (rows : List Conversion) (last : Conversion) → longest (rows ++ last ∷ []) ≡ cond (is_longer last (longest rows)) (Some last) (longest rows)
-longest-push [] last = refl
-longest-push (row ∷ rows) last = ap (λ best. Some (longer_of row best)) (longest-push rows last) ∙ longer_of-push row last (longest rows)
-
-best_fit-push : (rows : List Conversion) (last : Conversion) (text : List ℕ) → best_fit (rows ++ last ∷ []) text ≡ cond (fits text last && is_longer last (best_fit rows text)) (Some last) (best_fit rows text)
-unfolding best_fit
-best_fit-push rows last text =
-    ap longest (filter-append (fits text) rows (last ∷ []))
-    ∙ (elim (fits text last) as (λ b. longest (filter (fits text) rows ++ cond b (last ∷ []) []) ≡ cond (b && is_longer last (longest (filter (fits text) rows))) (Some last) (longest (filter (fits text) rows))) [
-      | true ↦ longest-push (filter (fits text) rows) last
-      | false ↦ ap longest (append-nil (filter (fits text) rows))
-    ])
-
--- the best row of the rows up to a place
-best_fit_more : (table : List Conversion) (place : ℕ) (row : Conversion) (text : List ℕ) → place < length table → row ≡ get_or table place row → best_fit (take (place + 1) table) text ≡ cond (fits text row && is_longer row (best_fit (take place table) text)) (Some row) (best_fit (take place table) text)
-best_fit_more table place row text within here =
-    ap (λ rows. best_fit rows text) (take_more table place row within ∙ ap (λ r. take place table ++ r ∷ []) (sym here))
-    ∙ best_fit-push (take place table) row text
 
 passes_longer : (p : Conversion → Bool) (first : Conversion) (best : Option Conversion) → p first ≡ true → ((row : Conversion) → best ≡ Some row → p row ≡ true) → p (longer_of first best) ≡ true
 passes_longer p first None one others = one
@@ -58,27 +14,6 @@ passes_longer p first (Some row) one others = elim (nat_lt (length first.from) (
 
 pub some_same : (row other : Conversion) → Some row ≡ Some other → row ≡ other
 some_same row other same = cc
-
--- what becomes of the best so far at one more row
-pub better_taken : (table : List Conversion) (place : ℕ) (row : Conversion) (text : List ℕ) (best : Option Conversion) → place < length table → row ≡ get_or table place row → best ≡ best_fit (take place table) text → fits text row ≡ true → is_longer row best ≡ true → Some row ≡ best_fit (take (place + 1) table) text
-better_taken table place row text best within here so_far fit longer =
-    let now = best_fit (take place table) text in
-    sym (best_fit_more table place row text within here
-    ∙ (ap (λ b. cond (b && is_longer row now) (Some row) now) fit
-    ∙ (ap (λ found. cond (is_longer row found) (Some row) now) (sym so_far)
-    ∙ ap (λ b. cond b (Some row) now) longer)))
-
-pub kept_unfit : (table : List Conversion) (place : ℕ) (row : Conversion) (text : List ℕ) (best : Option Conversion) → place < length table → row ≡ get_or table place row → best ≡ best_fit (take place table) text → fits text row ≡ false → best ≡ best_fit (take (place + 1) table) text
-kept_unfit table place row text best within here so_far unfit =
-    let now = best_fit (take place table) text in
-    so_far ∙ sym (best_fit_more table place row text within here ∙ ap (λ b. cond (b && is_longer row now) (Some row) now) unfit)
-
-pub kept_shorter : (table : List Conversion) (place : ℕ) (row : Conversion) (text : List ℕ) (best : Option Conversion) → place < length table → row ≡ get_or table place row → best ≡ best_fit (take place table) text → is_longer row best ≡ false → best ≡ best_fit (take (place + 1) table) text
-kept_shorter table place row text best within here so_far shorter =
-    let now = best_fit (take place table) text in
-    so_far ∙ sym (best_fit_more table place row text within here
-    ∙ (ap (λ b. cond (fits text row && b) (Some row) now) (ap (is_longer row) (sym so_far) ∙ shorter)
-    ∙ (elim (fits text row) as (λ b. cond (b && false) (Some row) now ≡ now) [ true ↦ refl | false ↦ refl ])))
 
 longest_passes : (p : Conversion → Bool) (rows : List Conversion) (row : Conversion) → longest (filter p rows) ≡ Some row → p row ≡ true
 longest_passes p [] row found = cc
@@ -144,6 +79,23 @@ unfolding converted
 converted-nil table = refl
 
 -- at the end of the word all is written
-pub all_converted : (table : List Conversion) (word made : List ℕ) (place : ℕ) → length word ≤ place → made ++ converted table (drop place word) ≡ converted table word → made ≡ converted table word
-all_converted table word made place end whole =
-    sym (append-nil made) ∙ (ap (λ rest. made ++ rest) (sym (ap (converted table) (drop_all place word end) ∙ converted-nil table)) ∙ whole)
+pub all_converted : (table : List Conversion) (word made whole : List ℕ) (place : ℕ) → length word ≤ place → made ++ converted table (drop place word) ≡ whole → made ≡ whole
+all_converted table word made whole place end so_far =
+    sym (append-nil made) ∙ (ap (λ rest. made ++ rest) (sym (ap (converted table) (drop_all place word end) ∙ converted-nil table)) ∙ so_far)
+
+-- up to a place at which no row fits the word stays
+pub stays_more : (table : List Conversion) (word : List ℕ) (place : ℕ) → place < length word → best_fit table (drop place word) ≡ None
+    → converted table word ≡ take place word ++ converted table (drop place word) → converted table word ≡ take (place + 1) word ++ converted table (drop (place + 1) word)
+stays_more table word place within none so_far =
+    let c = get_or word place 0 in
+    let here : drop place word ≡ c ∷ drop (place + 1) word = drop_more word place 0 within in
+    so_far
+    ∙ ap (λ rest. take place word ++ rest) (ap (converted table) here ∙ converted-kept table c (drop (place + 1) word) (ap (best_fit table) (sym here) ∙ none))
+    ∙ sym (append_assoc (take place word) (c ∷ []) (converted table (drop (place + 1) word)))
+    ∙ ap (λ front. front ++ converted table (drop (place + 1) word)) (sym (take_more word place 0 within))
+
+pub stays_all : (table : List Conversion) (word : List ℕ) (place : ℕ) → length word ≤ place → converted table word ≡ take place word ++ converted table (drop place word) → converted table word ≡ word
+stays_all table word place end so_far =
+    so_far
+    ∙ ap₂ (λ front rest. front ++ rest) (take_all place word end) (ap (converted table) (drop_all place word end) ∙ converted-nil table)
+    ∙ append-nil word

@@ -2,7 +2,7 @@
 use Rattle.std.proofs.Common.{◌++◌, ◌∙◌, refl, sym, ap, drop, length, arith}
 use Rattle.spell_types.specs.Conversions.{converted}
 use Rattle.conversions.proofs.Steps.{best_fit-reads, front_replaced, front_kept}
-use Rattle.conversions.proofs.convert_front.Goals as goal
+use Rattle.conversions.proofs.table.convert_front.Goals as goal
 
 pub returns-after-loop-c-clause-moves : goal.returns-after-loop-c-clause-moves
 returns-after-loop-c-clause-moves c =
@@ -20,4 +20,4 @@ returns-after-loop-c-clause-made c =
 
 pub returns-in_ok-push-in-None-clause-made : goal.returns-in_ok-push-in-None-clause-made
 returns-in_ok-push-in-None-clause-made c =
-    front_kept c.args.table.now c.args.text.now c.push-in-None.new.self c.args.made.now c.index-text-0.result c.requires (sym c.in-None.ensures) c.in_ok-push-in-None.ensures.ok c.index-text-0.is
+    front_kept c.args.table.now c.args.text.now c.push-in-None.new.self c.args.made.now c.index-text-0.result c.requires.some (sym c.in-None.ensures) c.in_ok-push-in-None.ensures.ok c.index-text-0.is
