@@ -1,6 +1,6 @@
 -- Whether a word is broken, by the ways that leave less of it.
 use Rattle.std.proofs.Common.{◌≡◌, refl, sym, ap, ◌∙◌, subst, arith, inl, inr, ℕ, zero, suc, ◌+◌, ◌-◌, ◌<◌, ◌≤◌, ◌⊎◌, Bool, true, false, not, ◌&&◌, ◌||◌, cond, List, [], ◌∷◌, length, map, take, drop, nat_eq, nat_lt, nat_le, length-drop, ltb-true, leb-true, lt-ltb, le-leb, take_all}
-use Rattle.std.specs.List.{list_any, list_all, flat_map, filter, range_with_len, starts_with, ends_with}
+use Rattle.std.specs.List.{list_any, list_all, filter, range_with_len, starts_with, ends_with}
 use Rattle.std.proofs.lemmas.Bool.{and_parts, and_from, or_cases, or_left, or_right, not-true, false≢true}
 use Rattle.std.proofs.lemmas.List.{length-take}
 use Rattle.std.proofs.lemmas.List.Folds.{list_any-append, list_all-append}
@@ -8,7 +8,7 @@ use Rattle.spell_types.specs.declared.breaks.Anchored.{Anchored}
 use Rattle.spell_types.specs.Breaks.{parts_at, parted_at, behind_front, before_end, ways_by, ways_to_break, is_broken_within, is_broken}
 use Rattle.break_points.specs.declared.ways.Way.{Way}
 use Rattle.break_points.specs.declared.ways.Way.TheVariants.{Between, Behind, Before}
-use Rattle.break_points.specs.Pieces.{all_left, is_shorter, is_less, parting, behind_ways, before_ways, ways_with, ways_at, ways_of}
+use Rattle.break_points.specs.Pieces.{all_left, is_shorter, is_less, parting, behind_ways, before_ways, ways_with, ways_of}
 
 pub ⊎_else : {A B C : Type 0} → (A → C) → (B → C) → A ⊎ B → C
 ⊎_else f g (inl a) = f a
@@ -216,15 +216,11 @@ with_shorter false true text word =
     lt-ltb (length word - length text) (length word) (omega (arith, less.0, less.1)))
 with_shorter true true text word = refl
 
-pub ways_shorter : (breaks : List Anchored) (word : List ℕ) → list_all (is_shorter word) (ways_of breaks word) ≡ true
+ways_shorter : (breaks : List Anchored) (word : List ℕ) → list_all (is_shorter word) (ways_of breaks word) ≡ true
 ways_shorter [] word = refl
 ways_shorter (b ∷ breaks) word =
     list_all-append (is_shorter word) (ways_with b.front b.back b.text word) (ways_of breaks word)
     ∙ and_from _ _ (with_shorter b.front b.back b.text word) (ways_shorter breaks word)
-
-pub all_shorter : (breaks : List Anchored) (word : List ℕ) (place : ℕ) (ways : List Way) → length breaks ≤ place → ways ≡ flat_map (λ pattern. ways_at pattern word) (take place breaks) → list_all (is_shorter word) ways ≡ true
-all_shorter breaks word place ways end is =
-    ap (list_all (is_shorter word)) (is ∙ ap (flat_map (λ pattern. ways_at pattern word)) (take_all place breaks end)) ∙ ways_shorter breaks word
 
 -- ---- the bound does not matter
 left_passes : (p q : List ℕ → Bool) (word : List ℕ) → ((x : List ℕ) → length x ≤ length word → p x ≡ true → q x ≡ true) → (way : Way) → all_left p word way ≡ true → all_left q word way ≡ true
@@ -312,7 +308,7 @@ back base barred breaks word e =
     (had all breaks word (any_passes (all_left (is_broken base barred breaks) word) (all_left all word) (λ way left. left_passes (is_broken base barred breaks) all word (λ y l t. within_more base barred breaks (length y) (length word) y l t) way left) (ways_of breaks word) parts.1)))))
     (or_cases (base word) (not (barred word) && list_any (all_left (is_broken base barred breaks) word) (ways_of breaks word)) e)
 
-same_tests : (a b : Bool) → (a ≡ true → b ≡ true) → (b ≡ true → a ≡ true) → a ≡ b
+pub same_tests : (a b : Bool) → (a ≡ true → b ≡ true) → (b ≡ true → a ≡ true) → a ≡ b
 same_tests true b f g = sym (f refl)
 same_tests false true f g = g refl
 same_tests false false f g = refl

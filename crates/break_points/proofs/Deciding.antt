@@ -1,10 +1,9 @@
 -- What a judge's answer for a piece says of it, and which pieces a way leaves.
-use Rattle.std.proofs.Common.{◌≡◌, sym, ap, ◌∙◌, arith, ℕ, ◌+◌, ◌-◌, ◌<◌, ◌≤◌, Bool, true, false, not, ◌&&◌, ◌||◌, List, length, take, drop, get_or, nat_lt, Result, Ok, Err, IfOk, take_all}
+use Rattle.std.proofs.Common.{◌≡◌, sym, ap, ◌∙◌, arith, ℕ, ◌+◌, ◌-◌, ◌≤◌, Bool, true, false, not, ◌&&◌, ◌||◌, List, length, take, drop, nat_lt, Result, Ok, Err, IfOk, take_all}
 use Rattle.std.specs.Prelude.{slice_range}
 use Rattle.std.specs.List.{list_any}
 use Rattle.std.proofs.lemmas.Bool.{cases_lt, false≢true, and_parts, ltb-true}
 use Rattle.std.proofs.lemmas.List.{length-take, drop-take, drop-drop, drop_all, take-take}
-use Rattle.std.proofs.lemmas.List.Folds.{list_any_at}
 use Rattle.spell_types.specs.declared.breaks.Anchored.{Anchored}
 use Rattle.break_points.specs.declared.Judged.{Judged}
 use Rattle.break_points.specs.declared.Judged.TheVariants.{Base, Other, Barred}
@@ -32,19 +31,10 @@ base_decided judged breaks word verdict e is = sym (by_answer judged breaks word
 pub barred_decided : (judged : List ℕ → Judged) (breaks : List Anchored) (word : List ℕ) (verdict : Judged) → verdict ≡ judged word → verdict ≡ Barred → false ≡ is_broken_by judged breaks word
 barred_decided judged breaks word verdict e is = sym (by_answer judged breaks word Barred (sym is ∙ e))
 
--- a way was found of which all is accepted
-pub way_found : (judged : List ℕ → Judged) (breaks : List Anchored) (word : List ℕ) (verdict : Judged) (ways : List Way) (place : ℕ) (d : Way) (answer : Bool) → verdict ≡ judged word → verdict ≡ Other
-    → ways ≡ ways_of breaks word → place < length ways → answer ≡ all_left (is_broken_by judged breaks) word (get_or ways place d) → answer ≡ true → true ≡ is_broken_by judged breaks word
-way_found judged breaks word verdict ways place d answer e is all within left holds =
-    let test = all_left (is_broken_by judged breaks) word in
-    sym (by_answer judged breaks word Other (sym is ∙ e) ∙ ap (list_any test) (sym all) ∙ list_any_at test ways place d within (sym left ∙ holds))
-
--- none was found
-pub none_found : (judged : List ℕ → Judged) (breaks : List Anchored) (word : List ℕ) (verdict : Judged) (ways : List Way) (place : ℕ) → verdict ≡ judged word → verdict ≡ Other
-    → ways ≡ ways_of breaks word → length ways ≤ place → list_any (all_left (is_broken_by judged breaks) word) (take place ways) ≡ false → false ≡ is_broken_by judged breaks word
-none_found judged breaks word verdict ways place e is all end none =
-    let test = all_left (is_broken_by judged breaks) word in
-    sym (by_answer judged breaks word Other (sym is ∙ e) ∙ ap (list_any test) (sym all ∙ sym (take_all place ways end)) ∙ none)
+-- the ways decide a piece that may be broken
+pub parts_decided : (judged : List ℕ → Judged) (breaks : List Anchored) (word : List ℕ) (verdict : Judged) (answer : Bool) → verdict ≡ judged word → verdict ≡ Other
+    → answer ≡ list_any (all_left (is_broken_by judged breaks) word) (ways_of breaks word) → answer ≡ is_broken_by judged breaks word
+parts_decided judged breaks word verdict answer e is says = says ∙ sym (by_answer judged breaks word Other (sym is ∙ e))
 
 -- the last characters of a piece
 behind_at : (word : List ℕ) (from to start : ℕ) → slice_range word (from + start) to ≡ drop start (slice_range word from to)

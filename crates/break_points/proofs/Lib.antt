@@ -1,5 +1,7 @@
 pub mod Breaking
 pub mod Trees
 pub mod Tables
-pub mod Partings
 pub mod Deciding
+pub mod Texts
+pub mod MarkWays
+pub mod Prepared

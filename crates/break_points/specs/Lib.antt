@@ -1,2 +1,4 @@
 pub mod Judging
+pub mod Patterns
+pub mod Marks
 pub mod Pieces

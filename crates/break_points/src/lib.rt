@@ -3,22 +3,28 @@
 
 ghost use Rattle.std.specs.Prelude.{◌≡◌, Bool, true, ℕ, ◌+◌, ◌≤◌, ◌<◌, List, length, slice_range, Ok, IfOk, IsTrue};
 ghost use Rattle.std.specs.Fn.{FnReturnsAt};
+ghost use Rattle.std.specs.List.{list_any};
 ghost use Rattle.spell_types.specs.declared.breaks.Anchored.{Anchored};
 ghost use Rattle.spell_types.specs.Breaks.{is_broken, IsBroken};
 ghost use Rattle.break_points.specs.declared.Judged.{Judged};
 ghost use Rattle.break_points.specs.Judging.{is_base_by, is_barred_by, AnswersAs};
-ghost use Rattle.break_points.specs.Pieces.{is_broken_piece, is_broken_by, IsRight, is_shorter, all_left};
+ghost use Rattle.break_points.specs.Marks.{AreMarks};
+ghost use Rattle.break_points.specs.Pieces.{is_broken_piece, is_broken_by, IsRight, is_shorter, all_left, ways_of};
 
+mod breaks;
+mod marks;
 mod table;
 #[cfg(test)]
 mod tests;
 mod ways;
 
+pub use breaks::Breaks;
 use lists::NoMemory;
+use marks::{Mark, marks_in};
 use spell_types::Anchored;
 use std::alloc::Global;
 use table::{Stretch, Table};
-use ways::{Way, ways_of};
+use ways::Way;
 
 /// What a dictionary says of a word, or of a piece of one, as it stands.
 #[derive(Clone, Copy, Debug, PartialEq, Eq)]
@@ -45,20 +51,46 @@ pub fn broken<F: Fn(&[char]) -> Result<Judged, NoMemory>>(
         → IfOk result (λ answer. answer
         ≡ is_broken (is_base_by judged) (is_barred_by judged) breaks.now word.now) }
 {
-    let mut table = Table::new(alloc);
-    let whole = Stretch {
-        from: 0,
-        to: word.len(),
-    };
-    decide(alloc, breaks, word, judge, &mut table, whole)
+    let breaks = Breaks::new(alloc, breaks)?;
+    breaks.broken(alloc, word, judge)
+}
+
+impl Breaks {
+    /// The same by patterns that are prepared. Where none of their texts stands in the word the judge is asked once, and no
+    /// memory is taken.
+    pub fn broken<F: Fn(&[char]) -> Result<Judged, NoMemory>>(
+        &self,
+        alloc: Global,
+        word: &[char],
+        judge: &F,
+    ) -> Result<bool, NoMemory>
+        requires { F.IsAlwaysCallable judge.now }
+        ensures { (judged : List ℕ → Judged) → AnswersAs (FnReturnsAt F.Fn judge.now) judged
+            → IfOk result (λ answer. answer ≡ is_broken_by judged self.now word.now) }
+    {
+        match judge(word)? {
+            Judged::Base => return Ok(true),
+            Judged::Barred => return Ok(false),
+            Judged::Other => {}
+        }
+        let marks = marks_in(alloc, self.patterns.as_slice(), word)?;
+        if marks.is_empty() {
+            return Ok(false);
+        }
+        let mut table = Table::new(alloc);
+        let whole = Stretch {
+            from: 0,
+            to: word.len(),
+        };
+        decide_parts(word, marks.as_slice(), judge, &mut table, whole)
+    }
 }
 
 /// Whether a piece of the word is accepted as it stands or in pieces, from the table if it stands there.
 #[cycle(deciding)]
 fn decide<F: Fn(&[char]) -> Result<Judged, NoMemory>>(
-    alloc: Global,
-    breaks: &[Anchored],
     word: &[char],
+    marks: &[Mark],
     judge: &F,
     table: &mut Table,
     piece: Stretch,
@@ -66,15 +98,15 @@ fn decide<F: Fn(&[char]) -> Result<Judged, NoMemory>>(
     requires callable { F.IsAlwaysCallable judge.now }
     requires ordered { piece.from ≤ piece.to }
     requires within { piece.to ≤ length word.now }
-    ensures { (judged : List ℕ → Judged) → AnswersAs (FnReturnsAt F.Fn judge.now) judged
-        → IsRight (is_broken_piece judged breaks.now word.now) table.old
-        → IfOk result (λ answer. (answer ≡ is_broken_piece judged breaks.now word.now piece)
-        × IsRight (is_broken_piece judged breaks.now word.now) table.new) }
+    ensures { (judged : List ℕ → Judged) (breaks : List Anchored) → AnswersAs (FnReturnsAt F.Fn judge.now) judged
+        → AreMarks breaks word.now marks.now → IsRight (is_broken_piece judged breaks word.now) table.old
+        → IfOk result (λ answer. (answer ≡ is_broken_piece judged breaks word.now piece)
+        × IsRight (is_broken_piece judged breaks word.now) table.new) }
 {
     if let Some(answer) = table.get(piece) {
         return Ok(answer);
     }
-    let answer = decide_anew(alloc, breaks, word, judge, table, piece)?;
+    let answer = decide_anew(word, marks, judge, table, piece)?;
     table.put(piece, answer)?;
     Ok(answer)
 }
@@ -82,9 +114,8 @@ fn decide<F: Fn(&[char]) -> Result<Judged, NoMemory>>(
 /// The same for a piece that does not stand in the table yet.
 #[cycle(deciding)]
 fn decide_anew<F: Fn(&[char]) -> Result<Judged, NoMemory>>(
-    alloc: Global,
-    breaks: &[Anchored],
     word: &[char],
+    marks: &[Mark],
     judge: &F,
     table: &mut Table,
     piece: Stretch,
@@ -92,20 +123,42 @@ fn decide_anew<F: Fn(&[char]) -> Result<Judged, NoMemory>>(
     requires callable { F.IsAlwaysCallable judge.now }
     requires ordered { piece.from ≤ piece.to }
     requires within { piece.to ≤ length word.now }
-    ensures { (judged : List ℕ → Judged) → AnswersAs (FnReturnsAt F.Fn judge.now) judged
-        → IsRight (is_broken_piece judged breaks.now word.now) table.old
-        → IfOk result (λ answer. (answer ≡ is_broken_piece judged breaks.now word.now piece)
-        × IsRight (is_broken_piece judged breaks.now word.now) table.new) }
+    ensures { (judged : List ℕ → Judged) (breaks : List Anchored) → AnswersAs (FnReturnsAt F.Fn judge.now) judged
+        → AreMarks breaks word.now marks.now → IsRight (is_broken_piece judged breaks word.now) table.old
+        → IfOk result (λ answer. (answer ≡ is_broken_piece judged breaks word.now piece)
+        × IsRight (is_broken_piece judged breaks word.now) table.new) }
 {
     match judge(&word[piece.from..piece.to])? {
-        Judged::Base => return Ok(true),
-        Judged::Barred => return Ok(false),
-        Judged::Other => {}
+        Judged::Base => Ok(true),
+        Judged::Barred => Ok(false),
+        Judged::Other => decide_parts(word, marks, judge, table, piece),
     }
-    let ways = ways_of(alloc, breaks, &word[piece.from..piece.to])?;
-    for way in ways.as_slice() {
-        if decide_way(alloc, breaks, word, judge, table, piece, *way)? {
-            return Ok(true);
+}
+
+/// Whether a piece that may be broken is accepted in pieces.
+#[cycle(deciding)]
+fn decide_parts<F: Fn(&[char]) -> Result<Judged, NoMemory>>(
+    word: &[char],
+    marks: &[Mark],
+    judge: &F,
+    table: &mut Table,
+    piece: Stretch,
+) -> Result<bool, NoMemory>
+    requires callable { F.IsAlwaysCallable judge.now }
+    requires ordered { piece.from ≤ piece.to }
+    requires within { piece.to ≤ length word.now }
+    ensures { (judged : List ℕ → Judged) (breaks : List Anchored) → AnswersAs (FnReturnsAt F.Fn judge.now) judged
+        → AreMarks breaks word.now marks.now → IsRight (is_broken_piece judged breaks word.now) table.old
+        → IfOk result (λ answer. (answer
+        ≡ list_any (all_left (is_broken_by judged breaks) (slice_range word.now piece.from piece.to))
+        (ways_of breaks (slice_range word.now piece.from piece.to)))
+        × IsRight (is_broken_piece judged breaks word.now) table.new) }
+{
+    for mark in marks {
+        if let Some(way) = mark.way(piece) {
+            if decide_way(word, marks, judge, table, piece, way)? {
+                return Ok(true);
+            }
         }
     }
     Ok(false)
@@ -114,9 +167,8 @@ fn decide_anew<F: Fn(&[char]) -> Result<Judged, NoMemory>>(
 /// Whether all is accepted that this way leaves of the piece.
 #[cycle(deciding)]
 fn decide_way<F: Fn(&[char]) -> Result<Judged, NoMemory>>(
-    alloc: Global,
-    breaks: &[Anchored],
     word: &[char],
+    marks: &[Mark],
     judge: &F,
     table: &mut Table,
     piece: Stretch,
@@ -126,19 +178,19 @@ fn decide_way<F: Fn(&[char]) -> Result<Judged, NoMemory>>(
     requires ordered { piece.from ≤ piece.to }
     requires within { piece.to ≤ length word.now }
     requires shorter { IsTrue (is_shorter (slice_range word.now piece.from piece.to) way) }
-    ensures { (judged : List ℕ → Judged) → AnswersAs (FnReturnsAt F.Fn judge.now) judged
-        → IsRight (is_broken_piece judged breaks.now word.now) table.old
+    ensures { (judged : List ℕ → Judged) (breaks : List Anchored) → AnswersAs (FnReturnsAt F.Fn judge.now) judged
+        → AreMarks breaks word.now marks.now → IsRight (is_broken_piece judged breaks word.now) table.old
         → IfOk result (λ answer. (answer
-        ≡ all_left (is_broken_by judged breaks.now) (slice_range word.now piece.from piece.to) way)
-        × IsRight (is_broken_piece judged breaks.now word.now) table.new) }
+        ≡ all_left (is_broken_by judged breaks) (slice_range word.now piece.from piece.to) way)
+        × IsRight (is_broken_piece judged breaks word.now) table.new) }
 {
     match way {
         Way::Between(end, start) => Ok(
-            decide(alloc, breaks, word, judge, table, piece.before(end))?
-                && decide(alloc, breaks, word, judge, table, piece.behind(start))?,
+            decide(word, marks, judge, table, piece.before(end))?
+                && decide(word, marks, judge, table, piece.behind(start))?,
         ),
-        Way::Behind(start) => decide(alloc, breaks, word, judge, table, piece.behind(start)),
-        Way::Before(end) => decide(alloc, breaks, word, judge, table, piece.before(end)),
+        Way::Behind(start) => decide(word, marks, judge, table, piece.behind(start)),
+        Way::Before(end) => decide(word, marks, judge, table, piece.before(end)),
     }
 }
 

@@ -121,11 +121,38 @@ const OVERLAPS: &str = "-, a-b c, a, a-b-c, yes; + -, a b, 0, a-b, yes; aa, b ab
     - --, a b, 0, a--b, yes; - ^- -$, tea, 0, 0, no; --- ^--- ---$, a b, 0, a-, no; ^ $, a, 0, ab, no; \
     \u{2013}, \u{E9}t\u{E9} b, 0, \u{E9}t\u{E9}\u{2013}b, yes";
 
+/// What many patterns may look like: equal ones, equal texts with other anchors, and texts that begin alike.
+const ALIKE: &str =
+    "- - -, tea cup, 0, tea-cup, yes; ^- ^-, tea, 0, -tea, yes; - ^-, tea, 0, -tea, yes; \
+    ^- -, tea cup, 0, tea-cup, yes; -$ - ^-, tea, 0, tea-, yes; ^- -$ ^-$, tea cup, 0, tea-cup, no; \
+    a aa aaa aaaa, b c, 0, baaac, yes; aaaaaaaab aaac, b c, 0, baaac, no; aab aac aad, x y, 0, xaacy, yes; \
+    ab abc ^abc abc$, x y, 0, xabcy, yes";
+
 #[test]
 fn breaks_words(rt: HostRuntime) -> Result<(), Fail> {
     assert_rows(&rt, rt.alloc(), PLACES)?;
     assert_rows(&rt, rt.alloc(), BARRED)?;
-    assert_rows(&rt, rt.alloc(), OVERLAPS)
+    assert_rows(&rt, rt.alloc(), OVERLAPS)?;
+    assert_rows(&rt, rt.alloc(), ALIKE)
+}
+
+/// Each row is patterns, words, those of them that may not be broken, and a word in which no pattern's text stands.
+const UNBROKEN: &str =
+    "-, tea, 0, tea; - ^- -$, tea, 0, cup; --, tea, 0, t-ea; ab, tea, tea, aeb; 0, tea, 0, cup";
+
+#[test]
+fn asks_once_where_no_text_stands(rt: HostRuntime) -> Result<(), Fail> {
+    for row in UNBROKEN.split("; ") {
+        let (_, asked) = answer_of(
+            rt.alloc(),
+            field(row, 0),
+            field(row, 1),
+            field(row, 2),
+            field(row, 3),
+        )?;
+        assert_eq!(&rt; asked, 1, "{row}");
+    }
+    Ok(())
 }
 
 /// So many times a text, and then another one.

@@ -2,23 +2,28 @@
 use Rattle.std.proofs.Common.{◌≡◌, ℕ, ◌+◌, ◌-◌, ◌*◌, List, false, take, slice_range}
 use Rattle.std.specs.Fn.{FnReturnsAt}
 use Rattle.std.specs.List.{list_any}
+use Rattle.spell_types.specs.declared.breaks.Anchored.{Anchored}
 use Rattle.break_points.specs.declared.Judged.{Judged}
 use Rattle.break_points.specs.Judging.{AnswersAs}
+use Rattle.break_points.specs.Marks.{AreMarks, way_by, way_passes}
 use Rattle.break_points.specs.Pieces.{is_broken_piece, is_broken_by, IsRight, all_left}
 use Rattle.break_points.proofs.+deciding.Given as goal
 
 abbrev pub decreases-decide : goal.decreases-decide
-decreases-decide g l = 3 * (l.piece.to - l.piece.from) + 2
+decreases-decide g l = 4 * (l.piece.to - l.piece.from) + 3
 
 abbrev pub decreases-decide_anew : goal.decreases-decide_anew
-decreases-decide_anew g l = 3 * (l.piece.to - l.piece.from) + 1
+decreases-decide_anew g l = 4 * (l.piece.to - l.piece.from) + 2
+
+abbrev pub decreases-decide_parts : goal.decreases-decide_parts
+decreases-decide_parts g l = 4 * (l.piece.to - l.piece.from) + 1
 
 abbrev pub decreases-decide_way : goal.decreases-decide_way
-decreases-decide_way g l = 3 * (l.piece.to - l.piece.from)
+decreases-decide_way g l = 4 * (l.piece.to - l.piece.from)
 
-abbrev pub invariant-decide_anew-loop-way : goal.invariant-decide_anew-loop-way
-invariant-decide_anew-loop-way g l =
-    (judged : List ℕ → Judged) → AnswersAs (FnReturnsAt g.F.Fn l.judge) judged
-    → IsRight (is_broken_piece judged l.breaks l.word) l.fn.table
-    → (list_any (all_left (is_broken_by judged l.breaks) (slice_range l.word l.piece.from l.piece.to)) (take l.way-index l.way-items) ≡ false)
-    × IsRight (is_broken_piece judged l.breaks l.word) l.table
+abbrev pub invariant-decide_parts-loop-mark : goal.invariant-decide_parts-loop-mark
+invariant-decide_parts-loop-mark g l =
+    (judged : List ℕ → Judged) (breaks : List Anchored) → AnswersAs (FnReturnsAt g.F.Fn l.judge) judged → AreMarks breaks l.word l.marks
+    → IsRight (is_broken_piece judged breaks l.word) l.fn.table
+    → (list_any (λ mark. way_passes (all_left (is_broken_by judged breaks) (slice_range l.word l.piece.from l.piece.to)) (way_by mark l.piece)) (take l.mark-index l.marks) ≡ false)
+    × IsRight (is_broken_piece judged breaks l.word) l.table

@@ -1,11 +1,13 @@
--- The whole word is a piece of it.
-use Rattle.std.proofs.Common.{refl, ap, ◌∙◌}
-use Rattle.break_points.specs.Pieces.{is_broken_by, is_broken_piece}
-use Rattle.break_points.proofs.Deciding.{ok_weaker, whole_word}
+-- The prepared patterns break words as those which they were made of.
+use Rattle.std.proofs.Common.{◌∙◌}
+use Rattle.break_points.specs.Judging.{is_base_by, is_barred_by}
+use Rattle.break_points.specs.Patterns.{BreakAlike}
+use Rattle.break_points.proofs.Deciding.{ok_weaker}
 use Rattle.break_points.proofs.broken.Goals as goal
 
 pub returns : goal.returns
+unfolding BreakAlike
 returns g c = λ judged answers.
-    ok_weaker c.decide.result _ _
-    (λ answer p. p.0 ∙ ap (is_broken_by judged c.args.breaks.now) (whole_word c.args.word.now _ refl refl))
-    (c.decide.ensures judged answers (c.new-table.ensures (is_broken_piece judged c.args.breaks.now c.args.word.now)))
+    ok_weaker c.broken.result _ _
+    (λ answer is. is ∙ c.in_ok-breaks.ensures (is_base_by judged) (is_barred_by judged) c.args.word.now)
+    (c.broken.ensures judged answers)

@@ -1,0 +1,136 @@
+//! Where the texts of patterns stand in a word.
+
+ghost use Rattle.std.specs.Prelude.{◌≡◌, ◌++◌, ◌≤◌, ◌<◌, ◌+◌, ℕ, true, false, length, map, take, drop, Contains, OnOk, IfOk};
+ghost use Rattle.std.specs.List.{All};
+ghost use Rattle.text_order.specs.Order.{AreInOrder};
+ghost use Rattle.break_points.specs.declared.marks.Mark.{Mark};
+ghost use Rattle.break_points.specs.Patterns.{anchored_of};
+ghost use Rattle.break_points.specs.Marks.{mark_of, IsMark, AreMarks, way_with, way_by};
+
+use crate::breaks::Pattern;
+use crate::table::Stretch;
+use crate::ways::Way;
+use lists::NoMemory;
+use std::alloc::Global;
+use text_order::{ending, going_on};
+
+/// The text of a pattern in a word.
+#[derive(Clone, Copy)]
+pub struct Mark {
+    /// Where it stands, from 0.
+    pub place: usize,
+    /// How many characters it has.
+    pub len: usize,
+    /// Whether it breaks pieces at whose front it stands.
+    pub front: bool,
+    /// Whether it breaks pieces at whose back it stands.
+    pub back: bool,
+}
+
+impl Mark {
+    /// The way in which it breaks a piece of its word, if it takes something off and leaves something.
+    pub(crate) fn way(self, piece: Stretch) -> Option<Way>
+        requires { piece.from ≤ piece.to }
+        ensures { result ≡ way_by self piece }
+    {
+        match (self.front, self.back) {
+            (false, false) => self.between(piece),
+            (true, false) => self.behind(piece),
+            (false, true) => self.before(piece),
+            (true, true) => None,
+        }
+    }
+
+    fn between(self, piece: Stretch) -> Option<Way>
+        ensures { result ≡ way_with false false piece.from piece.to self.place self.len }
+    {
+        if piece.from < self.place && self.place < piece.to && self.len < piece.to - self.place {
+            let end = self.place - piece.from;
+            return Some(Way::Between(end, end + self.len));
+        }
+        None
+    }
+
+    fn behind(self, piece: Stretch) -> Option<Way>
+        requires { piece.from ≤ piece.to }
+        ensures { result ≡ way_with true false piece.from piece.to self.place self.len }
+    {
+        if self.place == piece.from && 0 < self.len && self.len < piece.to - piece.from {
+            return Some(Way::Behind(self.len));
+        }
+        None
+    }
+
+    fn before(self, piece: Stretch) -> Option<Way>
+        ensures { result ≡ way_with false true piece.from piece.to self.place self.len }
+    {
+        if piece.from < self.place && self.place < piece.to && self.len == piece.to - self.place {
+            return Some(Way::Before(self.place - piece.from));
+        }
+        None
+    }
+}
+
+/// The texts of patterns that stand in the word, place by place. The patterns are in order.
+pub(crate) fn marks_in(
+    alloc: Global,
+    patterns: &[Pattern],
+    word: &[char],
+) -> Result<Vec<Mark>, NoMemory>
+    requires { AreInOrder patterns.now }
+    ensures { IfOk result (λ marks. AreMarks (map anchored_of patterns.now) word.now marks.items) }
+{
+    let mut marks = Vec::new(alloc);
+    for place in 0..word.len() {
+        add_marks(patterns, word, place, &mut marks)?;
+    }
+    Ok(marks)
+}
+
+/// Adds the texts of patterns that stand at a place. No more characters are looked at than some pattern has there, and one.
+fn add_marks(
+    patterns: &[Pattern],
+    word: &[char],
+    place: usize,
+    marks: &mut Vec<Mark>,
+) -> Result<(), NoMemory>
+    requires order { AreInOrder patterns.now }
+    requires place { place < length word.now }
+    ensures kept { OnOk result ((mark : Mark) → Contains marks.old.items mark → Contains marks.new.items mark) }
+    ensures sound { OnOk result (All (IsMark (map anchored_of patterns.now) word.now) marks.old.items
+        → All (IsMark (map anchored_of patterns.now) word.now) marks.new.items) }
+    ensures whole { OnOk result ((mark : Mark) → mark.place ≡ place
+        → IsMark (map anchored_of patterns.now) word.now mark → Contains marks.new.items mark) }
+{
+    let text = &word[place..];
+    let mut alike = patterns;
+    for (len, c) in text.iter().enumerate() {
+        add_each(ending(alike, len), place, len, marks)?;
+        alike = going_on(alike, len, *c);
+        if alike.is_empty() {
+            return Ok(());
+        }
+    }
+    add_each(ending(alike, text.len()), place, text.len(), marks)
+}
+
+/// Adds the text of each of these patterns, which have so many characters and stand at a place.
+fn add_each(
+    patterns: &[Pattern],
+    place: usize,
+    len: usize,
+    marks: &mut Vec<Mark>,
+) -> Result<(), NoMemory>
+    ensures { OnOk result (marks.new.items ≡ marks.old.items ++ map (mark_of place len) patterns.now) }
+{
+    for pattern in patterns {
+        let (front, back) = pattern.1;
+        marks.push(Mark {
+            place,
+            len,
+            front,
+            back,
+        })?;
+    }
+    Ok(())
+}
