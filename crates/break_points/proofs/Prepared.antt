@@ -15,7 +15,7 @@ use Rattle.std.proofs.lemmas.List.Sorted.{Contains-permutation, IsPermutation-sy
 use Rattle.lists.specs.Laws.{contains-map}
 use Rattle.spell_types.specs.declared.breaks.Anchored.{Anchored}
 use Rattle.spell_types.specs.Breaks.{is_broken, IsBroken, whole, between, behind, before}
-use Rattle.text_order.specs.Order.{AreInOrder}
+use Rattle.lists.specs.TextOrder.{AreInOrder}
 use Rattle.break_points.specs.Patterns.{Pattern, anchored_of, BreakAlike}
 use Rattle.break_points.proofs.Breaking.{same_tests}
 use Rattle.break_points.proofs.Texts.{made-of}

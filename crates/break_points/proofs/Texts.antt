@@ -8,7 +8,7 @@ use Rattle.std.proofs.lemmas.List.Elements.{filter_passes, All-filter, All-conta
 use Rattle.std.proofs.lemmas.Slice.Eq.{bytes_eq-Decides}
 use Rattle.lists.specs.Laws.{contains-head, contains-tail, contains-filter, contains-map}
 use Rattle.spell_types.specs.declared.breaks.Anchored.{Anchored}
-use Rattle.text_order.specs.Order.{AreInOrder, beginning, having}
+use Rattle.lists.specs.TextOrder.{AreInOrder, beginning, having}
 use Rattle.break_points.specs.declared.marks.Mark.{Mark}
 use Rattle.break_points.specs.Patterns.{Pattern, anchored_of}
 use Rattle.break_points.specs.Marks.{mark_of, IsMark}

@@ -2,7 +2,7 @@
 
 ghost use Rattle.std.specs.Prelude.{◌≡◌, ◌++◌, ◌≤◌, ◌<◌, ◌+◌, ℕ, true, false, length, map, take, drop, Contains, OnOk, IfOk};
 ghost use Rattle.std.specs.List.{All};
-ghost use Rattle.text_order.specs.Order.{AreInOrder};
+ghost use Rattle.lists.specs.TextOrder.{AreInOrder};
 ghost use Rattle.break_points.specs.declared.marks.Mark.{Mark};
 ghost use Rattle.break_points.specs.Patterns.{anchored_of};
 ghost use Rattle.break_points.specs.Marks.{mark_of, IsMark, AreMarks, way_with, way_by};
@@ -11,8 +11,8 @@ use crate::breaks::Pattern;
 use crate::table::Stretch;
 use crate::ways::Way;
 use lists::NoMemory;
+use lists::text_order::{ending, going_on};
 use std::alloc::Global;
-use text_order::{ending, going_on};
 
 /// The text of a pattern in a word.
 #[derive(Clone, Copy)]

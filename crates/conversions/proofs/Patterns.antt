@@ -16,7 +16,7 @@ use Rattle.std.proofs.lemmas.List.Sorted.{ranks_by, sorted_far}
 use Rattle.std.proofs.lemmas.Option.{get_or_from_slice_get, slice_get_within}
 use Rattle.std.proofs.lemmas.Slice.Eq.{bytes_eq-Decides}
 use Rattle.lists.specs.Laws.{contains-filter}
-use Rattle.text_order.specs.Order.{AreInOrder, beginning, having}
+use Rattle.lists.specs.TextOrder.{AreInOrder, beginning, having}
 use Rattle.conversions.specs.Patterns.{Pattern, pattern_cmp, AreSorted, FitsUpTo, IsBestUpTo, BestUpTo}
 
 -- ---- the order of patterns

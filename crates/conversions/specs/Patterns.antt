@@ -7,7 +7,7 @@ use Rattle.std.specs.Option.{option_map}
 use Rattle.std.specs.Ordering.{nat_cmp, ordering_then}
 use Rattle.std.specs.declared.cmp.Ordering.{Ordering}
 use Rattle.spell_types.specs.declared.conversions.Conversion.{Conversion}
-use Rattle.text_order.specs.Order.{Row}
+use Rattle.lists.specs.TextOrder.{Row}
 
 -- a pattern, and the place of its row
 abbrev pub Pattern : Type 0

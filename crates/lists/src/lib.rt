@@ -1,4 +1,4 @@
-//! The one list type of Affedit's values, and its one answer for want of memory.
+//! The one list type of Affedit's values, its one answer for want of memory, and texts in order.
 #![tactic(auto)]
 
 ghost use Rattle.std.specs.Prelude.{◌≡◌, ◌==◌, ◌^◌, ◌<◌, [], ◌∷◌, ◌++◌, List, length, IfOk, OnOk, OnErr};
@@ -7,6 +7,8 @@ ghost use Rattle.std.specs.Hash as fed;
 ghost use Rattle.std.specs.Hash.{items_Alike};
 ghost use Rattle.std.specs.Iterator.Runs.{EveryRun, ItemsMapTo};
 ghost use Rattle.std.specs.Slice.Iter.{iter_rest, iter_steps};
+
+pub mod text_order;
 
 use std::alloc::{AllocError, AllocFailed, Global};
 use std::default::MadeWith;

@@ -1,7 +1,7 @@
 -- The texts that are one character longer.
 use Rattle.std.proofs.Common.{◌≡◌, ◌∙◌, sym, ap, ◌+◌, ◌-◌, ◌<◌, ◌≤◌, ℕ, List, length, take, drop, take_all, length-drop, eqb-true, Result, Ok, Err, arith}
 use Rattle.std.specs.Result.{OnOk}
-use Rattle.text_order.specs.Order.{beginning}
+use Rattle.lists.specs.TextOrder.{beginning}
 use Rattle.break_points.proofs.Texts.{Adds, adds, adds-kept, adds-sound, adds-whole, adds-all, adds-last, all_begin, alike_more, nothing}
 use Rattle.break_points.proofs.marks.add_marks.Goals as goal
 

@@ -1,7 +1,7 @@
 -- One character more is looked at.
 use Rattle.std.proofs.Common.{◌∙◌, ◌≡◌, ◌+◌, ◌<◌, ◌≤◌, sym, ap, subst, take, length, eqb-true, arith}
 use Rattle.std.specs.Option.{option_copied}
-use Rattle.text_order.specs.Order.{beginning}
+use Rattle.lists.specs.TextOrder.{beginning}
 use Rattle.conversions.specs.Patterns.{BestUpTo}
 use Rattle.conversions.proofs.Patterns.{all_begin, alike_more, nothing, none_yet, none_begins, first_best, none_best}
 use Rattle.conversions.proofs.table.best_pattern.Goals as goal

@@ -13,7 +13,7 @@ use Rattle.std.proofs.lemmas.List.{length-take, get_or-take, get_or-drop, take-a
 use Rattle.std.proofs.lemmas.List.Elements.{filter-append, filter_agree, filter_passes, recursion_from_All}
 use Rattle.std.proofs.lemmas.List.Kept.{IsSortedBy-filter}
 use Rattle.std.proofs.lemmas.List.Sorted.{ranks_by, sorted_far}
-use Rattle.text_order.specs.Order.{Row, AreInOrder, beginning, having, next_at, next_in}
+use Rattle.lists.specs.TextOrder.{Row, AreInOrder, beginning, having, next_at, next_in}
 
 -- ---- what a filter keeps
 filter-none : {X : Type 0} (p : X → Bool) (xs : List X) → AllByRecursion (λ x. p x ≡ false) xs → filter p xs ≡ []

@@ -2,9 +2,9 @@
 use Rattle.std.proofs.Common.{◌∙◌, ℕ, ◌+◌, sym, ap, subst, length, nat_eq}
 use Rattle.std.specs.List.{filter}
 use Rattle.std.specs.List.Sorted.{IsNonDecreasingBy}
-use Rattle.text_order.specs.Order.{Row, next_in}
-use Rattle.text_order.proofs.Orders.{rises, next-kept}
-use Rattle.text_order.proofs.going_on.Goals as goal
+use Rattle.lists.specs.TextOrder.{Row, next_in}
+use Rattle.lists.proofs.TextOrders.{rises, next-kept}
+use Rattle.lists.proofs.text_order.going_on.Goals as goal
 
 pub returns : goal.returns
 returns g c = λ all front sorted depth is.

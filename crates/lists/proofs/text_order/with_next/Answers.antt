@@ -2,9 +2,9 @@
 use Rattle.std.proofs.Common.{rules, ◌≡◌, ◌∙◌, sym, ap, subst, true, false, ltb, leb, take, drop}
 use Rattle.std.specs.List.Sorted.{IsNonDecreasingBy, IsPartitionPoint}
 use Rattle.std.proofs.lemmas.List.Sorted.{IsNonDecreasingBy-drop, IsPartitionPoint-from_clause, IsPartitionedBy-ltb, IsPartitionedBy-leb}
-use Rattle.text_order.specs.Order.{Row, next_in}
-use Rattle.text_order.proofs.Orders.{between}
-use Rattle.text_order.proofs.with_next.Goals as goal
+use Rattle.lists.specs.TextOrder.{Row, next_in}
+use Rattle.lists.proofs.TextOrders.{between}
+use Rattle.lists.proofs.text_order.with_next.Goals as goal
 
 pub returns : goal.returns
 returns g c = λ rising.

@@ -1,10 +1,9 @@
 //! Texts in order, each with a value, and those of them that begin alike.
-#![tactic(auto)]
 
 ghost use Rattle.std.specs.Prelude.{◌≡◌, ℕ, List, [], ◌∷◌, ◌++◌, length, nat_eq};
 ghost use Rattle.std.specs.List.{filter};
 ghost use Rattle.std.specs.List.Sorted.{IsNonDecreasingBy};
-ghost use Rattle.text_order.specs.Order.{Row, AreInOrder, beginning, having, next_at, next_in};
+ghost use Rattle.lists.specs.TextOrder.{Row, AreInOrder, beginning, having, next_at, next_in};
 
 /// Of the rows whose texts begin with the same characters, and so many, those whose texts go on with this one. They are
 /// found by halves, so that it does not matter how many rows there are.
