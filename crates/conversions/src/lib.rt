@@ -7,8 +7,6 @@ ghost use Rattle.spell_types.specs.declared.conversions.Conversion.{Conversion};
 
 mod ignored;
 mod table;
-#[cfg(test)]
-mod tests;
 
 pub use ignored::Ignored;
 use lists::{Items, NoMemory};

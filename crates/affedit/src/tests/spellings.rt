@@ -63,6 +63,32 @@ dic 1|aay
 text aab aaabc
 1 1 4 9 aaabc|1 of 2
 
+# Patterns that begin alike, and equal ones.
+aff ICONV 4|ICONV aaab 1|ICONV aaac 2|ICONV aaad 3|ICONV a x
+dic 1|xxx3
+text aaaaaad
+0 0 of 1
+
+aff ICONV 3|ICONV a 1|ICONV a 1|ICONV a 1
+dic 1|11x
+text aax
+0 0 of 1
+
+aff ICONV 4|ICONV a 1|ICONV aa 2|ICONV aaa 3|ICONV aaaa 4
+dic 1|43x
+text aaaaaaax
+0 0 of 1
+
+aff ICONV 1|ICONV aaaaaaaab 1
+dic 1|aaaaaaaa
+text aaaaaaaa
+0 0 of 1
+
+aff ICONV 3|ICONV aab 1|ICONV aa 2|ICONV aab 3
+dic 1|2ab
+text aaab
+0 0 of 1
+
 # Texts are literal.
 aff WORDCHARS .|ICONV 1|ICONV . x
 dic 1|axb
@@ -110,7 +136,7 @@ text \u{5d0}\u{5b8}\u{5d1} \u{5d0}\u{5b7}\u{5d1}
 
 #[test]
 fn converts_what_is_written(rt: HostRuntime) -> Result<(), Fail> {
-    assert_table(&rt, rt.alloc(), CONVERTED, 15)?;
+    assert_table(&rt, rt.alloc(), CONVERTED, 20)?;
     assert_table(&rt, rt.alloc(), IGNORED, 4)?;
     Ok(())
 }
