@@ -1,8 +1,9 @@
 -- Rows in order that begin alike, by what comes next in them.
-use Rattle.std.proofs.Common.{◌≡◌, ◌∙◌, refl, sym, ap, ap₂, subst, ℕ, zero, suc, ◌+◌, ◌<◌, ◌≤◌, Bool, true, false, cond, ◌&&◌, List, [], ◌∷◌, ◌++◌, length, take, drop, get_or, nat_eq, ltb, leb, append-nil, length-drop, arith}
+use Rattle.std.proofs.Common.{◌≡◌, ◌∙◌, ◌⊎◌, inl, inr, refl, sym, ap, ap₂, subst, ℕ, zero, suc, ◌+◌, ◌-◌, ◌<◌, ◌≤◌, Bool, true, false, cond, ◌&&◌, List, [], ◌∷◌, ◌++◌, length, take, drop, get_or, slice_get, nat_eq, ltb, leb, eq-eqb, ne_eqb, append-nil, length-drop, arith}
 use Rattle.std.specs.Cmp.Lexicographic.{pointwise, slice_cmp}
 use Rattle.std.specs.List.{All, AllByRecursion, filter, starts_with}
 use Rattle.std.specs.List.Sorted.{IsNonDecreasingBy, IsPartitionPoint}
+use Rattle.std.specs.Option.{option_map_or}
 use Rattle.std.specs.declared.cmp.Ordering.{Ordering}
 use Rattle.std.specs.declared.cmp.Ordering.TheVariants.{Equal}
 use Rattle.std.specs.Ordering.{is_lt, nat_cmp, ordering_then}
@@ -13,6 +14,7 @@ use Rattle.std.proofs.lemmas.List.{length-take, get_or-take, get_or-drop, take-a
 use Rattle.std.proofs.lemmas.List.Elements.{filter-append, filter_agree, filter_passes, recursion_from_All}
 use Rattle.std.proofs.lemmas.List.Kept.{IsSortedBy-filter}
 use Rattle.std.proofs.lemmas.List.Sorted.{ranks_by, sorted_far}
+use Rattle.std.proofs.lemmas.Option.{slice_get-get_or}
 use Rattle.lists.specs.TextOrder.{Row, AreInOrder, beginning, having, next_at, next_in}
 
 -- ---- what a filter keeps
@@ -76,6 +78,34 @@ between {X} n w i j xs first last =
     higher = λ k d within.
         let inside : j + k < length (drop i xs) = omega (arith, within, length-drop j (drop i xs)) in
         subst (λ y. nat_eq (n y) w ≡ false) (sym (get_or-drop j (drop i xs) k d)) (is_higher (n (get_or (drop i xs) (j + k) d)) (last.1 (j + k) d (omega arith) inside))
+
+-- where all or none of the rows are those, the first and the last one tell
+bounds : {X : Type 0} (n : X → ℕ) (xs : List X) (low high : ℕ) → IsNonDecreasingBy n xs → low ≡ option_map_or n (slice_get xs 0) 0 → high ≡ option_map_or n (slice_get xs (length xs - 1)) 0
+    → (k : ℕ) (d : X) → k < length xs → (low ≤ n (get_or xs k d)) × (n (get_or xs k d) ≤ high)
+bounds n xs low high rising first last k d within =
+    let lowest : low ≡ n (get_or xs 0 d) = first ∙ ap (λ found. option_map_or n found 0) (slice_get-get_or xs 0 d (omega (arith, within))) in
+    let highest : high ≡ n (get_or xs (length xs - 1) d) = last ∙ ap (λ found. option_map_or n found 0) (slice_get-get_or xs (length xs - 1) d (omega (arith, within))) in
+    let above : n (get_or xs 0 d) ≤ n (get_or xs k d) = rising 0 k d (omega arith) within in
+    let below : n (get_or xs k d) ≤ n (get_or xs (length xs - 1) d) = rising k (length xs - 1) d (omega (arith, within)) (omega (arith, within)) in
+    (omega (arith, lowest, above), omega (arith, highest, below))
+
+pub all_next : {X : Type 0} (n : X → ℕ) (w low high : ℕ) (xs : List X) → IsNonDecreasingBy n xs → low ≡ option_map_or n (slice_get xs 0) 0 → high ≡ option_map_or n (slice_get xs (length xs - 1)) 0 → low ≡ w → high ≡ w
+    → xs ≡ filter (λ y. nat_eq (n y) w) xs
+all_next {X} n w low high xs rising first last low_is high_is =
+    sym (filter-all (λ y. nat_eq (n y) w) xs (recursion_from_All (λ y. nat_eq (n y) w ≡ true) xs (λ k d within.
+    let both = bounds n xs low high rising first last k d within in
+    eq-eqb (n (get_or xs k d)) w (omega (arith, both.0, both.1, low_is, high_is)))))
+
+pub none_next : {X : Type 0} (n : X → ℕ) (w low high : ℕ) (xs : List X) → IsNonDecreasingBy n xs → low ≡ option_map_or n (slice_get xs 0) 0 → high ≡ option_map_or n (slice_get xs (length xs - 1)) 0 → (w < low) ⊎ (high < w)
+    → [] ≡ filter (λ y. nat_eq (n y) w) xs
+none_next {X} n w low high xs rising first last outside =
+    sym (filter-none (λ y. nat_eq (n y) w) xs (recursion_from_All (λ y. nat_eq (n y) w ≡ false) xs (λ k d within.
+    let both = bounds n xs low high rising first last k d within in
+    apart (n (get_or xs k d)) both.0 both.1 outside)))
+  where
+    apart : (a : ℕ) → low ≤ a → a ≤ high → (w < low) ⊎ (high < w) → nat_eq a w ≡ false
+    apart a above below (inl less) = ne_eqb a w (λ same. omega (arith, above, less, same))
+    apart a above below (inr more) = ne_eqb a w (λ same. omega (arith, below, more, same))
 
 -- ---- what comes next in texts that begin alike
 next-rises : (front text other : List ℕ) → starts_with nat_eq text front ≡ true → starts_with nat_eq other front ≡ true → is_lt (slice_cmp nat_cmp other text) ≡ false → next_at (length front) text ≤ next_at (length front) other

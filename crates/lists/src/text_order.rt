@@ -1,7 +1,8 @@
 //! Texts in order, each with a value, and those of them that begin alike.
 
-ghost use Rattle.std.specs.Prelude.{◌≡◌, ℕ, List, [], ◌∷◌, ◌++◌, length, nat_eq};
+ghost use Rattle.std.specs.Prelude.{◌≡◌, ℕ, List, [], ◌∷◌, ◌++◌, length, nat_eq, slice_get};
 ghost use Rattle.std.specs.List.{filter};
+ghost use Rattle.std.specs.Option.{option_map_or};
 ghost use Rattle.std.specs.List.Sorted.{IsNonDecreasingBy};
 ghost use Rattle.lists.specs.TextOrder.{Row, AreInOrder, beginning, having, next_at, next_in};
 
@@ -22,8 +23,34 @@ pub fn ending<V>(rows: &[(Vec<char>, V)], depth: usize) -> &[(Vec<char>, V)]
     with_next(rows, depth, 0)
 }
 
-/// The rows in whose texts this comes next.
+/// The rows in whose texts this comes next. Where that is all of them or none, the first and the last one tell.
 fn with_next<V>(rows: &[(Vec<char>, V)], depth: usize, next: usize) -> &[(Vec<char>, V)]
+    ensures { IsNonDecreasingBy (next_in depth) rows.now
+        → result.now ≡ filter (λ row. nat_eq (next_in depth row) next) rows.now }
+{
+    let low = next_of(rows, 0, depth);
+    let high = next_of(rows, rows.len().saturating_sub(1), depth);
+    if low == next && high == next {
+        return rows;
+    }
+    if next < low || high < next {
+        return rows.split_at(0).0;
+    }
+    found_next(rows, depth, next)
+}
+
+/// What comes next in the text of the row with a place; 0 where there is no row.
+fn next_of<V>(rows: &[(Vec<char>, V)], place: usize, depth: usize) -> usize
+    ensures { result ≡ option_map_or (next_in depth) (slice_get rows.now place) 0 }
+{
+    match rows.get(place) {
+        None => 0,
+        Some(row) => next_at(row.0.as_slice(), depth),
+    }
+}
+
+/// The rows in whose texts this comes next, found by halves.
+fn found_next<V>(rows: &[(Vec<char>, V)], depth: usize, next: usize) -> &[(Vec<char>, V)]
     ensures { IsNonDecreasingBy (next_in depth) rows.now
         → result.now ≡ filter (λ row. nat_eq (next_in depth row) next) rows.now }
 {

@@ -1,23 +1,26 @@
--- The two places found by halves are the bounds of the rows that are kept.
-use Rattle.std.proofs.Common.{rules, ◌≡◌, ◌∙◌, sym, ap, subst, true, false, ltb, leb, take, drop}
-use Rattle.std.specs.List.Sorted.{IsNonDecreasingBy, IsPartitionPoint}
-use Rattle.std.proofs.lemmas.List.Sorted.{IsNonDecreasingBy-drop, IsPartitionPoint-from_clause, IsPartitionedBy-ltb, IsPartitionedBy-leb}
+-- The first and the last row bound what comes next in the others.
+use Rattle.std.proofs.Common.{◌≡◌, ◌∙◌, ◌⊎◌, ◌-◌, ◌<◌, inl, inr, ap, length, take, slice_get}
+use Rattle.std.specs.Option.{option_map_or}
 use Rattle.lists.specs.TextOrder.{Row, next_in}
-use Rattle.lists.proofs.TextOrders.{between}
+use Rattle.lists.proofs.TextOrders.{all_next, none_next}
 use Rattle.lists.proofs.text_order.with_next.Goals as goal
+use Rattle.lists.proofs.text_order.with_next.Goals.{then-next-low-via-then-next-low, then-next-low-via-else-next-low+then-high-next-2}
 
-pub returns : goal.returns
-returns g c = λ rising.
-    let rows = c.args.rows.now in
-    let next = c.args.next in
+pub returns-then-high-next : goal.returns-then-high-next
+returns-then-high-next g c = λ rising.
     let n = λ (row : Row g.row.V.Denot). next_in c.args.depth row in
-    let start = c.partition_point-start.result in
-    let end = c.partition_point-end.result in
-    let rest : c.split_at.result.1.now ≡ drop start rows = c.split_at.ensures.back in
-    let first : IsPartitionPoint (λ y. ltb (n y) next ≡ true) (λ y. ltb (n y) next ≡ false) rows start =
-    IsPartitionPoint-from_clause (λ y. ltb (n y) next) rows start c.partition_point-start.ensures.partitioned (IsPartitionedBy-ltb n rows next rising) (λ a r f called. search rules) in
-    let last : IsPartitionPoint (λ y. leb (n y) next ≡ true) (λ y. leb (n y) next ≡ false) c.split_at.result.1.now end =
-    IsPartitionPoint-from_clause (λ y. leb (n y) next) c.split_at.result.1.now end c.partition_point-end.ensures.partitioned
-    (IsPartitionedBy-leb n c.split_at.result.1.now next (subst (IsNonDecreasingBy n) (sym rest) (IsNonDecreasingBy-drop n start rows rising))) (λ a r f called. search rules) in
-    c.split_at-2.ensures.front ∙ ap (take end) rest
-    ∙ between n next start end rows first (subst (λ xs. IsPartitionPoint (λ y. leb (n y) next ≡ true) (λ y. leb (n y) next ≡ false) xs end) rest last)
+    all_next n c.args.next c.next_of-low.result c.next_of-high.result c.args.rows.now rising c.next_of-low.ensures
+    (c.next_of-high.ensures ∙ ap (λ place. option_map_or n (slice_get c.args.rows.now place) 0) c.saturating_sub.ensures)
+    c.if-low-next.true c.if-high-next.true
+
+pub returns-then-next-low : goal.returns-then-next-low
+returns-then-next-low g c = λ rising.
+    let n = λ (row : Row g.row.V.Denot). next_in c.args.depth row in
+    let outside : (c.args.next < c.next_of-low.result) ⊎ (c.next_of-high.result < c.args.next) = elim c.then-next-low.branch [
+      | then-next-low-via-then-next-low w ↦ inl w.if-next-low.true
+      | then-next-low-via-else-next-low+then-high-next-2 w ↦ inr w.if-high-next-2.true
+    ] in
+    c.split_at.ensures.front
+    ∙ none_next n c.args.next c.next_of-low.result c.next_of-high.result c.args.rows.now rising c.next_of-low.ensures
+    (c.next_of-high.ensures ∙ ap (λ place. option_map_or n (slice_get c.args.rows.now place) 0) c.saturating_sub.ensures)
+    outside
