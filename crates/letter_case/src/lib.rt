@@ -11,19 +11,25 @@ use spell_types::Chars;
 use std::alloc::Global;
 use unicode::{case, properties};
 
-/// Whether a character is upper case.
+/// Whether a character is upper case. That of an ASCII character is told by its code.
 #[tactic(auto, unfolding(spell_types::specs::Cases::is_upper))]
 pub fn is_upper(c: char) -> bool
     ensures { result ≡ is_upper c }
 {
+    if c.is_ascii() {
+        return c.is_ascii_uppercase();
+    }
     properties::is_uppercase(c)
 }
 
-/// Whether a character is lower case.
+/// Whether a character is lower case. That of an ASCII character is told by its code.
 #[tactic(auto, unfolding(spell_types::specs::Cases::is_lower))]
 pub fn is_lower(c: char) -> bool
     ensures { result ≡ is_lower c }
 {
+    if c.is_ascii() {
+        return c.is_ascii_lowercase();
+    }
     properties::is_lowercase(c)
 }
 
@@ -32,6 +38,9 @@ pub fn is_lower(c: char) -> bool
 pub fn low(c: char) -> char
     ensures { result ≡ low c }
 {
+    if c.is_ascii() {
+        return c.to_ascii_lowercase();
+    }
     if is_upper(c) { case::simple_fold(c) } else { c }
 }
 
