@@ -1,8 +1,10 @@
 -- What each part of the walk finds.
 use Rattle.std.proofs.Common.{◌≡◌, ◌∙◌, ◌↔◌, ◌⊎◌, inl, inr, refl, sym, ap, subst, ℕ, zero, suc, Bool, true, false, cond, true≢false, ◌&&◌, ◌||◌, List, [], ◌∷◌, length, map, filter, slice_get, Contains, Option, None, Some, is_none, is_some, arith}
+use Rattle.std.specs.List.{list_any}
 use Rattle.std.specs.Option.{option_map, option_map_or}
 use Rattle.std.proofs.lemmas.Bool.{and_parts, and_from}
 use Rattle.std.proofs.lemmas.List.Elements.{Contains-append_right}
+use Rattle.std.proofs.lemmas.List.Folds.{list_any_at}
 use Rattle.spell_types.specs.declared.Entry.{Entry}
 use Rattle.spell_types.specs.declared.Lexicon.{Lexicon}
 use Rattle.spell_types.specs.declared.derivations.Derivation.{Derivation}
@@ -11,15 +13,15 @@ use Rattle.spell_types.specs.declared.rules.Side.TheVariants.{Prefix, Suffix}
 use Rattle.spell_types.specs.Derivations.{affix_on, rule_on, is_right, form_of, derivation_of}
 use Rattle.spell_types.specs.Flags.{has}
 use Rattle.spell_types.specs.Licences.{is_licensed}
-use Rattle.affix_strip.specs.Parts.{stem_of, with_first, with_suffixes, with_all, Any, Outside, Passes, AtSome, Adds, From, FromAll, RuleFrom, Peels}
+use Rattle.affix_strip.specs.Parts.{put_on, stem_of, with_first, with_suffixes, with_all, Any, Outside, Passes, AtSome, From, FromAll, RuleFrom, Peels}
 use Rattle.affix_strip.specs.Peeling.{Peeled, ArePeeled, may_undo_at}
 use Rattle.affix_strip.specs.EntryTable.{AreEntriesOf}
 use Rattle.affix_strip.specs.Tables.{IsReady, may_be_outer, may_undo_outer}
 use Rattle.affix_strip.specs.declared.walk.Dictionary.{Dictionary}
-use Rattle.affix_strip.proofs.AddLemmas.{adds-none, adds-same, adds-then, some-same}
+use Rattle.affix_strip.proofs.ShowLemmas.{some-same}
 use Rattle.affix_strip.proofs.InverseLemmas.{rule_on-side}
 use Rattle.affix_strip.proofs.LicenceLemmas.{licensed-order, form-parts, IsCarrier, carrier}
-use Rattle.affix_strip.proofs.StepLemmas.{IsAffix, step-none, step-peeled}
+use Rattle.affix_strip.proofs.StepLemmas.{IsAffix, none-put, step-none, step-peeled}
 use Rattle.affix_strip.proofs.TableLemmas.{on-rule}
 
 the_first : (lexicon : Lexicon) → IsAffix lexicon Suffix (λ d. d.first)
@@ -30,6 +32,21 @@ the_second lexicon = record { right = λ d is. (licensed-order lexicon d is).sec
 
 the_prefix : (lexicon : Lexicon) → IsAffix lexicon Prefix (λ d. d.prefix)
 the_prefix lexicon = record { right = λ d is. (licensed-order lexicon d is).prefix }
+
+-- ---- one or the other
+both-ways : {P Q R : Derivation → Type 0} → ((d : Derivation) → P d ↔ Q d) → ((d : Derivation) → Q d ↔ R d) → (d : Derivation) → P d ↔ R d
+both-ways one two d = (λ holds. (two d).0 ((one d).0 holds), λ holds. (one d).1 ((two d).1 holds))
+
+one-or-other : {P Q P' Q' R : Derivation → Type 0} → ((d : Derivation) → P d ↔ P' d) → ((d : Derivation) → Q d ↔ Q' d) → ((d : Derivation) → (P' d ⊎ Q' d) ↔ R d) → (d : Derivation) → (P d ⊎ Q d) ↔ R d
+one-or-other {P} {Q} {P'} {Q'} one two both d = (λ either. (both d).0 (there either), λ holds. back ((both d).1 holds))
+  where
+    there : P d ⊎ Q d → P' d ⊎ Q' d
+    there (inl holds) = inl ((one d).0 holds)
+    there (inr holds) = inr ((two d).0 holds)
+
+    back : P' d ⊎ Q' d → P d ⊎ Q d
+    back (inl holds) = inl ((one d).1 holds)
+    back (inr holds) = inr ((two d).1 holds)
 
 -- ---- lists of named rules
 pub none-in : {X : Type 0} {x : X} → Contains [] x → ⊥
@@ -77,13 +94,17 @@ from-kept test (other ∷ places) place (suc k, within, at) passed = by (test ot
     by true inside = Contains-append_right (Some other ∷ []) (map (λ p. Some p) (filter test places)) (Some place) inside
     by false inside = inside
 
+-- one item that passes a test is enough
+one-passes : (test : ℕ → Bool) (places : List ℕ) (place : ℕ) → Contains places place → test place ≡ true → list_any test places ≡ true
+one-passes test places place (k, within, at) passed = list_any_at test places k place within (ap test at ∙ passed)
+
 -- ---- entries
 -- derivations with these affixes
 abbrev With : Option ℕ → Option ℕ → Option ℕ → Derivation → Type 0
 With prefix first second d = (d.prefix ≡ prefix) × ((d.first ≡ first) × (d.second ≡ second))
 
 -- derivations with one of these outer affixes, and this first suffix
-abbrev Around : List (Option ℕ) → Option ℕ → List (Option ℕ) → Derivation → Type 0
+abbrev pub Around : List (Option ℕ) → Option ℕ → List (Option ℕ) → Derivation → Type 0
 Around prefixes first seconds d = Outside prefixes seconds d × (d.first ≡ first)
 
 entry-of : (lexicon : Lexicon) (stem entries : List ℕ) → AreEntriesOf lexicon.entries stem entries → (d : Derivation) → stem_of lexicon d ≡ Some stem → Contains entries d.entry
@@ -115,7 +136,7 @@ from-is lexicon prefix first second stem entries are d = (λ some. there some, �
         ∙ ap (λ f. derivation_of d.entry prefix f d.second) two
         ∙ ap (derivation_of d.entry prefix first) three
 
-from-all : (lexicon : Lexicon) (prefixes : List (Option ℕ)) (first : Option ℕ) (seconds : List (Option ℕ)) (stem entries : List ℕ) → AreEntriesOf lexicon.entries stem entries
+pub from-all : (lexicon : Lexicon) (prefixes : List (Option ℕ)) (first : Option ℕ) (seconds : List (Option ℕ)) (stem entries : List ℕ) → AreEntriesOf lexicon.entries stem entries
     → (d : Derivation) → FromAll lexicon prefixes first seconds entries d ↔ Passes lexicon (Around prefixes first seconds) (stem_of lexicon) stem d
 from-all lexicon prefixes first seconds stem entries are d = (
   λ some. there some ((from-is lexicon some.item first some.is.item stem entries are d).0 some.is.is),
@@ -137,31 +158,30 @@ from-all lexicon prefixes first seconds stem entries are d = (
       at = passes.at;
     }
 
-pub around-found : (lexicon : Lexicon) (prefixes : List (Option ℕ)) (first : Option ℕ) (seconds : List (Option ℕ)) (stem entries : List ℕ) (xs ys : List Derivation) → AreEntriesOf lexicon.entries stem entries
-    → Adds (FromAll lexicon prefixes first seconds entries) xs ys → Adds (Passes lexicon (Around prefixes first seconds) (stem_of lexicon) stem) xs ys
-around-found lexicon prefixes first seconds stem entries xs ys are adds =
-    adds-same (FromAll lexicon prefixes first seconds entries) (Passes lexicon (Around prefixes first seconds) (stem_of lexicon) stem) xs ys adds (from-all lexicon prefixes first seconds stem entries are)
-
 -- ---- the first suffix
 abbrev FirstPeels : Lexicon → List (Option ℕ) → List (Option ℕ) → Peeled → Derivation → Type 0
 FirstPeels lexicon prefixes seconds = Peels lexicon Suffix (λ d. d.first) (Outside prefixes seconds) (stem_of lexicon)
 
-pub rules-found : (lexicon : Lexicon) (prefixes seconds : List (Option ℕ)) (peeled : Peeled) (entries : List ℕ) (xs ys : List Derivation) → AreEntriesOf lexicon.entries peeled.0 entries
-    → Adds (AtSome (RuleFrom lexicon prefixes seconds peeled.0 entries) peeled.1) xs ys → Adds (FirstPeels lexicon prefixes seconds peeled) xs ys
-rules-found lexicon prefixes seconds peeled entries xs ys are adds =
-    adds-same (AtSome (RuleFrom lexicon prefixes seconds peeled.0 entries) peeled.1) (FirstPeels lexicon prefixes seconds peeled) xs ys adds
-    (some-same (RuleFrom lexicon prefixes seconds peeled.0 entries)
+rules-peeled : (lexicon : Lexicon) (prefixes seconds : List (Option ℕ)) (peeled : Peeled) (entries : List ℕ) → AreEntriesOf lexicon.entries peeled.0 entries
+    → (d : Derivation) → AtSome (RuleFrom lexicon prefixes seconds peeled.0 entries) peeled.1 d ↔ FirstPeels lexicon prefixes seconds peeled d
+rules-peeled lexicon prefixes seconds peeled entries are =
+    some-same (RuleFrom lexicon prefixes seconds peeled.0 entries)
     (λ place d. (may_undo_at lexicon.affixes Suffix peeled.0 place ≡ true) × Passes lexicon (Around prefixes (Some place) seconds) (stem_of lexicon) peeled.0 d) peeled.1
     (λ place d. (
       λ both. (both.0, (from-all lexicon prefixes (Some place) seconds peeled.0 entries are d).0 both.1),
       λ both. (both.0, (from-all lexicon prefixes (Some place) seconds peeled.0 entries are d).1 both.1),
-    )))
+    ))
 
-pub no-rules-found : (lexicon : Lexicon) (prefixes seconds : List (Option ℕ)) (peeled : Peeled) (entries : List ℕ) (xs : List Derivation) → AreEntriesOf lexicon.entries peeled.0 entries → length entries ≡ 0
-    → Adds (FirstPeels lexicon prefixes seconds peeled) xs xs
-no-rules-found lexicon prefixes seconds peeled entries xs are empty =
-    adds-none (FirstPeels lexicon prefixes seconds peeled) xs
-    (λ d some. none-of entries d.entry empty (entry-of lexicon peeled.0 entries are d some.is.1.at))
+pub rules-peels : (lexicon : Lexicon) (prefixes seconds : List (Option ℕ)) (peeled : Peeled) (rest places entries : List ℕ) → rest ≡ peeled.0 → places ≡ peeled.1 → AreEntriesOf lexicon.entries peeled.0 entries
+    → (d : Derivation) → AtSome (RuleFrom lexicon prefixes seconds rest entries) places d ↔ FirstPeels lexicon prefixes seconds peeled d
+rules-peels lexicon prefixes seconds peeled rest places entries left at are =
+    subst (λ text. (d : Derivation) → AtSome (RuleFrom lexicon prefixes seconds text entries) places d ↔ FirstPeels lexicon prefixes seconds peeled d) (sym left)
+    (subst (λ ps. (d : Derivation) → AtSome (RuleFrom lexicon prefixes seconds peeled.0 entries) ps d ↔ FirstPeels lexicon prefixes seconds peeled d) (sym at)
+    (rules-peeled lexicon prefixes seconds peeled entries are))
+
+pub no-rules : (lexicon : Lexicon) (prefixes seconds : List (Option ℕ)) (peeled : Peeled) (entries : List ℕ) → AreEntriesOf lexicon.entries peeled.0 entries → length entries ≡ 0
+    → (d : Derivation) → FirstPeels lexicon prefixes seconds peeled d → ⊥
+no-rules lexicon prefixes seconds peeled entries are empty d some = none-of entries d.entry empty (entry-of lexicon peeled.0 entries are d some.is.1.at)
 
 -- one affix, or none
 either : (lexicon : Lexicon) (named : Derivation → Option ℕ) (parts : Derivation → Type 0) (way : Derivation → Option (List ℕ)) (text : List ℕ) (d : Derivation)
@@ -177,28 +197,24 @@ either lexicon named parts way text d = (λ one. there one, λ passes. back pass
     back passes (Some place) is = inr (record { licensed = passes.licensed; has = (passes.has, ap is_some is); at = passes.at })
 
 -- the same derivations by parts that are said otherwise
-other-parts : (lexicon : Lexicon) (parts others : Derivation → Type 0) (way : Derivation → Option (List ℕ)) (text : List ℕ) (xs ys : List Derivation) → ((d : Derivation) → parts d ↔ others d)
-    → Adds (Passes lexicon parts way text) xs ys → Adds (Passes lexicon others way text) xs ys
-other-parts lexicon parts others way text xs ys same adds =
-    adds-same (Passes lexicon parts way text) (Passes lexicon others way text) xs ys adds (λ d. (
-      λ passes. record { licensed = passes.licensed; has = (same d).0 passes.has; at = passes.at },
-      λ passes. record { licensed = passes.licensed; has = (same d).1 passes.has; at = passes.at },
-    ))
+other-parts : (lexicon : Lexicon) (parts others : Derivation → Type 0) (way : Derivation → Option (List ℕ)) (text : List ℕ) → ((d : Derivation) → parts d ↔ others d)
+    → (d : Derivation) → Passes lexicon parts way text d ↔ Passes lexicon others way text d
+other-parts lexicon parts others way text same d = (
+  λ passes. record { licensed = passes.licensed; has = (same d).0 passes.has; at = passes.at },
+  λ passes. record { licensed = passes.licensed; has = (same d).1 passes.has; at = passes.at },
+)
 
 -- with a first suffix
 abbrev WithFirst : List (Option ℕ) → List (Option ℕ) → Derivation → Type 0
 WithFirst prefixes seconds d = Outside prefixes seconds d × (is_some d.first ≡ true)
 
-pub firsts-found : (lexicon : Lexicon) (prefixes seconds : List (Option ℕ)) (text : List ℕ) (endings : List Peeled) (xs ys : List Derivation) → ArePeeled lexicon.affixes.rules Suffix text endings
-    → Adds (AtSome (FirstPeels lexicon prefixes seconds) endings) xs ys → Adds (Passes lexicon (WithFirst prefixes seconds) (with_first lexicon) text) xs ys
-firsts-found lexicon prefixes seconds text endings xs ys are adds =
-    adds-same (AtSome (FirstPeels lexicon prefixes seconds) endings) (Passes lexicon (WithFirst prefixes seconds) (with_first lexicon) text) xs ys adds
-    (step-peeled lexicon Suffix (λ d. d.first) (the_first lexicon) (stem_of lexicon) (Outside prefixes seconds) text endings are)
+pub firsts-passing : (lexicon : Lexicon) (prefixes seconds : List (Option ℕ)) (text : List ℕ) (endings : List Peeled) → ArePeeled lexicon.affixes.rules Suffix text endings
+    → (d : Derivation) → AtSome (FirstPeels lexicon prefixes seconds) endings d ↔ Passes lexicon (WithFirst prefixes seconds) (with_first lexicon) text d
+firsts-passing lexicon prefixes seconds text endings are =
+    step-peeled lexicon Suffix (λ d. d.first) (the_first lexicon) (stem_of lexicon) (Outside prefixes seconds) text endings are
 
-pub no-seconds-found : (lexicon : Lexicon) (prefixes seconds : List (Option ℕ)) (text : List ℕ) (xs : List Derivation) → length seconds ≡ 0 → Adds (Passes lexicon (WithFirst prefixes seconds) (with_first lexicon) text) xs xs
-no-seconds-found lexicon prefixes seconds text xs empty =
-    adds-none (Passes lexicon (WithFirst prefixes seconds) (with_first lexicon) text) xs
-    (λ d passes. none-of seconds d.second empty passes.has.0.1)
+pub no-seconds : (lexicon : Lexicon) (prefixes seconds : List (Option ℕ)) (text : List ℕ) → length seconds ≡ 0 → (d : Derivation) → Passes lexicon (WithFirst prefixes seconds) (with_first lexicon) text d → ⊥
+no-seconds lexicon prefixes seconds text empty d passes = none-of seconds d.second empty passes.has.0.1
 
 -- ---- the second suffix
 -- a rule that is a second suffix has a flag that some suffix carries
@@ -228,11 +244,15 @@ first-inside lexicon d place licensed is = sym (ap (λ n. is_none n || is_some d
 abbrev OuterPeels : Lexicon → List (Option ℕ) → Peeled → Derivation → Type 0
 OuterPeels lexicon prefixes = Peels lexicon Suffix (λ d. d.second) (λ d. Contains prefixes d.prefix) (with_first lexicon)
 
-pub outer-found : (dictionary : Dictionary) (prefixes seconds : List (Option ℕ)) (peeled : Peeled) (xs ys : List Derivation) → IsReady dictionary → seconds ≡ map (λ place. Some place) (filter (may_undo_outer dictionary peeled.0) peeled.1)
-    → Adds (Passes dictionary.lexicon (WithFirst prefixes seconds) (with_first dictionary.lexicon) peeled.0) xs ys → Adds (OuterPeels dictionary.lexicon prefixes peeled) xs ys
-outer-found dictionary prefixes seconds peeled xs ys ready are adds =
-    adds-same (Passes dictionary.lexicon (WithFirst prefixes seconds) (with_first dictionary.lexicon) peeled.0) (OuterPeels dictionary.lexicon prefixes peeled) xs ys adds
-    (λ d. (λ passes. there d passes (kept-from (may_undo_outer dictionary peeled.0) peeled.1 d.second (subst (λ ns. Contains ns d.second) are passes.has.0.1)), λ some. back d some))
+pub no-outer : (dictionary : Dictionary) (prefixes : List (Option ℕ)) (peeled : Peeled) → IsReady dictionary → list_any (may_be_outer dictionary) peeled.1 ≡ false
+    → (d : Derivation) → OuterPeels dictionary.lexicon prefixes peeled d → ⊥
+no-outer dictionary prefixes peeled ready none d some =
+    true≢false (sym (one-passes (may_be_outer dictionary) peeled.1 some.item some.among (outer-may dictionary ready d some.item some.is.1.licensed some.is.1.has.1)) ∙ none)
+
+outer-peeled : (dictionary : Dictionary) (prefixes seconds : List (Option ℕ)) (peeled : Peeled) → IsReady dictionary → seconds ≡ map (λ place. Some place) (filter (may_undo_outer dictionary peeled.0) peeled.1)
+    → (d : Derivation) → Passes dictionary.lexicon (WithFirst prefixes seconds) (with_first dictionary.lexicon) peeled.0 d ↔ OuterPeels dictionary.lexicon prefixes peeled d
+outer-peeled dictionary prefixes seconds peeled ready are d =
+    (λ passes. there d passes (kept-from (may_undo_outer dictionary peeled.0) peeled.1 d.second (subst (λ ns. Contains ns d.second) are passes.has.0.1)), λ some. back d some)
   where
     there : (d : Derivation) → Passes dictionary.lexicon (WithFirst prefixes seconds) (with_first dictionary.lexicon) peeled.0 d → IsKept (may_undo_outer dictionary peeled.0) peeled.1 d.second → OuterPeels dictionary.lexicon prefixes peeled d
     there d passes is = record {
@@ -258,54 +278,64 @@ outer-found dictionary prefixes seconds peeled xs ys ready are adds =
           at = passes.at;
         }
 
+pub outer-passing : (dictionary : Dictionary) (prefixes seconds : List (Option ℕ)) (peeled : Peeled) (inner places : List ℕ) → inner ≡ peeled.0 → places ≡ peeled.1 → IsReady dictionary
+    → seconds ≡ map (λ place. Some place) (filter (may_undo_outer dictionary inner) places)
+    → (d : Derivation) → Passes dictionary.lexicon (WithFirst prefixes seconds) (with_first dictionary.lexicon) inner d ↔ OuterPeels dictionary.lexicon prefixes peeled d
+outer-passing dictionary prefixes seconds peeled inner places left at ready are =
+    subst (λ text. (d : Derivation) → Passes dictionary.lexicon (WithFirst prefixes seconds) (with_first dictionary.lexicon) text d ↔ OuterPeels dictionary.lexicon prefixes peeled d) (sym left)
+    (outer-peeled dictionary prefixes seconds peeled ready
+    (are ∙ ap (λ text. map (λ place. Some place) (filter (may_undo_outer dictionary text) places)) left ∙ ap (λ ps. map (λ place. Some place) (filter (may_undo_outer dictionary peeled.0) ps)) at))
+
 -- derivations with one of these prefixes
 abbrev Behind : List (Option ℕ) → Derivation → Type 0
 Behind prefixes d = Contains prefixes d.prefix
 
-pub behind-found : (lexicon : Lexicon) (prefixes : List (Option ℕ)) (text : List ℕ) (endings : List Peeled) (xs ys zs us : List Derivation) → ArePeeled lexicon.affixes.rules Suffix text endings
-    → Adds (Passes lexicon (Around prefixes None (None ∷ [])) (stem_of lexicon) text) xs ys
-    → Adds (AtSome (FirstPeels lexicon prefixes (None ∷ [])) endings) ys zs
-    → Adds (AtSome (OuterPeels lexicon prefixes) endings) zs us
-    → Adds (Passes lexicon (Behind prefixes) (with_suffixes lexicon) text) xs us
-behind-found lexicon prefixes text endings xs ys zs us are bare firsts outers =
-    adds-then (Passes lexicon (λ d. Behind prefixes d × (d.second ≡ None)) (with_suffixes lexicon) text) (Passes lexicon (λ d. Behind prefixes d × (is_some d.second ≡ true)) (with_suffixes lexicon) text) (Passes lexicon (Behind prefixes) (with_suffixes lexicon) text) xs zs us
-    (adds-same (Passes lexicon (λ d. Behind prefixes d × (d.second ≡ None)) (with_first lexicon) text) (Passes lexicon (λ d. Behind prefixes d × (d.second ≡ None)) (with_suffixes lexicon) text) xs zs
-    (other-parts lexicon (Outside prefixes (None ∷ [])) (λ d. Behind prefixes d × (d.second ≡ None)) (with_first lexicon) text xs zs (λ d. (
+-- no suffix, or a first one
+pub inside-passing : (lexicon : Lexicon) (prefixes : List (Option ℕ)) (text : List ℕ) (endings : List Peeled) → ArePeeled lexicon.affixes.rules Suffix text endings
+    → (d : Derivation) → (Passes lexicon (Around prefixes None (None ∷ [])) (stem_of lexicon) text d ⊎ AtSome (FirstPeels lexicon prefixes (None ∷ [])) endings d) ↔ Passes lexicon (Outside prefixes (None ∷ [])) (with_first lexicon) text d
+inside-passing lexicon prefixes text endings are =
+    one-or-other (step-none lexicon Suffix (λ d. d.first) (the_first lexicon) (stem_of lexicon) (Around prefixes None (None ∷ [])) (λ d has. has.1) text)
+    (firsts-passing lexicon prefixes (None ∷ []) text endings are)
+    (either lexicon (λ d. d.first) (Outside prefixes (None ∷ [])) (with_first lexicon) text)
+
+-- no second suffix, or one
+pub behind-passing : (lexicon : Lexicon) (prefixes : List (Option ℕ)) (text : List ℕ) (endings : List Peeled) → ArePeeled lexicon.affixes.rules Suffix text endings
+    → (d : Derivation) → (Passes lexicon (Outside prefixes (None ∷ [])) (with_first lexicon) text d ⊎ AtSome (OuterPeels lexicon prefixes) endings d) ↔ Passes lexicon (Behind prefixes) (with_suffixes lexicon) text d
+behind-passing lexicon prefixes text endings are =
+    one-or-other
+    (both-ways (other-parts lexicon (Outside prefixes (None ∷ [])) (λ d. Behind prefixes d × (d.second ≡ None)) (with_first lexicon) text (λ d. (
       λ has. (has.0, (only-none d.second).0 has.1),
       λ has. (has.0, (only-none d.second).1 has.1),
-    )) inside)
+    )))
     (step-none lexicon Suffix (λ d. d.second) (the_second lexicon) (with_first lexicon) (λ d. Behind prefixes d × (d.second ≡ None)) (λ d has. has.1) text))
-    (adds-same (AtSome (OuterPeels lexicon prefixes) endings) (Passes lexicon (λ d. Behind prefixes d × (is_some d.second ≡ true)) (with_suffixes lexicon) text) zs us outers
-    (step-peeled lexicon Suffix (λ d. d.second) (the_second lexicon) (with_first lexicon) (Behind prefixes) text endings are))
+    (step-peeled lexicon Suffix (λ d. d.second) (the_second lexicon) (with_first lexicon) (Behind prefixes) text endings are)
     (either lexicon (λ d. d.second) (Behind prefixes) (with_suffixes lexicon) text)
-  where
-    inside : Adds (Passes lexicon (Outside prefixes (None ∷ [])) (with_first lexicon) text) xs zs
-    inside =
-        adds-then (Passes lexicon (Around prefixes None (None ∷ [])) (with_first lexicon) text) (Passes lexicon (WithFirst prefixes (None ∷ [])) (with_first lexicon) text) (Passes lexicon (Outside prefixes (None ∷ [])) (with_first lexicon) text) xs ys zs
-        (adds-same (Passes lexicon (Around prefixes None (None ∷ [])) (stem_of lexicon) text) (Passes lexicon (Around prefixes None (None ∷ [])) (with_first lexicon) text) xs ys bare
-        (step-none lexicon Suffix (λ d. d.first) (the_first lexicon) (stem_of lexicon) (Around prefixes None (None ∷ [])) (λ d has. has.1) text))
-        (firsts-found lexicon prefixes (None ∷ []) text endings ys zs are firsts)
-        (either lexicon (λ d. d.first) (Outside prefixes (None ∷ [])) (with_first lexicon) text)
 
-pub no-prefixes-found : (lexicon : Lexicon) (prefixes : List (Option ℕ)) (text : List ℕ) (xs : List Derivation) → length prefixes ≡ 0 → Adds (Passes lexicon (Behind prefixes) (with_suffixes lexicon) text) xs xs
-no-prefixes-found lexicon prefixes text xs empty =
-    adds-none (Passes lexicon (Behind prefixes) (with_suffixes lexicon) text) xs (λ d passes. none-of prefixes d.prefix empty passes.has)
+-- without suffixes it is one of them
+pub bare-inside : (lexicon : Lexicon) (prefixes : List (Option ℕ)) (text : List ℕ) (d : Derivation) → Passes lexicon (Around prefixes None (None ∷ [])) (stem_of lexicon) text d → Passes lexicon (Behind prefixes) (with_suffixes lexicon) text d
+bare-inside lexicon prefixes text d passes =
+    let inside = (step-none lexicon Suffix (λ d. d.first) (the_first lexicon) (stem_of lexicon) (Around prefixes None (None ∷ [])) (λ d has. has.1) text d).0 passes in
+    let alone : Passes lexicon (λ d. Behind prefixes d × (d.second ≡ None)) (with_first lexicon) text d = record { licensed = inside.licensed; has = (inside.has.0.0, (only-none d.second).0 inside.has.0.1); at = inside.at } in
+    let all = (step-none lexicon Suffix (λ d. d.second) (the_second lexicon) (with_first lexicon) (λ d. Behind prefixes d × (d.second ≡ None)) (λ d has. has.1) text d).0 alone in
+    record { licensed = all.licensed; has = all.has.0; at = all.at }
+
+pub no-prefixes : (lexicon : Lexicon) (prefixes : List (Option ℕ)) (text : List ℕ) → length prefixes ≡ 0 → (d : Derivation) → Passes lexicon (Behind prefixes) (with_suffixes lexicon) text d → ⊥
+no-prefixes lexicon prefixes text empty d passes = none-of prefixes d.prefix empty passes.has
 
 -- ---- the prefix
 abbrev FrontPeels : Lexicon → Peeled → Derivation → Type 0
 FrontPeels lexicon = Peels lexicon Prefix (λ d. d.prefix) Any (with_suffixes lexicon)
 
-pub front-found : (lexicon : Lexicon) (prefixes : List (Option ℕ)) (peeled : Peeled) (xs ys : List Derivation) → prefixes ≡ map (λ place. Some place) (filter (may_undo_at lexicon.affixes Prefix peeled.0) peeled.1)
-    → Adds (Passes lexicon (Behind prefixes) (with_suffixes lexicon) peeled.0) xs ys → Adds (FrontPeels lexicon peeled) xs ys
-front-found lexicon prefixes peeled xs ys are adds =
-    adds-same (Passes lexicon (Behind prefixes) (with_suffixes lexicon) peeled.0) (FrontPeels lexicon peeled) xs ys adds
-    (λ d. (λ passes. there d passes (kept-from (may_undo_at lexicon.affixes Prefix peeled.0) peeled.1 d.prefix (subst (λ ns. Contains ns d.prefix) are passes.has)), λ some. back d some))
+front-peeled : (lexicon : Lexicon) (prefixes : List (Option ℕ)) (peeled : Peeled) → prefixes ≡ map (λ place. Some place) (filter (may_undo_at lexicon.affixes Prefix peeled.0) peeled.1)
+    → (d : Derivation) → Passes lexicon (Behind prefixes) (with_suffixes lexicon) peeled.0 d ↔ FrontPeels lexicon peeled d
+front-peeled lexicon prefixes peeled are d =
+    (λ passes. there d passes (kept-from (may_undo_at lexicon.affixes Prefix peeled.0) peeled.1 d.prefix (subst (λ ns. Contains ns d.prefix) are passes.has)), λ some. back d some)
   where
     there : (d : Derivation) → Passes lexicon (Behind prefixes) (with_suffixes lexicon) peeled.0 d → IsKept (may_undo_at lexicon.affixes Prefix peeled.0) peeled.1 d.prefix → FrontPeels lexicon peeled d
     there d passes is = record {
       item = is.place;
       among = is.among;
-      is = (is.passed, record { licensed = passes.licensed; has = (refl, is.is); at = passes.at });
+      is = (is.passed, record { licensed = passes.licensed; has = (tt, is.is); at = passes.at });
     }
 
     back : (d : Derivation) → FrontPeels lexicon peeled d → Passes lexicon (Behind prefixes) (with_suffixes lexicon) peeled.0 d
@@ -318,38 +348,53 @@ front-found lexicon prefixes peeled xs ys are adds =
           at = passes.at;
         }
 
+pub front-passing : (lexicon : Lexicon) (prefixes : List (Option ℕ)) (peeled : Peeled) (rest places : List ℕ) → rest ≡ peeled.0 → places ≡ peeled.1
+    → prefixes ≡ map (λ place. Some place) (filter (may_undo_at lexicon.affixes Prefix rest) places)
+    → (d : Derivation) → Passes lexicon (Behind prefixes) (with_suffixes lexicon) rest d ↔ FrontPeels lexicon peeled d
+front-passing lexicon prefixes peeled rest places left at are =
+    subst (λ text. (d : Derivation) → Passes lexicon (Behind prefixes) (with_suffixes lexicon) text d ↔ FrontPeels lexicon peeled d) (sym left)
+    (front-peeled lexicon prefixes peeled
+    (are ∙ ap (λ text. map (λ place. Some place) (filter (may_undo_at lexicon.affixes Prefix text) places)) left ∙ ap (λ ps. map (λ place. Some place) (filter (may_undo_at lexicon.affixes Prefix peeled.0) ps)) at))
+
 -- ---- all
 -- licensed, and of this form
-abbrev Gives : Lexicon → List ℕ → Derivation → Type 0
+abbrev pub Gives : Lexicon → List ℕ → Derivation → Type 0
 Gives lexicon text d = (is_licensed lexicon d ≡ true) × (form_of lexicon d ≡ Some text)
 
 gives-passes : (lexicon : Lexicon) (text : List ℕ) (d : Derivation) → Passes lexicon Any (with_all lexicon) text d ↔ Gives lexicon text d
 gives-passes lexicon text d = (
   λ passes. (passes.licensed, form-parts lexicon d passes.licensed ∙ passes.at),
-  λ gives. record { licensed = gives.0; has = refl; at = sym (form-parts lexicon d gives.0) ∙ gives.1 },
+  λ gives. record { licensed = gives.0; has = tt; at = sym (form-parts lexicon d gives.0) ∙ gives.1 },
 )
 
-pub all-found : (lexicon : Lexicon) (text : List ℕ) (fronts : List Peeled) (ys zs : List Derivation) → ArePeeled lexicon.affixes.rules Prefix text fronts
-    → Adds (Passes lexicon (Behind (None ∷ [])) (with_suffixes lexicon) text) [] ys
-    → Adds (AtSome (FrontPeels lexicon) fronts) ys zs
-    → (d : Derivation) → Contains zs d ↔ ((is_licensed lexicon d ≡ true) × (form_of lexicon d ≡ Some text))
-all-found lexicon text fronts ys zs are one two = λ d. (λ inside. there d ((found.are d).0 inside), λ gives. (found.are d).1 (inr gives))
-  where
-    found : Adds (Gives lexicon text) [] zs
-    found =
-        adds-same (Passes lexicon Any (with_all lexicon) text) (Gives lexicon text) [] zs
-        (adds-then (Passes lexicon (λ d. Any d × (d.prefix ≡ None)) (with_all lexicon) text) (Passes lexicon (λ d. Any d × (is_some d.prefix ≡ true)) (with_all lexicon) text) (Passes lexicon Any (with_all lexicon) text) [] ys zs
-        (adds-same (Passes lexicon (λ d. Any d × (d.prefix ≡ None)) (with_suffixes lexicon) text) (Passes lexicon (λ d. Any d × (d.prefix ≡ None)) (with_all lexicon) text) [] ys
-        (other-parts lexicon (Behind (None ∷ [])) (λ d. Any d × (d.prefix ≡ None)) (with_suffixes lexicon) text [] ys (λ d. (
-          λ inside. (refl, (only-none d.prefix).0 inside),
-          λ has. (only-none d.prefix).1 has.1,
-        )) one)
-        (step-none lexicon Prefix (λ d. d.prefix) (the_prefix lexicon) (with_suffixes lexicon) (λ d. Any d × (d.prefix ≡ None)) (λ d has. has.1) text))
-        (adds-same (AtSome (FrontPeels lexicon) fronts) (Passes lexicon (λ d. Any d × (is_some d.prefix ≡ true)) (with_all lexicon) text) ys zs two
-        (step-peeled lexicon Prefix (λ d. d.prefix) (the_prefix lexicon) (with_suffixes lexicon) Any text fronts are))
-        (either lexicon (λ d. d.prefix) Any (with_all lexicon) text))
-        (gives-passes lexicon text)
+pub all-passing : (lexicon : Lexicon) (text : List ℕ) (fronts : List Peeled) → ArePeeled lexicon.affixes.rules Prefix text fronts
+    → (d : Derivation) → (Passes lexicon (Behind (None ∷ [])) (with_suffixes lexicon) text d ⊎ AtSome (FrontPeels lexicon) fronts d) ↔ Gives lexicon text d
+all-passing lexicon text fronts are =
+    both-ways
+    (one-or-other
+    (both-ways (other-parts lexicon (Behind (None ∷ [])) (λ d. Any d × (d.prefix ≡ None)) (with_suffixes lexicon) text (λ d. (
+      λ inside. (tt, (only-none d.prefix).0 inside),
+      λ has. (only-none d.prefix).1 has.1,
+    )))
+    (step-none lexicon Prefix (λ d. d.prefix) (the_prefix lexicon) (with_suffixes lexicon) (λ d. Any d × (d.prefix ≡ None)) (λ d has. has.1) text))
+    (step-peeled lexicon Prefix (λ d. d.prefix) (the_prefix lexicon) (with_suffixes lexicon) Any text fronts are)
+    (either lexicon (λ d. d.prefix) Any (with_all lexicon) text))
+    (gives-passes lexicon text)
 
-    there : (d : Derivation) → Contains [] d ⊎ Gives lexicon text d → Gives lexicon text d
-    there d (inl inside) = absurd (none-in inside)
-    there d (inr gives) = gives
+-- without a prefix it is one of them
+pub none-gives : (lexicon : Lexicon) (text : List ℕ) (d : Derivation) → Passes lexicon (Behind (None ∷ [])) (with_suffixes lexicon) text d → Gives lexicon text d
+none-gives lexicon text d passes =
+    let all = (step-none lexicon Prefix (λ d. d.prefix) (the_prefix lexicon) (with_suffixes lexicon) (Behind (None ∷ [])) (λ d has. (only-none d.prefix).0 has) text d).0 passes in
+    (all.licensed, form-parts lexicon d all.licensed ∙ all.at)
+
+-- one without affixes is found at the word itself
+pub gives-bare : (lexicon : Lexicon) (text : List ℕ) (d : Derivation) → (d.prefix ≡ None) × ((d.first ≡ None) × (d.second ≡ None)) → Gives lexicon text d → Passes lexicon (Around (None ∷ []) None (None ∷ [])) (stem_of lexicon) text d
+gives-bare lexicon text d (prefix, (first, second)) gives = record {
+  licensed = gives.0;
+  has = (((only-none d.prefix).1 prefix, (only-none d.second).1 second), first);
+  at =
+      sym (none-put lexicon Suffix (stem_of lexicon d)) ∙ sym (ap (λ n. put_on lexicon Suffix n (stem_of lexicon d)) first)
+      ∙ sym (none-put lexicon Suffix (with_first lexicon d)) ∙ sym (ap (λ n. put_on lexicon Suffix n (with_first lexicon d)) second)
+      ∙ sym (none-put lexicon Prefix (with_suffixes lexicon d)) ∙ sym (ap (λ n. put_on lexicon Prefix n (with_suffixes lexicon d)) prefix)
+      ∙ sym (form-parts lexicon d gives.0) ∙ gives.1;
+}

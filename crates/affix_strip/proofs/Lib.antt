@@ -1,4 +1,5 @@
-pub mod AddLemmas
+pub mod ShowLemmas
+pub mod BarringLemmas
 pub mod EntryLemmas
 pub mod FoundLemmas
 pub mod InverseLemmas
@@ -7,6 +8,7 @@ pub mod MemberLemmas
 pub mod OrderLemmas
 pub mod PeelLemmas
 pub mod PlaceLemmas
+pub mod QuestionLemmas
 pub mod SameLemmas
 pub mod StepLemmas
 pub mod TableLemmas

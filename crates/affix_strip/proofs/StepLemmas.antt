@@ -12,7 +12,7 @@ use Rattle.affix_strip.proofs.UndoneWords.{undone_at}
 use Rattle.affix_strip.proofs.InverseLemmas.{undone_at-inverse}
 use Rattle.affix_strip.proofs.PeelLemmas.{leaves-undone, undone-had}
 
-none-put : (lexicon : Lexicon) (side : Side) (word : Option (List ℕ)) → put_on lexicon side None word ≡ word
+pub none-put : (lexicon : Lexicon) (side : Side) (word : Option (List ℕ)) → put_on lexicon side None word ≡ word
 none-put lexicon side None = refl
 none-put lexicon side (Some word) = refl
 

@@ -1,5 +1,5 @@
 -- The tables of a dictionary: one rule more; and which places they give.
-use Rattle.std.proofs.Common.{◌≡◌, ◌∙◌, ◌⊎◌, inl, inr, refl, sym, ap, subst, ℕ, zero, suc, ◌+◌, ◌<◌, Bool, true, false, cond, ◌&&◌, ◌||◌, true≢false, List, [], ◌∷◌, ◌++◌, length, take, get_or, nat_eq, slice_get, Contains, None, Some, if◌then◌else◌, Vec, Global, arith}
+use Rattle.std.proofs.Common.{◌≡◌, ◌∙◌, ◌⊎◌, inl, inr, refl, sym, ap, subst, ℕ, zero, suc, ◌+◌, ◌<◌, Bool, true, false, cond, ◌&&◌, ◌||◌, true≢false, List, [], ◌∷◌, ◌++◌, length, take, get_or, nat_eq, slice_get, Contains, None, Some, if◌then◌else◌, eq-eqb, Vec, Global, arith}
 use Rattle.std.specs.Cmp.Lexicographic.{pointwise}
 use Rattle.std.specs.List.{starts_with, ends_with}
 use Rattle.std.proofs.lemmas.Bool.{and_parts}
@@ -17,11 +17,11 @@ use Rattle.spell_types.specs.Attaching.{may_strip}
 use Rattle.spell_types.specs.Conditions.{fits_front, fits_back}
 use Rattle.spell_types.specs.Derivations.{is_same_side, rule_on}
 use Rattle.spell_types.specs.Flags.{has, put, put_all}
-use Rattle.spell_types.proofs.FlagLemmas.{put_all-has}
+use Rattle.spell_types.proofs.FlagLemmas.{put-has, put_all-has}
 use Rattle.affix_classes.specs.Undoing.{undone_suffix, undone_prefix, suffix_put_back, prefix_put_back}
 use Rattle.affix_tables.specs.Places.{suffix_places, prefix_places}
 use Rattle.affix_tables.proofs.LawLemmas.{suffix-members, prefix-members}
-use Rattle.affix_strip.specs.Tables.{HasCarried}
+use Rattle.affix_strip.specs.Tables.{HasCarried, HasClasses}
 use Rattle.affix_strip.proofs.UndoneWords.{undone_at}
 use Rattle.affix_strip.proofs.InverseLemmas.{rule_on-side}
 
@@ -65,6 +65,22 @@ carried-more rules rule before now holds is = record {
     by {place} {other} flag (inl at) side carries = kept flag (is_same_side Suffix rule.side) (holds.flags place other flag at side carries)
     by {place} {other} flag (inr (at, same)) side carries =
         added flag rule.side (ap (λ (r : Rule). r.side) same ∙ side) (subst (λ (r : Rule). has r.carried (Some flag) ≡ true) (sym same) carries)
+
+-- ---- the flags of classes
+or-true : (b : Bool) → (b || true) ≡ true
+or-true true = refl
+or-true false = refl
+
+pub classes-more : (rules : List Rule) (rule : Rule) (before now : List Flag) → HasClasses rules before → now ≡ put rule.flag before → HasClasses (rules ++ rule ∷ []) now
+classes-more rules rule before now holds is = record { flags = λ place other at. by (get-more rules rule place other at) }
+  where
+    has-now : (asked : Flag) → has now (Some asked) ≡ (nat_eq rule.flag.0 asked.0 || has before (Some asked))
+    has-now asked = ap (λ set. has set (Some asked)) is ∙ put-has rule.flag before asked
+
+    by : {place : ℕ} {other : Rule} → (slice_get rules place ≡ Some other) ⊎ ((place ≡ length rules) × (rule ≡ other)) → has now (Some other.flag) ≡ true
+    by {place} {other} (inl at) = has-now other.flag ∙ ap (λ b. nat_eq rule.flag.0 other.flag.0 || b) (holds.flags place other at) ∙ or-true (nat_eq rule.flag.0 other.flag.0)
+    by {place} {other} (inr (at, same)) =
+        has-now other.flag ∙ ap (λ b. b || has before (Some other.flag)) (eq-eqb rule.flag.0 other.flag.0 (ap (λ (r : Rule). r.flag.0) same))
 
 put_all-more : (set flags : List Flag) (flag : Flag) → put_all set (flags ++ flag ∷ []) ≡ put flag (put_all set flags)
 put_all-more set [] flag = refl

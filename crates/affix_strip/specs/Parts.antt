@@ -1,5 +1,5 @@
 -- The words on the way from an entry to the form of its derivation, and derivations that are found by them.
-use Rattle.std.specs.Prelude.{◌≡◌, ◌↔◌, ◌⊎◌, ℕ, true, List, slice_get, Contains, Option, Some, option_and_then}
+use Rattle.std.specs.Prelude.{◌≡◌, ◌↔◌, ◌⊎◌, ℕ, Bool, true, false, List, slice_get, Contains, Option, Some, option_and_then}
 use Rattle.std.specs.Option.{option_map}
 use Rattle.spell_types.specs.declared.Lexicon.{Lexicon}
 use Rattle.spell_types.specs.declared.derivations.Derivation.{Derivation}
@@ -42,13 +42,30 @@ pub record AtSome {X : Type 0} (holds : X → Derivation → Type 0) (items : Li
   pub among : Contains items item
   pub is : holds item d
 
--- the second list has those of the first and those for which this holds, and no others
-pub record Adds (holds : Derivation → Type 0) (before now : List Derivation) : Type 0 where
-  pub are : (d : Derivation) → Contains now d ↔ (Contains before d ⊎ holds d)
+-- what a visitor has let pass, and at what it ends the walk
+pub record Sight : Type 1 where
+  pub passed : Derivation → Type 0
+  pub ends : Derivation → Type 0
+
+-- a visitor that seeks a derivation which passes a test
+abbrev pub sees_by : (Derivation → Bool) → Sight
+sees_by passes = record { passed = λ d. passes d ≡ false; ends = λ d. passes d ≡ true }
+
+-- one for which this holds ends the walk
+pub record IsEnd (holds : Derivation → Type 0) (sight : Sight) : Type 0 where
+  pub at : Derivation
+  pub sought : holds at
+  pub ends : sight.ends at
+
+-- What a visitor was shown: the walk is over, and one for which this holds ended it; or it has let pass all of those, beside what it had let pass before, and no others, and ends the walk where it did before.
+pub record Shows (holds : Derivation → Type 0) (before now : Sight) (is_over : Bool) : Type 0 where
+  pub ended : is_over ≡ true → IsEnd holds before
+  pub passed : is_over ≡ false → (d : Derivation) → now.passed d ↔ (before.passed d ⊎ holds d)
+  pub same : is_over ≡ false → (d : Derivation) → before.ends d ↔ now.ends d
 
 -- each derivation
 abbrev pub Any : Derivation → Type 0
-Any d = d ≡ d
+Any d = Unit {0}
 
 -- the prefix, or none, is among these, and so is the second suffix
 abbrev pub Outside : List (Option ℕ) → List (Option ℕ) → Derivation → Type 0

@@ -1,6 +1,9 @@
 -- What the tables of a dictionary hold.
 use Rattle.std.specs.Prelude.{◌≡◌, ℕ, Bool, true, false, ◌&&◌, List, slice_get, Some}
+use Rattle.std.specs.List.{list_any}
 use Rattle.std.specs.Option.{option_map_or}
+use Rattle.spell_types.specs.declared.Entry.{Entry}
+use Rattle.spell_types.specs.declared.Lexicon.{Lexicon}
 use Rattle.spell_types.specs.declared.flags.Flag.{Flag}
 use Rattle.spell_types.specs.declared.rules.Rule.{Rule}
 use Rattle.spell_types.specs.declared.rules.Side.TheVariants.{Suffix}
@@ -8,17 +11,51 @@ use Rattle.spell_types.specs.Flags.{has}
 use Rattle.affix_tables.specs.Tables.{IsTableOf}
 use Rattle.affix_strip.specs.EntryTable.{HasEntries}
 use Rattle.affix_strip.specs.Peeling.{may_undo_at}
+use Rattle.affix_strip.specs.declared.barring.Barring.{Barring}
+use Rattle.affix_strip.specs.declared.barring.Barring.TheVariants.{Nowhere, AtEntries, AtForms}
 use Rattle.affix_strip.specs.declared.walk.Dictionary.{Dictionary}
 
 -- the set has each flag that a suffix rule carries
 pub record HasCarried (rules : List Rule) (set : List Flag) : Type 0 where
   pub flags : (place : ℕ) (rule : Rule) (flag : Flag) → slice_get rules place ≡ Some rule → rule.side ≡ Suffix → has rule.carried (Some flag) ≡ true → has set (Some flag) ≡ true
 
+-- the set has the flag of each rule's class
+pub record HasClasses (rules : List Rule) (set : List Flag) : Type 0 where
+  pub flags : (place : ℕ) (rule : Rule) → slice_get rules place ≡ Some rule → has set (Some rule.flag) ≡ true
+
+-- whether the set has one of these flags
+abbrev pub has_flag_of : List Flag → List Flag → Bool
+has_flag_of set flags = list_any (λ flag. has set (Some flag)) flags
+
+-- whether the entry is forbidden
+abbrev pub is_forbidden_entry : Lexicon → Entry → Bool
+is_forbidden_entry lexicon entry = has entry.flags lexicon.affixes.signs.forbidden
+
+-- whether it is, and has one of the flags of classes
+abbrev pub takes_affixes : Lexicon → List Flag → Entry → Bool
+takes_affixes lexicon classes entry = is_forbidden_entry lexicon entry && has_flag_of classes entry.flags
+
+-- it holds of each forbidden entry
+abbrev pub OfForbidden : Lexicon → (Entry → Type 0) → Type 0
+OfForbidden lexicon holds =
+    (place : ℕ) (entry : Entry) → slice_get lexicon.entries place ≡ Some entry → is_forbidden_entry lexicon entry ≡ true → holds entry
+
+-- the entry allows no affix
+abbrev pub AllowsNone : List Rule → Entry → Type 0
+AllowsNone rules entry = (place : ℕ) (rule : Rule) → slice_get rules place ≡ Some rule → has entry.flags (Some rule.flag) ≡ false
+
+-- where the derivations of forbidden words are found
+abbrev pub IsBarring : Lexicon → Barring → Type 0
+IsBarring lexicon Nowhere = OfForbidden lexicon (λ entry. ⊥)
+IsBarring lexicon AtEntries = OfForbidden lexicon (AllowsNone lexicon.affixes.rules)
+IsBarring lexicon AtForms = Unit {0}
+
 -- the tables are those of the dictionary
 pub record IsReady (dictionary : Dictionary) : Type 0 where
   pub rules : IsTableOf dictionary.lexicon.affixes.rules dictionary.rules
   pub entries : HasEntries dictionary.lexicon.entries dictionary.by_word
   pub carried : HasCarried dictionary.lexicon.affixes.rules dictionary.carried
+  pub barring : IsBarring dictionary.lexicon dictionary.barring
 
 -- whether the flag of the rule with a place is among those that suffix rules carry
 abbrev pub may_be_outer : Dictionary → ℕ → Bool

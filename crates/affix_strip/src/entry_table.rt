@@ -54,21 +54,23 @@ impl EntryTable {
         Ok(())
     }
 
-    /// The places of the entries of a word, from the last one on.
+    /// The places of the entries whose word is `front` and `back` joined, from the last one on.
     pub(crate) fn places_of(
         &self,
         alloc: Global,
         entries: &[Entry],
-        word: &[char],
+        front: &[char],
+        back: &[char],
     ) -> Result<Vec<u32>, NoMemory>
         requires { HasEntries entries.now self.now }
-        ensures { IfOk result (λ places. AreEntriesOf entries.now word.now places.items) }
+        ensures { IfOk result (λ places. AreEntriesOf entries.now (front.now ++ back.now) places.items) }
     {
         let mut places = Vec::new(alloc);
-        let mut next = self.last_of(entries, fold(START, word), word, &[]);
+        let hash = fold(fold(START, front), back);
+        let mut next = self.last_of(entries, hash, front, back);
         while let Some(place) = next {
             places.push(place)?;
-            next = self.before(entries, place, word, &[]);
+            next = self.before(entries, place, front, back);
         }
         Ok(places)
     }

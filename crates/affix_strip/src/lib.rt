@@ -1,18 +1,23 @@
 //! The derivations of a word, found by undoing its affixes.
 #![tactic(auto)]
 
-ghost use Rattle.std.specs.Prelude.{◌≡◌, ◌↔◌, ◌^◌, ◌<◌, ℕ, List, Some, true, length, Contains, OnOk, IfOk};
+ghost use Rattle.std.specs.Prelude.{◌≡◌, ◌↔◌, ℕ, List, Some, true, Contains, IfOk};
+ghost use Rattle.std.specs.List.{list_any};
 ghost use Rattle.spell_types.specs.declared.Lexicon.{Lexicon};
 ghost use Rattle.spell_types.specs.declared.derivations.Derivation.{Derivation};
 ghost use Rattle.spell_types.specs.Derivations.{form_of};
-ghost use Rattle.spell_types.specs.Licences.{is_licensed};
+ghost use Rattle.spell_types.specs.Bases.{is_alone_in_case};
+ghost use Rattle.spell_types.specs.Licences.{is_licensed, is_forbidden};
 ghost use Rattle.spell_types.specs.Sanity.{IsSane};
 ghost use Rattle.affix_strip.specs.Found.{derivations_of, derivation_cmp, AreInOrder};
 
+mod barring;
 mod entry_table;
 mod peeling;
+mod rule_flags;
 #[cfg(test)]
 mod tests;
+mod visiting;
 mod walk;
 
 use lists::NoMemory;
@@ -20,6 +25,7 @@ use spell_types::{Derivation, Lexicon};
 use std::alloc::Global;
 use std::cmp::Ordering;
 use std::marker::Model;
+use visiting::Alone;
 use walk::Dictionary;
 
 /// A dictionary, ready to be asked for the derivations of words. Contracts see it as the dictionary.
@@ -64,9 +70,37 @@ impl Stems {
     pub fn derivations(&self, alloc: Global, word: &[char]) -> Result<Vec<Derivation>, NoMemory>
         ensures { IfOk result (λ found. found.items ≡ derivations_of self.now word.now) }
     {
-        let mut found = self.dictionary.find_all(alloc, word)?;
+        let mut found = Vec::new(alloc);
+        self.dictionary.visit_all(alloc, word, &mut found)?;
         put_in_order(&mut found);
         Ok(found)
+    }
+
+    /// Whether a word is forbidden: one of its derivations is that of a forbidden word.
+    pub fn is_barred(&self, alloc: Global, word: &[char]) -> Result<bool, NoMemory>
+        ensures { IfOk result (λ answer.
+            answer ≡ list_any (is_forbidden self.now) (derivations_of self.now word.now)) }
+    {
+        self.dictionary.is_barred(alloc, word)
+    }
+
+    /// Whether one of the derivations of a spelling stands as a word where a word is written so. It is looked for among entries
+    /// first, then with one suffix, with two, and last with a prefix, and no further than to the first.
+    pub fn is_alone(
+        &self,
+        alloc: Global,
+        written: &[char],
+        spelling: &[char],
+    ) -> Result<bool, NoMemory>
+        ensures { IfOk result (λ answer. answer
+            ≡ list_any (is_alone_in_case written.now spelling.now self.now) (derivations_of self.now spelling.now)) }
+    {
+        let test = Alone {
+            written,
+            spelling,
+            lexicon: &self.dictionary.lexicon,
+        };
+        self.dictionary.one_passes(alloc, spelling, test)
     }
 }
 

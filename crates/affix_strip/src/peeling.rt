@@ -1,6 +1,6 @@
 //! Affixes peeled off words, by groups of rules.
 
-ghost use Rattle.std.specs.Prelude.{◌≡◌, ◌++◌, ◌≤◌, ℕ, List, [], ◌∷◌, length, map, slice_get, Contains, OnOk, IfOk};
+ghost use Rattle.std.specs.Prelude.{◌≡◌, ◌++◌, ◌≤◌, ℕ, List, length, map, OnOk, IfOk};
 ghost use Rattle.spell_types.specs.declared.rules.Rule.{Rule};
 ghost use Rattle.affix_tables.specs.Groups.{AreGroups};
 ghost use Rattle.affix_tables.specs.Tables.{IsTableOf};
@@ -13,31 +13,57 @@ use std::alloc::Global;
 use std::marker::Model;
 
 /// A word without the affix of a group of rules, which all add and strip off the same. Whether one of them may be undone is
-/// not looked at.
+/// not looked at. What is left is what is kept of the word and what the rules strip off, and is not joined before it must be.
 #[derive(Drop)]
 pub(crate) struct Peeled<'a> {
-    rest: Vec<char>,
+    front: &'a [char],
+    back: &'a [char],
     places: &'a [u32],
 }
 
 impl<'a> Model for Peeled<'a> {
-    ghost use Rattle.std.specs.Prelude.{ℕ, List};
+    ghost use Rattle.std.specs.Prelude.{ℕ, List, ◌++◌};
 
     ghost Value = { List ℕ × List ℕ };
 
-    ghost view = { λ inside. (inside.rest.items, inside.places.now) };
+    ghost view = { λ inside. (inside.front.now ++ inside.back.now, inside.places.now) };
 }
 
 impl<'a> Peeled<'a> {
-    /// What the rules may have been attached to.
-    pub(crate) fn rest(&self) -> &[char]
-        ensures { result.now ≡ self.now.0 }
+    /// What a group of rules leaves, of which so much is kept.
+    fn new(side: Side, kept: &'a [char], strip: &'a [char], places: &'a [u32]) -> Peeled<'a>
+        ensures { result ≡ (join side kept.now strip.now, places.now) }
     {
-        self.rest.as_slice()
+        let (front, back) = match side {
+            Side::Prefix => (strip, kept),
+            Side::Suffix => (kept, strip),
+        };
+        Peeled {
+            front,
+            back,
+            places,
+        }
+    }
+
+    /// What the rules may have been attached to, in two parts.
+    pub(crate) fn parts(&self) -> (&'a [char], &'a [char])
+        ensures { result.0.now ++ result.1.now ≡ self.now.0 }
+    {
+        (self.front, self.back)
+    }
+
+    /// The same as one text.
+    pub(crate) fn joined(&self, alloc: Global) -> Result<Vec<char>, NoMemory>
+        ensures { IfOk result (λ text. text.items ≡ self.now.0) }
+    {
+        let mut text = Vec::with_capacity(alloc, self.front.len() + self.back.len())?;
+        text.extend_from_slice(self.front)?;
+        text.extend_from_slice(self.back)?;
+        Ok(text)
     }
 
     /// The places of the rules.
-    pub(crate) fn places(&self) -> &[u32]
+    pub(crate) fn places(&self) -> &'a [u32]
         ensures { result.now ≡ self.now.1 }
     {
         self.places
@@ -49,7 +75,7 @@ pub(crate) fn peel<'a>(
     alloc: Global,
     tables: &'a AffixTables,
     side: Side,
-    word: &[char],
+    word: &'a [char],
 ) -> Result<Vec<Peeled<'a>>, NoMemory>
     ensures { (rules : List Rule) → IsTableOf rules tables.now
         → IfOk result (λ found. ArePeeled rules side word.now found.items) }
@@ -57,7 +83,7 @@ pub(crate) fn peel<'a>(
     let mut found = Vec::new(alloc);
     for count in 0..longest(tables, side).min(word.len()) + 1 {
         let (added, kept) = cut(side, word, count);
-        add_groups(alloc, side, &groups(tables, side, added), kept, &mut found)?;
+        add_groups(side, &groups(tables, side, added), kept, &mut found)?;
     }
     Ok(found)
 }
@@ -99,31 +125,16 @@ fn cut<'a>(side: Side, word: &'a [char], count: usize) -> (&'a [char], &'a [char
 
 /// Adds what each of the groups leaves of a word, of which so much is kept.
 fn add_groups<'a>(
-    alloc: Global,
     side: Side,
     groups: &Groups<'a>,
-    kept: &[char],
+    kept: &'a [char],
     found: &mut Vec<Peeled<'a>>,
 ) -> Result<(), NoMemory>
     ensures { OnOk result (found.new.items ≡ found.old.items ++ map (peeled_by side kept.now) groups.now) }
 {
     for number in 0..groups.len() {
-        let rest = joined(alloc, side, kept, group_strip(groups, number))?;
-        let places = group_places(groups, number);
-        found.push(Peeled { rest, places })?;
+        let strip = group_strip(groups, number);
+        found.push(Peeled::new(side, kept, strip, group_places(groups, number)))?;
     }
     Ok(())
-}
-
-/// What is kept of a word, with a text at the side's end.
-fn joined(alloc: Global, side: Side, kept: &[char], text: &[char]) -> Result<Vec<char>, NoMemory>
-    ensures { IfOk result (λ made. made.items ≡ join side kept.now text.now) }
-{
-    let (front, back) = match side {
-        Side::Prefix => (text, kept),
-        Side::Suffix => (kept, text),
-    };
-    let mut made = front.to_vec(alloc)?;
-    made.extend_from_slice(back)?;
-    Ok(made)
 }

@@ -1,17 +1,21 @@
 //! The walk from a word to its derivations: affixes that may have made it are undone, and what is left is looked up.
 
-ghost use Rattle.std.specs.Prelude.{◌≡◌, ◌++◌, ◌^◌, ◌<◌, ◌↔◌, [], ◌∷◌, ℕ, List, Some, None, true, length, map, filter, is_some, Contains, OnOk, IfOk, if◌then◌else◌};
+ghost use Rattle.std.specs.Prelude.{◌≡◌, ◌++◌, ◌^◌, ◌<◌, [], ◌∷◌, Bool, List, Some, None, true, length, map, filter, is_some, Contains, IfOk};
+ghost use Rattle.std.specs.List.{list_any};
 ghost use Rattle.spell_types.specs.declared.derivations.Derivation.{Derivation};
-ghost use Rattle.spell_types.specs.Derivations.{is_same_side, form_of};
-ghost use Rattle.spell_types.specs.Flags.{put_all};
-ghost use Rattle.spell_types.specs.Licences.{is_licensed};
+ghost use Rattle.spell_types.specs.Derivations.{form_of};
+ghost use Rattle.spell_types.specs.Licences.{is_licensed, is_forbidden};
 ghost use Rattle.affix_strip.specs.EntryTable.{AreEntriesOf};
-ghost use Rattle.affix_strip.specs.Parts.{stem_of, with_first, with_suffixes, Any, Outside, Passes, AtSome, Adds, From, FromAll, RuleFrom, Peels};
+ghost use Rattle.affix_strip.specs.Found.{derivations_of};
+ghost use Rattle.affix_strip.specs.Parts.{stem_of, with_first, with_suffixes, Any, Outside, Passes, AtSome, Shows, From, FromAll, RuleFrom, Peels};
 ghost use Rattle.affix_strip.specs.Peeling.{may_undo, may_undo_at, fits_on};
-ghost use Rattle.affix_strip.specs.Tables.{HasCarried, IsReady, may_be_outer, may_undo_outer};
+ghost use Rattle.affix_strip.specs.Tables.{IsReady, may_be_outer, may_undo_outer};
 
+use crate::barring::{Barring, barring_of};
 use crate::entry_table::EntryTable;
 use crate::peeling::{Peeled, peel};
+use crate::rule_flags::carried_by_suffixes;
+use crate::visiting::{Forbidden, Question, Test, Visitor};
 use affix_classes::{matches_back, matches_front};
 use affix_tables::AffixTables;
 use lists::NoMemory;
@@ -28,6 +32,7 @@ pub(crate) struct Dictionary {
     by_word: EntryTable,
     /// The flags that suffix rules carry: no other class has second suffixes.
     carried: FlagSet,
+    barring: Barring,
 }
 
 impl Dictionary {
@@ -41,256 +46,351 @@ impl Dictionary {
         let rules = AffixTables::new(alloc, &lexicon.affixes.rules)?;
         let by_word = EntryTable::new(alloc, &lexicon.entries)?;
         let carried = carried_by_suffixes(alloc, &lexicon.affixes.rules)?;
+        let barring = barring_of(alloc, &lexicon)?;
         Ok(Dictionary {
             lexicon,
             rules,
             by_word,
             carried,
+            barring,
         })
     }
 
-    /// All derivations of a word, in any order and more than once maybe.
-    pub(crate) fn find_all(&self, alloc: Global, word: &[char]) -> Result<Vec<Derivation>, NoMemory>
+    /// Whether one of the derivations of a word passes a test. The walk ends at the first that does.
+    pub(crate) fn one_passes<T: Test + Drop>(
+        &self,
+        alloc: Global,
+        word: &[char],
+        test: T,
+    ) -> Result<bool, NoMemory>
         requires { IsReady self.now }
-        ensures { IfOk result (λ found. (d : Derivation) → Contains found.items d
-            ↔ ((is_licensed self.now.lexicon d ≡ true) × (form_of self.now.lexicon d ≡ Some word.now))) }
+        ensures { IfOk result (λ answer.
+            answer ≡ list_any (T.passing test) (derivations_of self.now.lexicon word.now)) }
     {
-        let mut found = Vec::new(alloc);
-        self.add_behind(alloc, &[None], word, &mut found)?;
-        let fronts = peel(alloc, &self.rules, Side::Prefix, word)?;
-        self.add_each_front(alloc, fronts.as_slice(), &mut found)?;
-        Ok(found)
+        let mut question = Question { test };
+        self.visit_all(alloc, word, &mut question)
     }
 
-    /// Adds the derivations of a word with a prefix. Given are the groups of prefixes that may have made it.
-    fn add_each_front(
+    /// Whether a word is the form of a forbidden entry. Where such entries allow no affix, it is looked up only among the
+    /// words of entries.
+    pub(crate) fn is_barred(&self, alloc: Global, word: &[char]) -> Result<bool, NoMemory>
+        requires { IsReady self.now }
+        ensures { IfOk result (λ answer.
+            answer ≡ list_any (is_forbidden self.now.lexicon) (derivations_of self.now.lexicon word.now)) }
+    {
+        let test = Forbidden {
+            lexicon: &self.lexicon,
+        };
+        match self.barring {
+            Barring::Nowhere => Ok(false),
+            Barring::AtEntries => {
+                let mut question = Question { test };
+                self.visit_bare(alloc, &[None], word, &mut question)
+            }
+            Barring::AtForms => self.one_passes(alloc, word, test),
+        }
+    }
+
+    /// Shows all derivations of a word, in any order and more than once maybe: first those without affixes, then those with one
+    /// suffix, then those with two, and last those with a prefix.
+    pub(crate) fn visit_all<V: Visitor>(
+        &self,
+        alloc: Global,
+        word: &[char],
+        visitor: &mut V,
+    ) -> Result<bool, NoMemory>
+        requires { IsReady self.now }
+        ensures { IfOk result (Shows
+            (λ d. (is_licensed self.now.lexicon d ≡ true) × (form_of self.now.lexicon d ≡ Some word.now))
+            (V.sees visitor.old) (V.sees visitor.new)) }
+    {
+        if self.visit_behind(alloc, &[None], word, visitor)? {
+            return Ok(true);
+        }
+        let fronts = peel(alloc, &self.rules, Side::Prefix, word)?;
+        self.visit_fronts(alloc, fronts.as_slice(), visitor)
+    }
+
+    /// Shows the derivations of a word with a prefix. Given are the groups of prefixes that may have made it.
+    fn visit_fronts<V: Visitor>(
         &self,
         alloc: Global,
         fronts: &[Peeled<'_>],
-        found: &mut Vec<Derivation>,
-    ) -> Result<(), NoMemory>
+        visitor: &mut V,
+    ) -> Result<bool, NoMemory>
         requires { IsReady self.now }
-        ensures { OnOk result (Adds (AtSome (Peels self.now.lexicon Side.Prefix (λ d. d.prefix) Any
-            (with_suffixes self.now.lexicon)) fronts.now) found.old.items found.new.items) }
+        ensures { IfOk result (Shows
+            (AtSome (Peels self.now.lexicon Side.Prefix (λ d. d.prefix) Any (with_suffixes self.now.lexicon)) fronts.now)
+            (V.sees visitor.old) (V.sees visitor.new)) }
     {
         for front in fronts {
-            self.add_front(alloc, front, found)?;
+            if self.visit_front(alloc, front, visitor)? {
+                return Ok(true);
+            }
         }
-        Ok(())
+        Ok(false)
     }
 
-    /// Adds those of them that have a prefix of this group.
-    fn add_front(
+    /// Shows those of them that have a prefix of this group.
+    fn visit_front<V: Visitor>(
         &self,
         alloc: Global,
         front: &Peeled<'_>,
-        found: &mut Vec<Derivation>,
-    ) -> Result<(), NoMemory>
+        visitor: &mut V,
+    ) -> Result<bool, NoMemory>
         requires { IsReady self.now }
-        ensures { OnOk result (Adds (Peels self.now.lexicon Side.Prefix (λ d. d.prefix) Any
-            (with_suffixes self.now.lexicon) front.now) found.old.items found.new.items) }
+        ensures { IfOk result (Shows
+            (Peels self.now.lexicon Side.Prefix (λ d. d.prefix) Any (with_suffixes self.now.lexicon) front.now)
+            (V.sees visitor.old) (V.sees visitor.new)) }
     {
-        let prefixes = self.undoable(alloc, Side::Prefix, front)?;
-        self.add_behind(alloc, prefixes.as_slice(), front.rest(), found)
+        let rest = front.joined(alloc)?;
+        let prefixes = self.undoable(alloc, Side::Prefix, rest.as_slice(), front.places())?;
+        self.visit_behind(alloc, prefixes.as_slice(), rest.as_slice(), visitor)
     }
 
-    /// Adds the derivations with one of these prefixes, or with none if that is among them, that have this word behind it.
-    fn add_behind(
+    /// Shows the derivations with one of these prefixes, or with none if that is among them, that have this word behind it.
+    fn visit_behind<V: Visitor>(
         &self,
         alloc: Global,
         prefixes: &[Option<u32>],
         rest: &[char],
-        found: &mut Vec<Derivation>,
-    ) -> Result<(), NoMemory>
+        visitor: &mut V,
+    ) -> Result<bool, NoMemory>
         requires { IsReady self.now }
-        ensures { OnOk result (Adds (Passes self.now.lexicon (λ d. Contains prefixes.now d.prefix)
-            (with_suffixes self.now.lexicon) rest.now) found.old.items found.new.items) }
+        ensures { IfOk result (Shows
+            (Passes self.now.lexicon (λ d. Contains prefixes.now d.prefix) (with_suffixes self.now.lexicon) rest.now)
+            (V.sees visitor.old) (V.sees visitor.new)) }
     {
         if prefixes.is_empty() {
-            return Ok(());
+            return Ok(false);
+        }
+        if self.visit_bare(alloc, prefixes, rest, visitor)? {
+            return Ok(true);
         }
         let endings = peel(alloc, &self.rules, Side::Suffix, rest)?;
         let endings = endings.as_slice();
-        self.add_bare(alloc, prefixes, rest, found)?;
-        self.add_each_first(alloc, prefixes, &[None], endings, found)?;
-        self.add_each_outer(alloc, prefixes, endings, found)
+        if self.visit_firsts(alloc, prefixes, &[None], endings, visitor)? {
+            return Ok(true);
+        }
+        self.visit_outers(alloc, prefixes, endings, visitor)
     }
 
-    /// Adds those of them that have a second suffix. Given are the groups of suffixes that may have made the word.
-    fn add_each_outer(
+    /// Shows those of them that have a second suffix. Given are the groups of suffixes that may have made the word.
+    fn visit_outers<V: Visitor>(
         &self,
         alloc: Global,
         prefixes: &[Option<u32>],
         endings: &[Peeled<'_>],
-        found: &mut Vec<Derivation>,
-    ) -> Result<(), NoMemory>
+        visitor: &mut V,
+    ) -> Result<bool, NoMemory>
         requires { IsReady self.now }
-        ensures { OnOk result (Adds (AtSome (Peels self.now.lexicon Side.Suffix (λ d. d.second)
-            (λ d. Contains prefixes.now d.prefix) (with_first self.now.lexicon)) endings.now) found.old.items found.new.items) }
+        ensures { IfOk result (Shows
+            (AtSome (Peels self.now.lexicon Side.Suffix (λ d. d.second)
+            (λ d. Contains prefixes.now d.prefix) (with_first self.now.lexicon)) endings.now)
+            (V.sees visitor.old) (V.sees visitor.new)) }
     {
         for ending in endings {
-            self.add_outer(alloc, prefixes, ending, found)?;
+            if self.visit_outer(alloc, prefixes, ending, visitor)? {
+                return Ok(true);
+            }
         }
-        Ok(())
+        Ok(false)
     }
 
-    /// Adds those of them that have a second suffix of this group.
-    fn add_outer(
+    /// Shows those of them that have a second suffix of this group.
+    fn visit_outer<V: Visitor>(
         &self,
         alloc: Global,
         prefixes: &[Option<u32>],
         ending: &Peeled<'_>,
-        found: &mut Vec<Derivation>,
-    ) -> Result<(), NoMemory>
+        visitor: &mut V,
+    ) -> Result<bool, NoMemory>
         requires { IsReady self.now }
-        ensures { OnOk result (Adds (Peels self.now.lexicon Side.Suffix (λ d. d.second)
-            (λ d. Contains prefixes.now d.prefix) (with_first self.now.lexicon) ending.now) found.old.items found.new.items) }
+        ensures { IfOk result (Shows
+            (Peels self.now.lexicon Side.Suffix (λ d. d.second)
+            (λ d. Contains prefixes.now d.prefix) (with_first self.now.lexicon) ending.now)
+            (V.sees visitor.old) (V.sees visitor.new)) }
     {
-        let seconds = self.undoable_outer(alloc, ending)?;
-        self.add_inside(alloc, prefixes, seconds.as_slice(), ending.rest(), found)
+        if !self.one_may_be_outer(ending.places()) {
+            return Ok(false);
+        }
+        let inner = ending.joined(alloc)?;
+        let seconds = self.undoable_outer(alloc, inner.as_slice(), ending.places())?;
+        self.visit_inside(
+            alloc,
+            prefixes,
+            seconds.as_slice(),
+            inner.as_slice(),
+            visitor,
+        )
     }
 
-    /// Adds the derivations with one of these prefixes and one of these second suffixes that have this word inside of them.
-    fn add_inside(
+    /// Shows the derivations with one of these prefixes and one of these second suffixes that have this word inside of them.
+    fn visit_inside<V: Visitor>(
         &self,
         alloc: Global,
         prefixes: &[Option<u32>],
         seconds: &[Option<u32>],
         inner: &[char],
-        found: &mut Vec<Derivation>,
-    ) -> Result<(), NoMemory>
+        visitor: &mut V,
+    ) -> Result<bool, NoMemory>
         requires { IsReady self.now }
-        ensures { OnOk result (Adds (Passes self.now.lexicon
-            (λ d. Outside prefixes.now seconds.now d × (is_some d.first ≡ true))
-            (with_first self.now.lexicon) inner.now) found.old.items found.new.items) }
+        ensures { IfOk result (Shows
+            (Passes self.now.lexicon (λ d. Outside prefixes.now seconds.now d × (is_some d.first ≡ true))
+            (with_first self.now.lexicon) inner.now)
+            (V.sees visitor.old) (V.sees visitor.new)) }
     {
         if seconds.is_empty() {
-            return Ok(());
+            return Ok(false);
         }
         let endings = peel(alloc, &self.rules, Side::Suffix, inner)?;
-        self.add_each_first(alloc, prefixes, seconds, endings.as_slice(), found)
+        self.visit_firsts(alloc, prefixes, seconds, endings.as_slice(), visitor)
     }
 
-    /// Adds the derivations with one of these prefixes that have this word behind it, and no suffix.
-    fn add_bare(
+    /// Shows the derivations with one of these prefixes that have this word behind it, and no suffix.
+    fn visit_bare<V: Visitor>(
         &self,
         alloc: Global,
         prefixes: &[Option<u32>],
         word: &[char],
-        found: &mut Vec<Derivation>,
-    ) -> Result<(), NoMemory>
+        visitor: &mut V,
+    ) -> Result<bool, NoMemory>
         requires { IsReady self.now }
-        ensures { OnOk result (Adds (Passes self.now.lexicon
-            (λ d. Outside prefixes.now (None ∷ []) d × (d.first ≡ None))
-            (stem_of self.now.lexicon) word.now) found.old.items found.new.items) }
+        ensures { IfOk result (Shows
+            (Passes self.now.lexicon (λ d. Outside prefixes.now (None ∷ []) d × (d.first ≡ None))
+            (stem_of self.now.lexicon) word.now)
+            (V.sees visitor.old) (V.sees visitor.new)) }
     {
-        let entries = self.entries_of(alloc, word)?;
-        let entries = entries.as_slice();
-        add_each_prefix(&self.lexicon, prefixes, None, &[None], entries, found)
+        let entries = self.entries_of(alloc, word, &[])?;
+        visit_prefixes(
+            &self.lexicon,
+            prefixes,
+            None,
+            &[None],
+            entries.as_slice(),
+            visitor,
+        )
     }
 
-    /// Adds the derivations with one of these prefixes, one of these second suffixes, and a first one. Given are the groups
+    /// Shows the derivations with one of these prefixes, one of these second suffixes, and a first one. Given are the groups
     /// of suffixes that may have made the word inside.
-    fn add_each_first(
+    fn visit_firsts<V: Visitor>(
         &self,
         alloc: Global,
         prefixes: &[Option<u32>],
         seconds: &[Option<u32>],
         endings: &[Peeled<'_>],
-        found: &mut Vec<Derivation>,
-    ) -> Result<(), NoMemory>
+        visitor: &mut V,
+    ) -> Result<bool, NoMemory>
         requires { IsReady self.now }
-        ensures { OnOk result (Adds (AtSome (Peels self.now.lexicon Side.Suffix (λ d. d.first)
-            (Outside prefixes.now seconds.now) (stem_of self.now.lexicon)) endings.now) found.old.items found.new.items) }
+        ensures { IfOk result (Shows
+            (AtSome (Peels self.now.lexicon Side.Suffix (λ d. d.first)
+            (Outside prefixes.now seconds.now) (stem_of self.now.lexicon)) endings.now)
+            (V.sees visitor.old) (V.sees visitor.new)) }
     {
         for ending in endings {
-            self.add_first(alloc, prefixes, seconds, ending, found)?;
+            if self.visit_first(alloc, prefixes, seconds, ending, visitor)? {
+                return Ok(true);
+            }
         }
-        Ok(())
+        Ok(false)
     }
 
-    /// Adds those of them that have a first suffix of this group. What it leaves is looked up once, and rules are
+    /// Shows those of them that have a first suffix of this group. What it leaves is looked up once, and rules are
     /// looked at only where that is an entry's word.
-    fn add_first(
+    fn visit_first<V: Visitor>(
         &self,
         alloc: Global,
         prefixes: &[Option<u32>],
         seconds: &[Option<u32>],
         ending: &Peeled<'_>,
-        found: &mut Vec<Derivation>,
-    ) -> Result<(), NoMemory>
+        visitor: &mut V,
+    ) -> Result<bool, NoMemory>
         requires { IsReady self.now }
-        ensures { OnOk result (Adds (Peels self.now.lexicon Side.Suffix (λ d. d.first)
-            (Outside prefixes.now seconds.now) (stem_of self.now.lexicon) ending.now) found.old.items found.new.items) }
+        ensures { IfOk result (Shows
+            (Peels self.now.lexicon Side.Suffix (λ d. d.first)
+            (Outside prefixes.now seconds.now) (stem_of self.now.lexicon) ending.now)
+            (V.sees visitor.old) (V.sees visitor.new)) }
     {
-        let rest = ending.rest();
-        let entries = self.entries_of(alloc, rest)?;
+        let (front, back) = ending.parts();
+        let entries = self.entries_of(alloc, front, back)?;
         let entries = entries.as_slice();
         if entries.is_empty() {
-            return Ok(());
+            return Ok(false);
         }
-        self.add_each_rule(prefixes, ending.places(), seconds, rest, entries, found)
+        let stem = ending.joined(alloc)?;
+        self.visit_rules(
+            prefixes,
+            ending.places(),
+            seconds,
+            stem.as_slice(),
+            entries,
+            visitor,
+        )
     }
 
-    /// Adds the derivations with one of these prefixes, one of these second suffixes, and as first suffix one of these rules
+    /// Shows the derivations with one of these prefixes, one of these second suffixes, and as first suffix one of these rules
     /// that may be attached to this, that come from one of these entries.
-    fn add_each_rule(
+    fn visit_rules<V: Visitor>(
         &self,
         prefixes: &[Option<u32>],
         firsts: &[u32],
         seconds: &[Option<u32>],
         rest: &[char],
         entries: &[u32],
-        found: &mut Vec<Derivation>,
-    ) -> Result<(), NoMemory>
-        ensures { OnOk result (Adds (AtSome (RuleFrom self.now.lexicon prefixes.now seconds.now rest.now entries.now) firsts.now)
-            found.old.items found.new.items) }
+        visitor: &mut V,
+    ) -> Result<bool, NoMemory>
+        ensures { IfOk result (Shows
+            (AtSome (RuleFrom self.now.lexicon prefixes.now seconds.now rest.now entries.now) firsts.now)
+            (V.sees visitor.old) (V.sees visitor.new)) }
     {
         for first in firsts {
-            self.add_rule(prefixes, *first, seconds, rest, entries, found)?;
+            if self.visit_rule(prefixes, *first, seconds, rest, entries, visitor)? {
+                return Ok(true);
+            }
         }
-        Ok(())
+        Ok(false)
     }
 
-    /// Adds those of them that have this first suffix.
-    fn add_rule(
+    /// Shows those of them that have this first suffix.
+    fn visit_rule<V: Visitor>(
         &self,
         prefixes: &[Option<u32>],
         first: u32,
         seconds: &[Option<u32>],
         rest: &[char],
         entries: &[u32],
-        found: &mut Vec<Derivation>,
-    ) -> Result<(), NoMemory>
-        ensures { OnOk result (Adds (RuleFrom self.now.lexicon prefixes.now seconds.now rest.now entries.now first)
-            found.old.items found.new.items) }
+        visitor: &mut V,
+    ) -> Result<bool, NoMemory>
+        ensures { IfOk result (Shows
+            (RuleFrom self.now.lexicon prefixes.now seconds.now rest.now entries.now first)
+            (V.sees visitor.old) (V.sees visitor.new)) }
     {
         if !self.may_undo(Side::Suffix, rest, first) {
-            return Ok(());
+            return Ok(false);
         }
-        add_each_prefix(
+        visit_prefixes(
             &self.lexicon,
             prefixes,
             Some(first),
             seconds,
             entries,
-            found,
+            visitor,
         )
     }
 
-    /// The rules of a group that may be attached to what it leaves.
+    /// Those of some rules that may be attached to this.
     fn undoable(
         &self,
         alloc: Global,
         side: Side,
-        peeled: &Peeled<'_>,
+        rest: &[char],
+        places: &[u32],
     ) -> Result<Vec<Option<u32>>, NoMemory>
         ensures { IfOk result (λ kept. kept.items ≡ map (λ place. Some place)
-            (filter (may_undo_at self.now.lexicon.affixes side peeled.now.0) peeled.now.1)) }
+            (filter (may_undo_at self.now.lexicon.affixes side rest.now) places.now)) }
     {
-        let rest = peeled.rest();
-        let kept = peeled
-            .places()
+        let kept = places
             .iter()
             .copied()
             .filter(|place| self.may_undo(side, rest, *place))
@@ -299,18 +399,17 @@ impl Dictionary {
         Ok(kept)
     }
 
-    /// The suffix rules of a group that may be second suffixes and be attached to what it leaves.
+    /// Those of some suffix rules that may be second suffixes and be attached to this.
     fn undoable_outer(
         &self,
         alloc: Global,
-        peeled: &Peeled<'_>,
+        rest: &[char],
+        places: &[u32],
     ) -> Result<Vec<Option<u32>>, NoMemory>
         ensures { IfOk result (λ kept. kept.items ≡ map (λ place. Some place)
-            (filter (may_undo_outer self.now peeled.now.0) peeled.now.1)) }
+            (filter (may_undo_outer self.now rest.now) places.now)) }
     {
-        let rest = peeled.rest();
-        let kept = peeled
-            .places()
+        let kept = places
             .iter()
             .copied()
             .filter(|place| self.may_undo_outer(rest, *place))
@@ -324,6 +423,13 @@ impl Dictionary {
         ensures { result ≡ may_undo_outer self.now rest.now place }
     {
         self.may_be_outer(place) && self.may_undo(Side::Suffix, rest, place)
+    }
+
+    /// Whether one of some rules may be a second suffix.
+    fn one_may_be_outer(&self, places: &[u32]) -> bool
+        ensures { result ≡ list_any (may_be_outer self.now) places.now }
+    {
+        places.iter().any(|place| self.may_be_outer(*place))
     }
 
     /// Whether a rule may be a second suffix: some suffix rule carries its flag.
@@ -343,66 +449,72 @@ impl Dictionary {
     {
         match self.lexicon.affixes.rules.as_slice().get(place as usize) {
             None => false,
-            Some(rule) => { may_undo(self.lexicon.affixes.options.full_strip, side, rest, rule) }
+            Some(rule) => may_undo(self.lexicon.affixes.options.full_strip, side, rest, rule),
         }
     }
 
-    /// The places of the entries of a word.
-    fn entries_of(&self, alloc: Global, word: &[char]) -> Result<Vec<u32>, NoMemory>
+    /// The places of the entries whose word is `front` and `back` joined.
+    fn entries_of(&self, alloc: Global, front: &[char], back: &[char]) -> Result<Vec<u32>, NoMemory>
         requires { IsReady self.now }
-        ensures { IfOk result (λ places. AreEntriesOf self.now.lexicon.entries word.now places.items) }
+        ensures { IfOk result (λ places. AreEntriesOf self.now.lexicon.entries (front.now ++ back.now) places.items) }
     {
-        self.by_word.places_of(alloc, &self.lexicon.entries, word)
+        self.by_word
+            .places_of(alloc, &self.lexicon.entries, front, back)
     }
 }
 
-/// Adds the derivations with one of these prefixes, this first suffix and one of these second ones, that come from one of
+/// Shows the derivations with one of these prefixes, this first suffix and one of these second ones, that come from one of
 /// these entries and are licensed.
-fn add_each_prefix(
+fn visit_prefixes<V: Visitor>(
     lexicon: &Lexicon,
     prefixes: &[Option<u32>],
     first: Option<u32>,
     seconds: &[Option<u32>],
     entries: &[u32],
-    found: &mut Vec<Derivation>,
-) -> Result<(), NoMemory>
-    ensures { OnOk result (Adds (FromAll lexicon.now prefixes.now first seconds.now entries.now)
-        found.old.items found.new.items) }
+    visitor: &mut V,
+) -> Result<bool, NoMemory>
+    ensures { IfOk result (Shows (FromAll lexicon.now prefixes.now first seconds.now entries.now)
+        (V.sees visitor.old) (V.sees visitor.new)) }
 {
     for prefix in prefixes {
-        add_each_second(lexicon, *prefix, first, seconds, entries, found)?;
+        if visit_seconds(lexicon, *prefix, first, seconds, entries, visitor)? {
+            return Ok(true);
+        }
     }
-    Ok(())
+    Ok(false)
 }
 
-/// Adds those of them that have this prefix.
-fn add_each_second(
+/// Shows those of them that have this prefix.
+fn visit_seconds<V: Visitor>(
     lexicon: &Lexicon,
     prefix: Option<u32>,
     first: Option<u32>,
     seconds: &[Option<u32>],
     entries: &[u32],
-    found: &mut Vec<Derivation>,
-) -> Result<(), NoMemory>
-    ensures { OnOk result (Adds (AtSome (λ second. From lexicon.now prefix first second entries.now) seconds.now)
-        found.old.items found.new.items) }
+    visitor: &mut V,
+) -> Result<bool, NoMemory>
+    ensures { IfOk result (Shows (AtSome (λ second. From lexicon.now prefix first second entries.now) seconds.now)
+        (V.sees visitor.old) (V.sees visitor.new)) }
 {
     for second in seconds {
-        add_each_entry(lexicon, prefix, first, *second, entries, found)?;
+        if visit_entries(lexicon, prefix, first, *second, entries, visitor)? {
+            return Ok(true);
+        }
     }
-    Ok(())
+    Ok(false)
 }
 
-/// Adds the derivations with these affixes from these entries that are licensed.
-fn add_each_entry(
+/// Shows the derivations with these affixes from these entries that are licensed.
+fn visit_entries<V: Visitor>(
     lexicon: &Lexicon,
     prefix: Option<u32>,
     first: Option<u32>,
     second: Option<u32>,
     entries: &[u32],
-    found: &mut Vec<Derivation>,
-) -> Result<(), NoMemory>
-    ensures { OnOk result (Adds (From lexicon.now prefix first second entries.now) found.old.items found.new.items) }
+    visitor: &mut V,
+) -> Result<bool, NoMemory>
+    ensures { IfOk result (Shows (From lexicon.now prefix first second entries.now)
+        (V.sees visitor.old) (V.sees visitor.new)) }
 {
     for entry in entries {
         let d = Derivation {
@@ -411,54 +523,26 @@ fn add_each_entry(
             first,
             second,
         };
-        add_licensed(lexicon, d, found)?;
+        if visit_licensed(lexicon, d, visitor)? {
+            return Ok(true);
+        }
     }
-    Ok(())
+    Ok(false)
 }
 
-/// Adds a derivation, if it is licensed.
-fn add_licensed(
+/// Shows a derivation, if it is licensed.
+fn visit_licensed<V: Visitor>(
     lexicon: &Lexicon,
     d: Derivation,
-    found: &mut Vec<Derivation>,
-) -> Result<(), NoMemory>
-    ensures { OnOk result (Adds (λ e. (e ≡ d) × (is_licensed lexicon.now e ≡ true)) found.old.items found.new.items) }
+    visitor: &mut V,
+) -> Result<bool, NoMemory>
+    ensures { IfOk result (Shows (λ e. (e ≡ d) × (is_licensed lexicon.now e ≡ true))
+        (V.sees visitor.old) (V.sees visitor.new)) }
 {
-    if licensed(lexicon, &d) {
-        found.push(d)?;
+    if !licensed(lexicon, &d) {
+        return Ok(false);
     }
-    Ok(())
-}
-
-/// The flags that suffix rules carry.
-fn carried_by_suffixes(alloc: Global, rules: &[Rule]) -> Result<FlagSet, NoMemory>
-    ensures { IfOk result (λ set. HasCarried rules.now set) }
-{
-    let mut set = FlagSet::new(alloc);
-    for rule in rules {
-        add_carried(rule, &mut set)?;
-    }
-    Ok(set)
-}
-
-/// Adds the flags that a rule carries, if it is a suffix rule.
-fn add_carried(rule: &Rule, set: &mut FlagSet) -> Result<(), NoMemory>
-    ensures { OnOk result (set.new ≡ (if is_same_side Side.Suffix rule.now.side then put_all set.old rule.now.carried else set.old)) }
-{
-    match rule.side {
-        Side::Prefix => Ok(()),
-        Side::Suffix => put_all(&rule.carried, set),
-    }
-}
-
-/// Puts flags into a set.
-fn put_all(flags: &FlagSet, set: &mut FlagSet) -> Result<(), NoMemory>
-    ensures { OnOk result (set.new ≡ put_all set.old flags.now) }
-{
-    for flag in flags.as_slice() {
-        set.insert(*flag)?;
-    }
-    Ok(())
+    visitor.visit(d)
 }
 
 /// Whether a rule may be attached to this. `full_strip` says whether a rule may strip a word whole: the option FULLSTRIP of

@@ -1,7 +1,9 @@
 -- What is found, in order, is the list of all derivations.
-use Rattle.std.proofs.Common.{◌∙◌, ap}
+use Rattle.std.proofs.Common.{◌≡◌, ◌∙◌, ◌⊎◌, inl, inr, true, ap, List, [], Contains, Some}
+use Rattle.spell_types.specs.declared.derivations.Derivation.{Derivation}
 use Rattle.affix_strip.specs.Found.{derivations_of}
 use Rattle.affix_strip.proofs.SameLemmas.{same-derivations}
+use Rattle.affix_strip.proofs.QuestionLemmas.{listed}
 use Rattle.affix_strip.proofs.Stems.derivations.Goals as goal
 
 pub returns : goal.returns
@@ -9,7 +11,7 @@ returns c =
     let lexicon = c.self.inside.dictionary.lexicon in
     same-derivations lexicon c.args.word.now c.put_in_order.new.found.items c.put_in_order.ensures.order
     (λ d. (
-      λ inside. (c.in_ok-found.ensures d).0 ((c.put_in_order.ensures.members d).0 inside),
-      λ gives. (c.put_in_order.ensures.members d).1 ((c.in_ok-found.ensures d).1 gives),
+      λ inside. (listed lexicon c.args.word.now _ _ _ c.new-found.ensures.items c.in_ok-visit_all.ensures d).0 ((c.put_in_order.ensures.members d).0 inside),
+      λ gives. (c.put_in_order.ensures.members d).1 ((listed lexicon c.args.word.now _ _ _ c.new-found.ensures.items c.in_ok-visit_all.ensures d).1 gives),
     ))
     ∙ ap (λ given. derivations_of given c.args.word.now) c.self.view_is
