@@ -57,20 +57,17 @@ any-licensed holds licensed form implied (d ∷ ds) =
     ∙ ap (λ here. here || list_any (λ d. holds d && form d) ds) (same-test (holds d) (licensed d) (form d) (implied d))
 
 -- a word is barred if one of its derivations is that of a forbidden word
-pub barred_as_found : (lexicon : Lexicon) (word : List ℕ) (found : List Derivation) → found ≡ derivations_of lexicon word
-    → list_any (is_forbidden lexicon) found ≡ is_barred lexicon word
+pub barred_as_found : (lexicon : Lexicon) (word : List ℕ) → list_any (is_forbidden lexicon) (derivations_of lexicon word) ≡ is_barred lexicon word
 unfolding is_barred derivations_of
-barred_as_found lexicon word found is =
-    ap (list_any (is_forbidden lexicon)) is
-    ∙ any-licensed (is_forbidden lexicon) (is_licensed lexicon) (has_form lexicon word) (forbidden-licensed lexicon) (all_derivations lexicon)
+barred_as_found lexicon word =
+    any-licensed (is_forbidden lexicon) (is_licensed lexicon) (has_form lexicon word) (forbidden-licensed lexicon) (all_derivations lexicon)
 
 -- a word is derived from an entry by itself if one of its derivations stands as a word
-pub alone_as_found : (written : List ℕ) (lexicon : Lexicon) (word : List ℕ) (found : List Derivation) → found ≡ derivations_of lexicon word
-    → list_any (is_alone_in_case written word lexicon) found ≡ is_derived (is_alone_in_case written word) lexicon word
+pub alone_as_found : (written : List ℕ) (lexicon : Lexicon) (word : List ℕ)
+    → list_any (is_alone_in_case written word lexicon) (derivations_of lexicon word) ≡ is_derived (is_alone_in_case written word) lexicon word
 unfolding derivations_of
-alone_as_found written lexicon word found is =
-    ap (list_any (is_alone_in_case written word lexicon)) is
-    ∙ any-licensed (is_alone_in_case written word lexicon) (is_licensed lexicon) (has_form lexicon word) (alone-licensed written word lexicon) (all_derivations lexicon)
+alone_as_found written lexicon word =
+    any-licensed (is_alone_in_case written word lexicon) (is_licensed lexicon) (has_form lexicon word) (alone-licensed written word lexicon) (all_derivations lexicon)
 
 -- the first spelling that a word covers is the word as it is written
 base-parted : (lexicon : Lexicon) (word : List ℕ)
@@ -93,3 +90,8 @@ judged_is lexicon word barred alone covers b a c =
     ∙ ap (λ x. judged_by (is_barred lexicon word) (is_derived (is_alone_in_case word word) lexicon word || x)) c
     ∙ sym (judged-parted (is_barred lexicon word) (is_derived (is_alone_in_case word word) lexicon word) (covers_right_spelling lexicon word)
     (is_right_spelling lexicon word word) (is_base lexicon word) refl (base-parted lexicon word))
+
+-- a barred word is that, whatever else it is
+pub judged_barred : (lexicon : Lexicon) (word : List ℕ) → is_barred lexicon word ≡ true → judged_by true false ≡ judged lexicon word
+unfolding judged
+judged_barred lexicon word barred = sym (ap (λ b. judged_by b (is_base lexicon word)) barred)

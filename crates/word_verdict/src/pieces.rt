@@ -3,34 +3,24 @@
 ghost use Rattle.std.specs.Prelude.{◌≡◌, true, IfOk};
 ghost use Rattle.std.specs.List.{list_any};
 ghost use Rattle.spell_types.specs.Bases.{is_alone_in_case, is_right_spelling};
-ghost use Rattle.spell_types.specs.Licences.{is_forbidden, is_barred, is_derived};
+ghost use Rattle.spell_types.specs.Licences.{is_barred, is_derived};
 ghost use Rattle.word_verdict.specs.Judging.{judged, covers_right_spelling};
 
 use affix_strip::Stems;
 use break_points::Judged;
 use letter_case::covered;
 use lists::NoMemory;
-use spell_types::{Chars, Derivation, Lexicon, alone_in_case, forbidden};
+use spell_types::Chars;
 use std::alloc::Global;
-
-/// What the derivations of a word say.
-#[derive(Clone, Copy)]
-struct Standing {
-    /// Whether one is that of a forbidden word.
-    barred: bool,
-    /// Whether one stands as a word.
-    alone: bool,
-}
 
 /// What a piece of a word is by itself. It is looked at as it is written first, since most words need no other spelling.
 pub(crate) fn judge_piece(alloc: Global, stems: &Stems, piece: &[char]) -> Result<Judged, NoMemory>
     ensures { IfOk result (λ answer. answer ≡ judged stems.now piece.now) }
 {
-    let written = standing_of(alloc, stems, piece, piece)?;
-    if written.barred {
+    if is_barred(alloc, stems, piece)? {
         return Ok(Judged::Barred);
     }
-    if written.alone {
+    if is_alone(alloc, stems, piece, piece)? {
         return Ok(Judged::Base);
     }
     if covers_right_spelling(alloc, stems, piece)? {
@@ -79,46 +69,25 @@ fn is_right(
 ) -> Result<bool, NoMemory>
     ensures { IfOk result (λ answer. answer ≡ is_right_spelling stems.now written.now spelling.now) }
 {
-    let standing = standing_of(alloc, stems, written, spelling)?;
-    Ok(!standing.barred && standing.alone)
+    Ok(!is_barred(alloc, stems, spelling)? && is_alone(alloc, stems, written, spelling)?)
 }
 
-/// What the derivations of a spelling say of the word that is written so.
-fn standing_of(
+/// Whether a word is forbidden.
+fn is_barred(alloc: Global, stems: &Stems, word: &[char]) -> Result<bool, NoMemory>
+    ensures { IfOk result (λ answer. answer ≡ is_barred stems.now word.now) }
+{
+    stems.is_barred(alloc, word)
+}
+
+/// Whether a derivation whose form is the spelling stands as a word that is written so.
+fn is_alone(
     alloc: Global,
     stems: &Stems,
     written: &[char],
     spelling: &[char],
-) -> Result<Standing, NoMemory>
-    ensures barred { IfOk result (λ standing. standing.barred ≡ is_barred stems.now spelling.now) }
-    ensures alone { IfOk result (λ standing.
-        standing.alone ≡ is_derived (is_alone_in_case written.now spelling.now) stems.now spelling.now) }
+) -> Result<bool, NoMemory>
+    ensures { IfOk result (λ answer.
+        answer ≡ is_derived (is_alone_in_case written.now spelling.now) stems.now spelling.now) }
 {
-    let found = stems.derivations(alloc, spelling)?;
-    let lexicon = stems.lexicon();
-    Ok(Standing {
-        barred: one_is_forbidden(lexicon, &found),
-        alone: one_is_alone(written, spelling, lexicon, &found),
-    })
-}
-
-/// Whether one of the derivations is that of a forbidden word.
-fn one_is_forbidden(lexicon: &Lexicon, found: &[Derivation]) -> bool
-    ensures { result ≡ list_any (is_forbidden lexicon.now) found.now }
-{
-    found.iter().any(|d| forbidden(lexicon, d))
-}
-
-/// Whether one of the derivations, whose form is the spelling, stands as a word for the word that is written so.
-fn one_is_alone(
-    written: &[char],
-    spelling: &[char],
-    lexicon: &Lexicon,
-    found: &[Derivation],
-) -> bool
-    ensures { result ≡ list_any (is_alone_in_case written.now spelling.now lexicon.now) found.now }
-{
-    found
-        .iter()
-        .any(|d| alone_in_case(written, spelling, lexicon, d))
+    stems.is_alone(alloc, written, spelling)
 }
