@@ -44,6 +44,23 @@ pub fn low(c: char) -> char
     if is_upper(c) { case::simple_fold(c) } else { c }
 }
 
+/// Whether the first character is upper case. Such a word stands for others than itself.
+pub fn begins_upper(word: &[char]) -> bool
+    ensures { result ≡ begins_upper word.now }
+{
+    match word {
+        [first, ..] => is_upper(*first),
+        [] => false,
+    }
+}
+
+/// Whether a character is lower case. A word without one stands for others than itself.
+pub fn has_lower(word: &[char]) -> bool
+    ensures { result ≡ has_lower word.now }
+{
+    word.iter().any(|c| is_lower(*c))
+}
+
 /// The words that a written word covers: the written one first, and none twice.
 pub fn covered(alloc: Global, word: &[char]) -> Result<SmallVec<Chars, 4>, NoMemory>
     ensures { IfOk result (λ found. found.items ≡ covered_by word.now) }
@@ -110,21 +127,6 @@ fn is_among(words: &[Chars], word: &[char]) -> bool
     ensures { result ≡ is_among words.now word.now }
 {
     words.iter().any(|other| other.as_slice() == word)
-}
-
-fn begins_upper(word: &[char]) -> bool
-    ensures { result ≡ begins_upper word.now }
-{
-    match word {
-        [first, ..] => is_upper(*first),
-        [] => false,
-    }
-}
-
-fn has_lower(word: &[char]) -> bool
-    ensures { result ≡ has_lower word.now }
-{
-    word.iter().any(|c| is_lower(*c))
 }
 
 fn copy_of(alloc: Global, word: &[char]) -> Result<Chars, NoMemory>

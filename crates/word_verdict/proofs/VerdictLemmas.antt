@@ -4,7 +4,7 @@ use Rattle.std.specs.List.{filter, list_any}
 use Rattle.spell_types.specs.declared.Lexicon.{Lexicon}
 use Rattle.spell_types.specs.declared.derivations.Derivation.{Derivation}
 use Rattle.spell_types.specs.Bases.{is_alone_in_case, is_right_spelling, is_base}
-use Rattle.spell_types.specs.Cases.{covered_by}
+use Rattle.spell_types.specs.Cases.{begins_upper, has_lower, covered_by}
 use Rattle.spell_types.specs.Derivations.{Named, named, all_derivations}
 use Rattle.spell_types.specs.Licences.{is_allowed, holds_of, has_form, is_alone, is_licensed, is_derived, is_forbidden, is_barred}
 use Rattle.affix_strip.specs.Found.{derivations_of}
@@ -95,3 +95,8 @@ judged_is lexicon word barred alone covers b a c =
 pub judged_barred : (lexicon : Lexicon) (word : List ℕ) → is_barred lexicon word ≡ true → judged_by true false ≡ judged lexicon word
 unfolding judged
 judged_barred lexicon word barred = sym (ap (λ b. judged_by b (is_base lexicon word)) barred)
+
+-- a word that does not begin in upper case and has a lower-case character covers itself alone
+pub covers-itself : (lexicon : Lexicon) (word : List ℕ) → begins_upper word ≡ false → has_lower word ≡ true → covers_right_spelling lexicon word ≡ false
+unfolding covers_right_spelling covered_by
+covers-itself lexicon word small some = rw (small, some) refl

@@ -8,7 +8,7 @@ ghost use Rattle.word_verdict.specs.Judging.{judged, covers_right_spelling};
 
 use affix_strip::Stems;
 use break_points::Judged;
-use letter_case::covered;
+use letter_case::{begins_upper, covered, has_lower};
 use lists::NoMemory;
 use spell_types::Chars;
 use std::alloc::Global;
@@ -34,6 +34,9 @@ pub(crate) fn judge_piece(alloc: Global, stems: &Stems, piece: &[char]) -> Resul
 fn covers_right_spelling(alloc: Global, stems: &Stems, word: &[char]) -> Result<bool, NoMemory>
     ensures { IfOk result (λ answer. answer ≡ covers_right_spelling stems.now word.now) }
 {
+    if !begins_upper(word) && has_lower(word) {
+        return Ok(false);
+    }
     let spellings = covered(alloc, word)?;
     match spellings.as_slice() {
         [_, others @ ..] => one_is_right(alloc, stems, word, others),
