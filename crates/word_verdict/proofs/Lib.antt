@@ -1,2 +1,3 @@
 pub mod AcceptLemmas
 pub mod VerdictLemmas
+pub mod NumberLemmas

@@ -3,7 +3,7 @@ use Rattle.std.proofs.Common.{rules, tests}
 use Rattle.std.proofs.lemmas.Iterator.Search.{all_from_yields_List}
 use Rattle.std.proofs.lemmas.Iterator.Splits.{YieldsList-from_slice_split}
 use Rattle.spell_types.specs.Numbers.{is_separator, is_group, is_number}
-use Rattle.word_verdict.proofs.numbers.is_number.Goals as goal
+use Rattle.word_verdict.proofs.numbers.are_groups.Goals as goal
 
 pub returns : goal.returns
 unfolding is_number
