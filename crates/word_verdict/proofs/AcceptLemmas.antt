@@ -12,6 +12,7 @@ use Rattle.spell_types.specs.Licences.{is_barred}
 use Rattle.spell_types.specs.Numbers.{is_number, undotted, is_dot}
 use Rattle.spell_types.specs.Yields.{accepts, is_broken_by, is_accepted_undotted, most_characters}
 use Rattle.break_points.specs.Judging.{is_base_by, is_barred_by}
+use Rattle.break_points.specs.Patterns.{BreakAlike}
 use Rattle.word_verdict.specs.Accepting.{is_accepted_short, is_accepted_before_dots}
 use Rattle.word_verdict.specs.Judging.{judged, judged_by}
 use mathlib.Core.Path.{fun_ext}
@@ -33,15 +34,15 @@ unfolding is_base
 barred-no_base lexicon word barred =
     ap (λ b. not b && list_any (is_right_spelling lexicon word) (covered_by word)) barred
 
-pub broken_as_judged : (lexicon : Lexicon) (breaks : List Anchored) (word : List ℕ) → breaks ≡ lexicon.affixes.breaks
+pub broken_as_judged : (lexicon : Lexicon) (breaks : List Anchored) (word : List ℕ) → BreakAlike breaks lexicon.affixes.breaks
     → is_broken (is_base_by (judged lexicon)) (is_barred_by (judged lexicon)) breaks word ≡ is_broken_by lexicon word
-unfolding judged is_broken_by
-broken_as_judged lexicon breaks word same =
+unfolding judged is_broken_by BreakAlike
+broken_as_judged lexicon breaks word alike =
     ap (λ base. is_broken base (is_barred_by (judged lexicon)) breaks word)
     (fun_ext (λ w. base-by (is_barred lexicon w) (is_base lexicon w) (barred-no_base lexicon w) w))
     ∙ ap (λ barred. is_broken (is_base lexicon) barred breaks word)
     (fun_ext (λ w. barred-by (is_barred lexicon w) (is_base lexicon w) w))
-    ∙ ap (λ bs. is_broken (is_base lexicon) (is_barred lexicon) bs word) same
+    ∙ alike (is_base lexicon) (is_barred lexicon) word
 
 -- the cases of a word that is looked up
 

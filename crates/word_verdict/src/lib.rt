@@ -3,16 +3,18 @@
 
 ghost use Rattle.std.specs.Prelude.{◌≡◌, IfOk};
 ghost use Rattle.spell_types.specs.Sanity.{IsSane};
+ghost use Rattle.conversions.specs.Patterns.{or_word};
 
 mod numbers;
 mod pieces;
 mod words;
 
 use affix_strip::Stems;
-use conversions::{convert, drop_ignored};
+use break_points::Breaks;
+use conversions::{Conversions, Ignored};
 use lists::NoMemory;
 use mark_types::Judge;
-use spell_types::{Affixes, Entries, Lexicon};
+use spell_types::{Affixes, Chars, Entries, Lexicon};
 use std::alloc::Global;
 use std::marker::Model;
 use words::accepts;
@@ -21,14 +23,20 @@ use words::accepts;
 #[derive(Drop)]
 pub struct Speller {
     stems: Stems,
+    conversions: Conversions,
+    ignored: Ignored,
+    breaks: Breaks,
 }
 
 impl Model for Speller {
     ghost use Rattle.spell_types.specs.declared.Lexicon.{Lexicon};
+    ghost use Rattle.word_verdict.specs.Preparing.{ArePrepared};
 
     ghost Value = { Lexicon };
 
     ghost view = { λ inside. inside.stems };
+
+    ghost invariant = { λ inside. ArePrepared inside.stems inside.conversions inside.ignored inside.breaks };
 }
 
 impl Speller {
@@ -37,8 +45,16 @@ impl Speller {
         requires { IsSane (record { affixes = affixes; entries = entries }) }
         ensures { IfOk result (λ made. made ≡ record { affixes = affixes; entries = entries }) }
     {
+        let conversions = Conversions::new(alloc, &affixes.iconv)?;
+        let ignored = Ignored::new(alloc, &affixes.ignore)?;
+        let breaks = Breaks::new(alloc, &affixes.breaks)?;
         let stems = Stems::new(alloc, Lexicon { affixes, entries })?;
-        Ok(Speller { stems })
+        Ok(Speller {
+            stems,
+            conversions,
+            ignored,
+            breaks,
+        })
     }
 }
 
@@ -47,13 +63,23 @@ impl Judge for Speller {
 
     #[tactic(auto, unfolding(spell_types::specs::Yields::looked_up, spell_types::specs::Yields::yields))]
     fn verdict(&self, alloc: Global, written: &[char]) -> Result<bool, NoMemory> {
-        let affixes = &self.stems.lexicon().affixes;
-        let made = convert(alloc, &affixes.iconv, written)?;
-        let word = drop_ignored(alloc, &affixes.ignore, &made)?;
-        accepts(alloc, &self.stems, &word)
+        let made = self.conversions.convert(alloc, written)?;
+        let converted = made_or(&made, written);
+        let left = self.ignored.drop_from(alloc, converted)?;
+        accepts(alloc, &self.stems, &self.breaks, made_or(&left, converted))
     }
 
     fn wordchars(&self) -> &[char] {
         &self.stems.lexicon().affixes.wordchars
+    }
+}
+
+/// What was made of a word, or the word itself where nothing was.
+fn made_or<'a>(made: &'a Option<Chars>, word: &'a [char]) -> &'a [char]
+    ensures { result.now ≡ or_word made.now word.now }
+{
+    match made {
+        Some(made) => made.as_slice(),
+        None => word,
     }
 }

@@ -4,12 +4,13 @@ ghost use Rattle.std.specs.Prelude.{◌≡◌, false, IfOk};
 ghost use Rattle.spell_types.specs.Conditions.{is_one_of};
 ghost use Rattle.spell_types.specs.Numbers.{is_number};
 ghost use Rattle.spell_types.specs.Yields.{is_broken_by, accepts};
+ghost use Rattle.break_points.specs.Patterns.{BreakAlike};
 ghost use Rattle.word_verdict.specs.Accepting.{is_accepted_short, is_accepted_before_dots};
 
 use crate::numbers::{is_number, undotted};
 use crate::pieces::judge_piece;
 use affix_strip::Stems;
-use break_points::broken;
+use break_points::Breaks;
 use lists::NoMemory;
 use spell_types::Lexicon;
 use std::alloc::Global;
@@ -18,7 +19,13 @@ use std::alloc::Global;
 const MOST_CHARACTERS: usize = 100;
 
 /// Whether a dictionary accepts a word that is looked up.
-pub(crate) fn accepts(alloc: Global, stems: &Stems, word: &[char]) -> Result<bool, NoMemory>
+pub(crate) fn accepts(
+    alloc: Global,
+    stems: &Stems,
+    breaks: &Breaks,
+    word: &[char],
+) -> Result<bool, NoMemory>
+    requires { BreakAlike breaks.now stems.now.affixes.breaks }
     ensures { IfOk result (λ answer. answer ≡ accepts stems.now word.now) }
 {
     if word.is_empty() || is_number(word) {
@@ -27,28 +34,40 @@ pub(crate) fn accepts(alloc: Global, stems: &Stems, word: &[char]) -> Result<boo
     if word.len() > MOST_CHARACTERS {
         return Ok(false);
     }
-    accepts_short(alloc, stems, word)
+    accepts_short(alloc, stems, breaks, word)
 }
 
 /// Whether a word that is no number and not too long is accepted, as it is or without the dots at its end. Where there
 /// are no dots it is looked at once.
 #[tactic(auto, using(crate::proofs::AcceptLemmas::refuses_undotted, crate::proofs::AcceptLemmas::accepts_undotted))]
-fn accepts_short(alloc: Global, stems: &Stems, word: &[char]) -> Result<bool, NoMemory>
-    requires { is_number word.now ≡ false }
+fn accepts_short(
+    alloc: Global,
+    stems: &Stems,
+    breaks: &Breaks,
+    word: &[char],
+) -> Result<bool, NoMemory>
+    requires breaks { BreakAlike breaks.now stems.now.affixes.breaks }
+    requires number { is_number word.now ≡ false }
     ensures { IfOk result (λ answer. answer ≡ is_accepted_short stems.now word.now) }
 {
-    if is_broken(alloc, stems, word)? {
+    if is_broken(alloc, stems, breaks, word)? {
         return Ok(true);
     }
     let rest = undotted(word);
     if rest.len() == word.len() {
         return Ok(false);
     }
-    accepts_before_dots(alloc, stems, rest)
+    accepts_before_dots(alloc, stems, breaks, rest)
 }
 
 /// Whether what stands before the dots at the end of a word is accepted, where dots are word characters.
-fn accepts_before_dots(alloc: Global, stems: &Stems, rest: &[char]) -> Result<bool, NoMemory>
+fn accepts_before_dots(
+    alloc: Global,
+    stems: &Stems,
+    breaks: &Breaks,
+    rest: &[char],
+) -> Result<bool, NoMemory>
+    requires { BreakAlike breaks.now stems.now.affixes.breaks }
     ensures { IfOk result (λ answer. answer ≡ is_accepted_before_dots stems.now rest.now) }
 {
     if rest.is_empty() || !are_dots_inside(stems.lexicon()) {
@@ -57,16 +76,16 @@ fn accepts_before_dots(alloc: Global, stems: &Stems, rest: &[char]) -> Result<bo
     if is_number(rest) {
         return Ok(true);
     }
-    is_broken(alloc, stems, rest)
+    is_broken(alloc, stems, breaks, rest)
 }
 
 /// Whether a word is accepted, perhaps in pieces.
-fn is_broken(alloc: Global, stems: &Stems, word: &[char]) -> Result<bool, NoMemory>
+fn is_broken(alloc: Global, stems: &Stems, breaks: &Breaks, word: &[char]) -> Result<bool, NoMemory>
+    requires { BreakAlike breaks.now stems.now.affixes.breaks }
     ensures { IfOk result (λ answer. answer ≡ is_broken_by stems.now word.now) }
 {
-    let breaks = &stems.lexicon().affixes.breaks;
     let judge = |piece: &[char]| judge_piece(alloc, stems, piece);
-    broken(alloc, breaks, word, &judge)
+    breaks.broken(alloc, word, &judge)
 }
 
 /// Whether dots are word characters.
