@@ -2,7 +2,8 @@
 # Times `check` on large dictionaries: an .aff file of 16 MB, one of 100,000 rules, a .dic file of 1,000,000 entries, and a
 # text of 1,000 words by 300 rules and 50,000 entries; and on hostile ones, with a text of 1,000 words: 100,000 rules that add
 # one text under 100,000 conditions, or strip 100,000 texts (by 100 words), 1,000 entries of one word, and 1,000,000 entries that
-# begin alike.
+# begin alike; and tables of 65,000 conversions or break points: all different, all equal, alike in their first 200 characters, or
+# all of which match; with words of 100 characters and one of 1,000,000.
 # Prints seconds and the most memory that was used.
 set -euo pipefail
 top=$(cd "$(dirname "$0")/.." && pwd)
@@ -33,6 +34,21 @@ awk 'BEGIN { count = split("work works rework reworks", words, " "); for (k = 0;
 awk 'BEGIN { print 1000000; for (i = 0; i < 1000000; i++) printf "preco%06d/AB\n", i }' > fronts.dic
 awk 'BEGIN { for (k = 0; k < 1000; k++) printf "preco%06d%s%s", (k * 7919) % 1000000, k % 2 ? "s" : "", k % 10 == 9 ? "\n" : " " }' > fronts.text
 
+# Tables of 65,000 rows. A word of 100 characters is the first one of each text.
+letters='function letters(count, made) { for (seed = 1; length(made) < count; ) { seed = (seed * 75 + 74) % 65537; made = made substr("abcdefghijklmnopqrstuvwxyz", seed % 26 + 1, 1) } return made }'
+same='function same(count, made) { made = "a"; while (length(made) < count) made = made made; return substr(made, 1, count) }'
+for table in ICONV BREAK; do
+    end=; if [ $table = ICONV ]; then end=' x'; fi
+    awk -v table=$table -v "end=$end" "$words"' BEGIN { print table, 65000; for (i = 0; i < 65000; i++) print table, word(i) end }' > $table-different.aff
+    awk -v table=$table -v "end=$end" 'BEGIN { print table, 65000; for (i = 0; i < 65000; i++) print table, "aaa" end }' > $table-equal.aff
+    awk -v table=$table -v "end=$end" "$same"' BEGIN { print table, 65000; front = same(200); for (i = 0; i < 65000; i++) printf "%s %s%05d%s\n", table, front, i, end }' > $table-alike.aff
+done
+awk "$letters"' BEGIN { print "BREAK", 65000; word = letters(100); for (made = 0; made < 65000; ) for (i = 1; i <= 100; i++) for (n = 1; n <= 101 - i; n++) for (k = 0; k < 3; k++) if (made++ < 65000) print "BREAK", (k == 1 ? "^" : "") substr(word, i, n) (k == 2 ? "$" : "") }' > BREAK-matching.aff
+awk "$words"' BEGIN { for (k = 0; k < 9; k++) printf "%s", word(k * 7919 % 65000); print "b"; for (k = 0; k < 90910; k++) printf "%s", word(k * 7919 % 65000); print "" }' > different.text
+awk "$same"' BEGIN { print same(100); print same(1000000) }' > equal.text
+cp equal.text alike.text
+awk "$letters"' BEGIN { print letters(100) }' > matching.text
+
 program=$top/crates/affedit/out/affedit
 measure() {
     local name=$1 said
@@ -52,3 +68,11 @@ measure "100,000 rules of one text and other conditions" conditions.aff conditio
 measure "100,000 rules that strip others, 100 words" strips.aff conditions.dic strips.text
 measure "1,000 entries of one word" homonyms.aff homonyms.dic homonyms.text
 measure "1,000,000 entries that begin alike" homonyms.aff fronts.dic fronts.text
+for shape in different equal alike; do
+    for table in ICONV BREAK; do
+        head -n 1 $shape.text > short.text
+        measure "65,000 rows of $table, $shape, a word of 100" $table-$shape.aff zero.dic short.text
+        measure "65,000 rows of $table, $shape, one of 1,000,000" $table-$shape.aff zero.dic $shape.text
+    done
+done
+measure "65,000 rows of BREAK that match a word of 100" BREAK-matching.aff zero.dic matching.text
