@@ -1,0 +1,126 @@
+#!/usr/bin/env bash
+# Times `check`, nuspell's library and hunspell's on the same words, by a list of a hundred words and by dictionaries of
+# Debian's packages, and prints a row of a table for each. The words are those of 2 MB of running text in the dictionary's
+# language, cut by this script (letters, with apostrophes between them) and given one a line to all three; the program reads
+# them in lines of ten too. Seconds are the processor's, the least of three runs; a word is the time of all words, less that of
+# no word, the load. The memory is the most that a run on the words used, and a megabyte 1024 kB. What is refused are words
+# that occur. Packages are fetched and unpacked, not installed; libhunspell-dev, libnuspell-dev and g++ are asked for.
+set -euo pipefail
+top=$(cd "$(dirname "$0")/.." && pwd)
+work=$(mktemp -d)
+trap 'rm -rf "$work"' EXIT
+cd "$work"
+export LC_ALL=C.UTF-8
+
+# A program `peer AFF DIC WORDS` that prints how many of the words, one a line, a library refuses.
+build_peer() {
+    local name=$1 load=$2
+    cat > "$name.cc" << CODE
+#include <$name/$([ "$name" = hunspell ] && echo hunspell || echo dictionary).hxx>
+#include <fstream>
+#include <iostream>
+int main(int, char **names) {
+    $load
+    std::ifstream words(names[3]);
+    std::string word;
+    long refused = 0;
+    while (std::getline(words, word)) refused += !dictionary.spell(word);
+    std::cout << refused << " refused\n";
+}
+CODE
+    # shellcheck disable=SC2046
+    g++ -std=c++17 -O2 -o "$name" "$name.cc" $(pkg-config --cflags --libs "$name")
+}
+build_peer hunspell 'Hunspell dictionary(names[1], names[2]);'
+build_peer nuspell 'std::ifstream aff(names[1]), dic(names[2]);
+    nuspell::Dictionary dictionary;
+    dictionary.load_aff_dic(aff, dic);'
+
+# The package in a folder of its name.
+unpack() {
+    (mkdir "$1" && cd "$1" && apt-get download "$1" > /dev/null 2>&1 && echo ./*.deb >&2 && dpkg-deb -x ./*.deb .)
+}
+
+# The least processor seconds and the least of the most kB of three runs, which leave what is said in `out`.
+measure() {
+    local TIMEFORMAT='%U %S'
+    rm -f seconds memory
+    for _ in 1 2 3; do
+        { time /usr/bin/time -q -a -o memory -f '%M' "$@" > out || true; } 2>> seconds
+    done
+    echo "$(awk '{ print $1 + $2 }' seconds | sort -n | head -n 1) $(sort -n memory | head -n 1)"
+}
+
+# The cells of one peer: load, a word, in lines of ten where the program takes them, memory, refused.
+cells() {
+    local load spent tens='' memory
+    read -r load _ <<< "$(measure "$@" /dev/null)"
+    if [ $# -eq 4 ]; then
+        read -r tens _ <<< "$(measure "$@" tens)"
+    fi
+    read -r spent memory <<< "$(measure "$@" words)"
+    awk -v load="$load" -v spent="$spent" -v tens="$tens" -v memory="$memory" -v count="$count" -v refused="$(cut -d ' ' -f 1 <<< "$(tail -n 1 out)")" 'BEGIN {
+        printf " %.2f s | %.2f μs |", load, (spent - load) * 1e6 / count
+        if (tens != "") printf " %.2f μs |", (tens - load) * 1e6 / count
+        printf " %.0f MB | %d |", memory / 1024, refused }'
+}
+
+# The row of a dictionary, on the words of the file `words`.
+row() {
+    local name=$1 said
+    count=$(wc -l < words)
+    paste -d ' ' - - - - - - - - - - < words > tens
+    if ! said=$("$program" check "$name.aff" "$name.dic" /dev/null); then
+        echo "$name: check says $said" >&2
+        return
+    fi
+    echo "| ${name##*/} | $count |$(cells "$program" check "$name.aff" "$name.dic")$(cells ./nuspell "$name.aff" "$name.dic")$(cells ./hunspell "$name.aff" "$name.dic")"
+}
+
+# Both files in UTF-8, where they are in another encoding.
+convert() {
+    local from file
+    from=$(sed -n 's/\r$//; s/^\(\xef\xbb\xbf\)\?SET *//p' "$1.aff" | head -n 1)
+    if [ -n "$from" ] && [ "$from" != UTF-8 ]; then
+        for file in "$1.aff" "$1.dic"; do
+            iconv -f "${from/ISO8859/ISO-8859}" -t UTF-8 "$file" | sed 's/^SET .*/SET UTF-8/' > converted
+            mv converted "$file"
+        done
+    fi
+}
+
+# The words of 2 MB of the running text of a package: the Debian Reference, or manual pages without their markup.
+words_of() {
+    cat "$1"/usr/share/debian-reference/*.txt.gz "$1"/usr/share/man/*/man[1-8]/*.gz 2> /dev/null | zcat | sed "/^[.']/d; s/\\\\f[A-Z]//g; s/\\\\-/-/g" > running || true
+    cat running running running | head -c 2000000 | grep -aoE "[[:alpha:]]+(['’][[:alpha:]]+)*" > words || true
+}
+
+# The launcher builds the program where it is missing; the program itself is timed.
+printf '0\n' > zero.dic
+"$top/affedit" check /dev/null zero.dic /dev/null > /dev/null
+program=$top/crates/affedit/out/affedit
+echo '| dictionary | words | load | a word | a word in tens | memory | refused | nuspell: load | a word | memory | refused | hunspell: load | a word | memory | refused |'
+echo '|---|---|---|---|---|---|---|---|---|---|---|---|---|---|---|'
+
+# A word of three syllables for a number, as bababa for 0; every tenth word is no word of the list.
+word='function word(i) { return substr("bdfgklmnrt", i % 10 + 1, 1) "a" substr("bdfgklmnrt", int(i / 10) % 10 + 1, 1) "e" substr("bdfgklmnrt", int(i / 100) % 10 + 1, 1) "i" }'
+printf 'SET UTF-8\n' > list.aff
+awk "$word"' BEGIN { print 100; for (i = 0; i < 100; i++) print word(i) }' > list.dic
+awk "$word"' BEGIN { for (l = 0; l < 300000; l++) print word((l * 7) % 100 + (l % 10 == 9 ? 100 : 0)) }' > words
+row list
+while read -r package name manual; do
+    unpack "$package"
+    unpack "$manual"
+    convert "$package/usr/share/hunspell/$name"
+    words_of "$manual"
+    row "$package/usr/share/hunspell/$name"
+done << PAIRS
+hunspell-fr-classical fr debian-reference-fr
+hunspell-es es_ES debian-reference-es
+hunspell-it it_IT debian-reference-it
+hunspell-pt-br pt_BR debian-reference-pt-br
+hunspell-ru ru_RU manpages-ru
+hunspell-uk uk_UA manpages-uk
+hunspell-pl pl_PL manpages-pl
+hunspell-cs cs_CZ manpages-cs
+PAIRS
