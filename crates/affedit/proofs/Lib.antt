@@ -1,5 +1,5 @@
+pub mod CharacterLemmas
 pub mod CutLemmas
-pub mod CheckLemmas
 pub mod ReportLemmas
 pub mod EndingLemmas
 pub mod DueLemmas

@@ -1,6 +1,6 @@
 -- The report, paragraph by paragraph, is the report on the whole text.
-use Rattle.std.proofs.Common.{◌≡◌, ℕ, ◌+◌, List, [], ◌∷◌, ◌++◌, length, map, refl, sym, ap, ◌∙◌, length-append, drop, ◌≤◌, add-zero}
-use Rattle.std.specs.List.{flat_map, enumerate_from}
+use Rattle.std.proofs.Common.{◌≡◌, ℕ, suc, ◌+◌, ◌-◌, ◌≤◌, true, false, not, cond, List, [], ◌∷◌, ◌++◌, length, map, filter, refl, sym, ap, ◌∙◌, arith, length-append, drop, add-zero, encode_utf8_all}
+use Rattle.std.specs.List.{flat_map, enumerate_from, AllByRecursion}
 use Rattle.std.specs.Str.{chars}
 use Rattle.std.proofs.lemmas.List.{length-map, append-nil}
 use Rattle.std.proofs.Math.ListN.{drop_of_length-le}
@@ -8,14 +8,60 @@ use Rattle.std.proofs.lemmas.Grind.{flat_map-append}
 use Rattle.spell_types.specs.declared.Lexicon.{Lexicon}
 use Rattle.text_lines.specs.declared.found.Line.{Line}
 use Rattle.text_lines.specs.Lines.{text_of}
-use Rattle.mark_types.specs.Words.{words_of}
-use Rattle.mark_types.specs.Marks.{LocatedWord, located_at, located_words, in_paragraph, one_by_one, marks_of}
-use Rattle.mark_types.specs.Handed.{mark_of}
-use Rattle.affedit.specs.Reports.{line_of, found_line, paragraph_lines, paragraphs_of}
+use Rattle.spell_types.specs.Yields.{yields}
+use Rattle.mark_types.specs.Words.{Word, words_of, StandsIn}
+use Rattle.mark_types.specs.Marks.{LocatedWord, located_at, located_words, in_paragraph, is_unknown, one_by_one, marks_of}
+use Rattle.affedit.specs.Reports.{line_of, mark_line, word_line, is_marked, paragraph_lines, paragraphs_of}
 
-pub found-lines : (number : ℕ) (marks : List LocatedWord) → flat_map (found_line number) (map mark_of marks) ≡ flat_map line_of (map (in_paragraph number) marks)
-found-lines number [] = refl
-found-lines number (mark ∷ marks) = ap (λ lines. line_of (in_paragraph number mark) ++ lines) (found-lines number marks)
+-- a word of a paragraph that stands alone
+abbrev alone : Word → LocatedWord
+alone word = located_at 1 word.from word
+
+line-alone : (number : ℕ) (paragraph : List ℕ) (word : Word) → StandsIn paragraph word
+    → line_of (in_paragraph number (alone word)) ≡ mark_line number word.from word.to (encode_utf8_all word.characters)
+line-alone number paragraph word stands =
+    let end : word.from + (word.to - word.from) ≡ word.to = omega (arith, stands.to) in
+    ap (λ to. mark_line number word.from to (encode_utf8_all word.characters)) end
+
+lines-alone : (lexicon : Lexicon) (number : ℕ) (paragraph : List ℕ) (words : List Word) → AllByRecursion (StandsIn paragraph) words
+    → flat_map (word_line lexicon number) words ≡ flat_map line_of (map (in_paragraph number) (filter (is_unknown lexicon) (map alone words)))
+lines-alone lexicon number paragraph [] each = refl
+lines-alone lexicon number paragraph (word ∷ words) each =
+    let rest = lines-alone lexicon number paragraph words each.1 in
+    let line = mark_line number word.from word.to (encode_utf8_all word.characters) in
+    elim (yields lexicon word.characters) as (λ b. cond b [] line ++ flat_map (word_line lexicon number) words
+    ≡ flat_map line_of (map (in_paragraph number) (cond (not b) (alone word ∷ filter (is_unknown lexicon) (map alone words)) (filter (is_unknown lexicon) (map alone words))))) [
+      | true ↦ rest
+      | false ↦ ap (λ line. line ++ flat_map (word_line lexicon number) words) (sym (line-alone number paragraph word each.0))
+          ∙ ap (λ lines. line_of (in_paragraph number (alone word)) ++ lines) rest
+    ]
+
+-- the lines of a paragraph's words are those of its marks
+pub lines-of-words : (lexicon : Lexicon) (number : ℕ) (paragraph : List ℕ) → AllByRecursion (StandsIn paragraph) (words_of lexicon.affixes.wordchars paragraph)
+    → located_words lexicon.affixes.wordchars (paragraph ∷ []) ≡ map alone (words_of lexicon.affixes.wordchars paragraph)
+    → flat_map (word_line lexicon number) (words_of lexicon.affixes.wordchars paragraph) ≡ paragraph_lines lexicon number paragraph
+unfolding marks_of
+lines-of-words lexicon number paragraph each where_they_are =
+    lines-alone lexicon number paragraph (words_of lexicon.affixes.wordchars paragraph) each
+    ∙ ap (λ located. flat_map line_of (map (in_paragraph number) (filter (is_unknown lexicon) located))) (sym where_they_are)
+
+marks-alone : (lexicon : Lexicon) (words : List Word) → length (filter (is_marked lexicon) words) ≡ length (filter (is_unknown lexicon) (map alone words))
+marks-alone lexicon [] = refl
+marks-alone lexicon (word ∷ words) =
+    let rest = marks-alone lexicon words in
+    elim (yields lexicon word.characters) as (λ b. length (cond (not b) (word ∷ filter (is_marked lexicon) words) (filter (is_marked lexicon) words))
+    ≡ length (cond (not b) (alone word ∷ filter (is_unknown lexicon) (map alone words)) (filter (is_unknown lexicon) (map alone words)))) [
+      | true ↦ rest
+      | false ↦ ap (λ n. suc n) rest
+    ]
+
+-- the words that are marked are as many as the paragraph's marks
+pub marks-of-words : (lexicon : Lexicon) (paragraph : List ℕ)
+    → located_words lexicon.affixes.wordchars (paragraph ∷ []) ≡ map alone (words_of lexicon.affixes.wordchars paragraph)
+    → length (filter (is_marked lexicon) (words_of lexicon.affixes.wordchars paragraph)) ≡ length (marks_of lexicon (paragraph ∷ []))
+unfolding marks_of
+marks-of-words lexicon paragraph where_they_are =
+    marks-alone lexicon (words_of lexicon.affixes.wordchars paragraph) ∙ ap (λ located. length (filter (is_unknown lexicon) located)) (sym where_they_are)
 
 -- the lines of these paragraphs' marks, the first of which has this number
 abbrev pub lines_from : Lexicon → List ℕ → ℕ → List Line → List ℕ

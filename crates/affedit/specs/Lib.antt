@@ -1,5 +1,4 @@
 pub mod Runs
-pub mod Paragraphs
 pub mod Reports
 pub mod Stops
 pub mod Due

@@ -1,11 +1,12 @@
 -- What is printed of the marks of a text.
-use Rattle.std.specs.Prelude.{ℕ, List, [], ◌∷◌, ◌++◌, length, map, encode_utf8_all}
+use Rattle.std.specs.Prelude.{ℕ, Bool, not, List, [], ◌∷◌, ◌++◌, length, map, encode_utf8_all, if◌then◌else◌}
 use Rattle.std.specs.List.{flat_map}
 use Rattle.std.specs.Fmt.{decimal}
 use Rattle.std.specs.Str.{chars}
 use Rattle.spell_types.specs.declared.Lexicon.{Lexicon}
 use Rattle.mark_types.specs.Marks.{LocatedWord, located_words, in_paragraph, marks_of}
-use Rattle.mark_types.specs.declared.Mark.{Mark}
+use Rattle.mark_types.specs.Words.{Word}
+use Rattle.spell_types.specs.Yields.{yields}
 use Rattle.text_lines.specs.declared.found.Line.{Line}
 use Rattle.text_lines.specs.Lines.{text_of}
 
@@ -43,9 +44,14 @@ report_of lexicon paragraphs =
 abbrev pub paragraph_lines : Lexicon → ℕ → List ℕ → List ℕ
 paragraph_lines lexicon number paragraph = flat_map line_of (map (in_paragraph number) (marks_of lexicon (paragraph ∷ [])))
 
--- the line of a mark of this paragraph, as it was found in the paragraph alone
-abbrev pub found_line : ℕ → Mark → List ℕ
-found_line paragraph mark = mark_line paragraph mark.from mark.to mark.word
+-- whether a word is marked: the lexicon does not generate it
+abbrev pub is_marked : Lexicon → Word → Bool
+is_marked lexicon word = not (yields lexicon word.characters)
+
+-- the line of a word of the paragraph with this number, if the word is marked
+abbrev pub word_line : Lexicon → ℕ → Word → List ℕ
+word_line lexicon number word =
+    if yields lexicon word.characters then [] else mark_line number word.from word.to (encode_utf8_all word.characters)
 
 -- the paragraphs of a document: the characters of its lines
 abbrev pub paragraphs_of : List ℕ → List Line → List (List ℕ)

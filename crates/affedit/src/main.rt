@@ -2,7 +2,6 @@
 #![tactic(auto)]
 
 mod check;
-mod checker;
 mod cutter;
 mod report;
 mod run;

@@ -1,17 +1,18 @@
 //! Prints the marks of a document.
 
-ghost use Rattle.std.specs.Prelude.{◌≡◌, ◌+◌, ◌<◌, ◌≤◌, ◌^◌, [], ◌∷◌, ◌++◌, All, IfOk, OnOk, length};
+ghost use Rattle.std.specs.Prelude.{◌≡◌, ◌+◌, ◌<◌, ◌≤◌, ◌^◌, [], ◌∷◌, ◌++◌, All, IfOk, OnOk, filter, length, encode_utf8_all};
 ghost use Rattle.std.specs.List.{flat_map};
 ghost use Rattle.std.specs.Str.{chars};
 ghost use Rattle.std.specs.String.{string_bytes};
 ghost use Rattle.mark_types.specs.Marks.{located_words, marks_of};
-ghost use Rattle.mark_types.specs.Words.{words_of};
+ghost use Rattle.mark_types.specs.Words.{byte_count, words_of};
 ghost use Rattle.text_lines.specs.Lines.{IsInside};
-ghost use Rattle.affedit.specs.Reports.{line_of, found_line, count_line, report_of, paragraph_lines, paragraphs_of};
+ghost use Rattle.affedit.specs.Reports.{line_of, mark_line, word_line, is_marked, count_line, report_of, paragraph_lines, paragraphs_of};
+ghost use Rattle.affedit.specs.Runs.{found_word};
 
-use crate::checker::check_paragraph;
+use crate::cutter::{Found, Rest, next_word, refill};
 use lists::NoMemory;
-use mark_types::{Judge, Mark, marks_are_local};
+use mark_types::{Judge, marks_are_local, words_stand_in_their_text};
 use std::alloc::{AllocError, Global};
 use text_lines::found::Line;
 use text_lines::line_text;
@@ -64,20 +65,24 @@ fn report_of_paragraphs<J: Judge>(
         marks: 0,
         words: 0,
     };
+    let mut characters = Vec::new(alloc);
     for (place, line) in lines.iter().enumerate() {
-        report.add_paragraph(alloc, judge, place as u64 + 1, line_text(document, line))?;
+        let text = line_text(document, line);
+        report.add_paragraph(alloc, judge, place as u64 + 1, text, &mut characters)?;
     }
     Ok(report)
 }
 
 impl Report {
-    /// Adds the lines of one paragraph's marks.
+    /// Adds the lines of one paragraph's marks, and counts its words. Its characters are put where those of the
+    /// paragraph before stood.
     fn add_paragraph<J: Judge>(
         &mut self,
         alloc: Global,
         judge: &J,
         number: u64,
         text: &str,
+        characters: &mut Vec<char>,
     ) -> Result<(), NoMemory>
         requires small { length text.now < 2 ^ 32 }
         requires room { self.old.words + 2 ^ 32 ≤ 2 ^ 64 }
@@ -88,31 +93,80 @@ impl Report {
         ensures grown { OnOk result (self.new.words ≤ self.old.words + length text.now) }
         ensures fewer { OnOk result (self.new.marks ≤ self.new.words) }
     {
-        let checked = check_paragraph(alloc, judge, text)?;
-        let marks = &checked.marks;
-        push_mark_lines(&mut self.text, number, marks)?;
-        self.marks += marks.len() as u64;
-        self.words += checked.words as u64;
+        refill(characters, text)?;
+        self.add_words(alloc, judge, number, characters)
+    }
+
+    /// Adds the lines of the words that are to be marked, and counts all words.
+    fn add_words<J: Judge>(
+        &mut self,
+        alloc: Global,
+        judge: &J,
+        number: u64,
+        paragraph: &[char],
+    ) -> Result<(), NoMemory>
+        requires small { byte_count paragraph.now < 2 ^ 32 }
+        requires room { self.old.words + 2 ^ 32 ≤ 2 ^ 64 }
+        requires fewer { self.old.marks ≤ self.old.words }
+        ensures text { OnOk result (string_bytes self.new.text ≡ string_bytes self.old.text ++ paragraph_lines (J.lexicon judge.now) number paragraph.now) }
+        ensures marks { OnOk result (self.new.marks ≡ self.old.marks + length (marks_of (J.lexicon judge.now) (paragraph.now ∷ []))) }
+        ensures words { OnOk result (self.new.words ≡ self.old.words + length (words_of (J.lexicon judge.now).affixes.wordchars paragraph.now)) }
+        ensures grown { OnOk result (self.new.words ≤ self.old.words + byte_count paragraph.now) }
+        ensures fewer { OnOk result (self.new.marks ≤ self.new.words) }
+    {
+        marks_are_local();
+        words_stand_in_their_text();
+        let wordchars = judge.wordchars();
+        let mut rest = Rest::of(paragraph);
+        while let Some(found) = next_word(wordchars, rest) {
+            self.add_word(alloc, judge, number, &found)?;
+            rest = found.rest;
+        }
+        Ok(())
+    }
+
+    /// Adds the line of a word if it is to be marked, and counts it.
+    fn add_word<J: Judge>(
+        &mut self,
+        alloc: Global,
+        judge: &J,
+        number: u64,
+        found: &Found<'_>,
+    ) -> Result<(), NoMemory>
+        requires room { self.old.words + 1 < 2 ^ 64 }
+        requires fewer { self.old.marks ≤ self.old.words }
+        ensures text { OnOk result (string_bytes self.new.text ≡ string_bytes self.old.text ++ word_line (J.lexicon judge.now) number (found_word found.now)) }
+        ensures marks { OnOk result (self.new.marks ≡ self.old.marks + length (filter (is_marked (J.lexicon judge.now)) (found_word found.now ∷ []))) }
+        ensures words { OnOk result (self.new.words ≡ self.old.words + 1) }
+        ensures fewer { OnOk result (self.new.marks ≤ self.new.words) }
+    {
+        self.words += 1;
+        if !judge.verdict(alloc, found.word)? {
+            self.marks += 1;
+            push_mark_line(&mut self.text, number, found)?;
+        }
         Ok(())
     }
 }
 
-fn push_mark_lines(text: &mut String, number: u64, marks: &[Mark]) -> Result<(), AllocError>
-    ensures { OnOk result (string_bytes text.new ≡ string_bytes text.old ++ flat_map (found_line number) marks.now) }
+fn push_mark_line(text: &mut String, number: u64, found: &Found<'_>) -> Result<(), AllocError>
+    ensures { OnOk result (string_bytes text.new
+        ≡ string_bytes text.old ++ mark_line number found.now.from found.now.rest.at (encode_utf8_all found.now.word.now)) }
 {
-    for mark in marks {
-        push_mark_line(text, number, mark)?;
-    }
-    Ok(())
+    let from = found.from;
+    let to = found.rest.at;
+    write!(text, "{number} {from} {to} ")?;
+    push_characters(text, found.word)?;
+    text.push('\n')
 }
 
-fn push_mark_line(text: &mut String, number: u64, mark: &Mark) -> Result<(), AllocError>
-    ensures { OnOk result (string_bytes text.new ≡ string_bytes text.old ++ found_line number mark.now) }
+fn push_characters(text: &mut String, characters: &[char]) -> Result<(), AllocError>
+    ensures { OnOk result (string_bytes text.new ≡ string_bytes text.old ++ encode_utf8_all characters.now) }
 {
-    let from = mark.from;
-    let to = mark.to;
-    let word = mark.word.as_str();
-    write!(text, "{number} {from} {to} {word}\n")
+    for c in characters {
+        text.push(*c)?;
+    }
+    Ok(())
 }
 
 fn push_count_line(text: &mut String, marks: u64, words: u64) -> Result<(), AllocError>
