@@ -3,7 +3,7 @@
 //! Rows are parted by blank lines. A line `aff`, `dic` or `text` has the lines of that file, with bars between them, so that
 //! the last one has an end where a bar stands behind it; `3*LINE` is a line three times, and U+FFFD a byte that is no text. A
 //! file that is not named is empty. A line that begins with a digit runs `check`: it has the exit status and the lines
-//! that are to be printed. A further text in a row is checked by the same dictionary. `#` begins a remark.
+//! that are to be printed. A further file in a row takes that one's place for the runs behind it. `#` begins a remark.
 
 use super::assert_checked;
 use std::alloc::{AllocError, Global};
