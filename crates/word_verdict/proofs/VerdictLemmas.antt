@@ -97,6 +97,11 @@ unfolding judged
 judged_barred lexicon word barred = sym (ap (λ b. judged_by b (is_base lexicon word)) barred)
 
 -- a word that does not begin in upper case and has a lower-case character covers itself alone
-pub covers-itself : (lexicon : Lexicon) (word : List ℕ) → begins_upper word ≡ false → has_lower word ≡ true → covers_right_spelling lexicon word ≡ false
+small-some : (a b : Bool) → (a || not b) ≡ false → (a ≡ false) × (b ≡ true)
+small-some true b neither = absurd (cc neither)
+small-some false true neither = (refl, refl)
+small-some false false neither = absurd (cc neither)
+
+pub covers-itself : (lexicon : Lexicon) (word : List ℕ) → (begins_upper word || not (has_lower word)) ≡ false → covers_right_spelling lexicon word ≡ false
 unfolding covers_right_spelling covered_by
-covers-itself lexicon word small some = rw (small, some) refl
+covers-itself lexicon word neither = let parts = small-some (begins_upper word) (has_lower word) neither in rw (parts.0, parts.1) refl

@@ -1,8 +1,9 @@
 //! Words that are accepted as they are written, without being broken.
 
-ghost use Rattle.std.specs.Prelude.{◌≡◌, true, IfOk};
+ghost use Rattle.std.specs.Prelude.{◌≡◌, ◌||◌, not, true, IfOk};
 ghost use Rattle.std.specs.List.{list_any};
 ghost use Rattle.spell_types.specs.Bases.{is_alone_in_case, is_right_spelling};
+ghost use Rattle.spell_types.specs.Cases.{begins_upper, has_lower};
 ghost use Rattle.spell_types.specs.Licences.{is_barred, is_derived};
 ghost use Rattle.word_verdict.specs.Judging.{judged, covers_right_spelling};
 
@@ -34,7 +35,7 @@ pub(crate) fn judge_piece(alloc: Global, stems: &Stems, piece: &[char]) -> Resul
 fn covers_right_spelling(alloc: Global, stems: &Stems, word: &[char]) -> Result<bool, NoMemory>
     ensures { IfOk result (λ answer. answer ≡ covers_right_spelling stems.now word.now) }
 {
-    if !begins_upper(word) && has_lower(word) {
+    if !may_cover_others(word) {
         return Ok(false);
     }
     let spellings = covered(alloc, word)?;
@@ -42,6 +43,13 @@ fn covers_right_spelling(alloc: Global, stems: &Stems, word: &[char]) -> Result<
         [_, others @ ..] => one_is_right(alloc, stems, word, others),
         [] => Ok(false),
     }
+}
+
+/// Whether a word may cover spellings other than itself: it begins in upper case, or has no lower-case character.
+fn may_cover_others(word: &[char]) -> bool
+    ensures { result ≡ (begins_upper word.now || not (has_lower word.now)) }
+{
+    begins_upper(word) || !has_lower(word)
 }
 
 /// Whether one of these spellings is right for the word that is written so.
