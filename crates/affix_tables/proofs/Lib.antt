@@ -1,3 +1,4 @@
+mod EndLemmas
 mod EntryLemmas
 mod GatherLemmas
 mod GroupLemmas

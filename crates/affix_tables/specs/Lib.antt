@@ -1,3 +1,4 @@
+pub mod Ends
 pub mod Groups
 pub mod Places
 pub mod Tables

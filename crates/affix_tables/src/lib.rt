@@ -1,7 +1,7 @@
 //! Affix rules by the texts that they add: which of them may have made a word.
 #![tactic(auto)]
 
-ghost use Rattle.std.specs.Prelude.{◌≡◌, ◌↔◌, ◌^◌, ◌<◌, ◌≤◌, ◌++◌, [], ◌∷◌, ℕ, List, Some, true, length, max, min, nat_eq, slice_get, Contains, OnOk, IfOk, if◌then◌else◌};
+ghost use Rattle.std.specs.Prelude.{◌≡◌, ◌↔◌, ◌+◌, ◌^◌, ◌<◌, ◌≤◌, ◌++◌, [], ◌∷◌, ℕ, List, Some, true, false, length, max, min, nat_eq, slice_get, Contains, OnOk, IfOk, if◌then◌else◌};
 ghost use Rattle.std.specs.Cmp.Lexicographic.{pointwise};
 ghost use Rattle.spell_types.specs.Derivations.{is_same_side};
 ghost use Rattle.std.specs.List.{starts_with, ends_with};
@@ -10,16 +10,24 @@ ghost use Rattle.spell_types.specs.declared.rules.Rule.{Rule};
 ghost use Rattle.spell_types.specs.declared.rules.Side.TheVariants.{Prefix, Suffix};
 ghost use Rattle.affix_tables.specs.Places.{suffix_places, prefix_places};
 ghost use Rattle.affix_tables.specs.Groups.{strip_in, places_in, AreApart, AreGroups};
+ghost use Rattle.indexmap.specs.IndexSet.{contains};
+ghost use Rattle.affix_tables.specs.Ends.{char_at, key_with, key_at, HasEnds, KeepsEnds};
 ghost use Rattle.affix_tables.specs.Tables.{places_at, groups_at, all_places, Puts, ending_places, front_places, IsTable, IsTableOf};
 
 #[cfg(test)]
 mod tests;
 
-use indexmap::IndexMap;
 use indexmap::map::Slice;
+use indexmap::{IndexMap, IndexSet};
 use lists::NoMemory;
 use spell_types::{Rule, Side};
 use std::alloc::Global;
+
+/// The key of no characters.
+const START: u64 = 1;
+
+/// What a key is multiplied with before a character is added. It is odd, so that no bit of what stands before is lost.
+const FACTOR: u64 = 0x9E37_79B9_7F4A_7C15;
 
 /// The affix rules of a dictionary, by the texts that they add. The rules themselves are not kept: an answer names
 /// them by their places in the list that the tables were made of.
@@ -43,6 +51,8 @@ struct Table {
     by_text: IndexMap<Vec<char>, GroupMap>,
     /// No rule adds more characters.
     longest: usize,
+    /// The keys of all ends of the texts that rules add, seen from the side: where a word's end has none of them, no rule goes on.
+    ends: IndexSet<u64>,
 }
 
 impl AffixTables {
@@ -95,20 +105,24 @@ impl AffixTables {
         groups_of(&self.prefixes.by_text, added)
     }
 
-    /// No suffix rule adds more characters than this.
-    pub fn longest_suffix(&self) -> usize
-        ensures { (rules : List Rule) → IsTableOf rules self.now → (place : ℕ) (rule : Rule)
-            → slice_get rules place ≡ Some rule → rule.side ≡ Suffix → length rule.add ≤ result }
+    /// No suffix rule whose added text ends the word adds more characters than this.
+    pub fn suffix_reach(&self, word: &[char]) -> usize
+        ensures within { result ≤ length word.now }
+        ensures rules { (rules : List Rule) → IsTableOf rules self.now → (place : ℕ) (rule : Rule)
+            → slice_get rules place ≡ Some rule → rule.side ≡ Suffix → ends_with nat_eq word.now rule.add ≡ true
+            → length rule.add ≤ result }
     {
-        self.suffixes.longest
+        reach(Side::Suffix, &self.suffixes.ends, word)
     }
 
-    /// No prefix rule adds more characters than this.
-    pub fn longest_prefix(&self) -> usize
-        ensures { (rules : List Rule) → IsTableOf rules self.now → (place : ℕ) (rule : Rule)
-            → slice_get rules place ≡ Some rule → rule.side ≡ Prefix → length rule.add ≤ result }
+    /// No prefix rule whose added text begins the word adds more characters than this.
+    pub fn prefix_reach(&self, word: &[char]) -> usize
+        ensures within { result ≤ length word.now }
+        ensures rules { (rules : List Rule) → IsTableOf rules self.now → (place : ℕ) (rule : Rule)
+            → slice_get rules place ≡ Some rule → rule.side ≡ Prefix → starts_with nat_eq word.now rule.add ≡ true
+            → length rule.add ≤ result }
     {
-        self.prefixes.longest
+        reach(Side::Prefix, &self.prefixes.ends, word)
     }
 }
 
@@ -135,6 +149,7 @@ fn table_of(alloc: Global, side: Side, rules: &[Rule]) -> Result<Table, NoMemory
     let mut table = Table {
         by_text: IndexMap::new(alloc),
         longest: 0,
+        ends: IndexSet::new(alloc),
     };
     for (place, rule) in rules.iter().enumerate() {
         add_rule(alloc, side, rule, place as u32, &mut table)?;
@@ -158,6 +173,7 @@ fn add_rule(
     }
     put(
         alloc,
+        side,
         table,
         rule.add.as_slice(),
         rule.strip.as_slice(),
@@ -180,6 +196,7 @@ fn is_on(side: Side, rule: &Rule) -> bool
 /// Adds a place at the end of its group, which is that of the rules that add and strip off these texts.
 fn put(
     alloc: Global,
+    side: Side,
     table: &mut Table,
     added: &[char],
     stripped: &[char],
@@ -187,10 +204,56 @@ fn put(
 ) -> Result<(), NoMemory>
     ensures place { OnOk result (Puts table.old.by_text.entries table.new.by_text.entries added.now stripped.now place) }
     ensures longest { OnOk result (table.new.longest ≡ max table.old.longest (length added.now)) }
+    ensures ends { OnOk result (HasEnds side added.now table.new.ends × KeepsEnds table.old.ends table.new.ends) }
 {
     put_in_group(alloc, &mut table.by_text, added, stripped, place)?;
     table.longest = table.longest.max(added.len());
+    add_ends(side, added, &mut table.ends)
+}
+
+/// Adds the keys of all ends of a text, seen from the side.
+fn add_ends(side: Side, text: &[char], ends: &mut IndexSet<u64>) -> Result<(), NoMemory>
+    ensures { OnOk result (HasEnds side text.now ends.new × KeepsEnds ends.old ends.new) }
+{
+    let mut key = START;
+    for number in 0..text.len() {
+        key = key_with(key, char_at(side, text, number));
+        ends.insert(key)?;
+    }
     Ok(())
+}
+
+/// How many characters at the side's end of a word have a key among these, one after another.
+fn reach(side: Side, ends: &IndexSet<u64>, word: &[char]) -> usize
+    ensures within { result ≤ length word.now }
+    ensures over { result < length word.now → contains nat_eq ends.now (key_at side word.now (result + 1)) ≡ false }
+{
+    let mut key = START;
+    for number in 0..word.len() {
+        key = key_with(key, char_at(side, word, number));
+        if !ends.contains(&key) {
+            return number;
+        }
+    }
+    word.len()
+}
+
+/// The character with a number, from 0, seen from the side's end of a text.
+fn char_at(side: Side, text: &[char], number: usize) -> char
+    requires { number < length text.now }
+    ensures { result ≡ char_at side text.now number }
+{
+    match side {
+        Side::Prefix => text[number],
+        Side::Suffix => text[text.len() - (number + 1)],
+    }
+}
+
+/// A key with one character more.
+fn key_with(key: u64, c: char) -> u64
+    ensures { result ≡ key_with key c }
+{
+    key.wrapping_mul(FACTOR).wrapping_add(c as u64)
 }
 
 /// Adds a place at the end of its group, which may be there or not.

@@ -113,6 +113,9 @@ fn assert_block(rt: &impl Abort, alloc: Global, block: &str) -> Result<(), Fail>
     let rules = rules.as_slice();
     assert!(rt; rules.len() < 100);
     let tables = AffixTables::new(alloc, rules)?;
+    let word = text_of(alloc, "syes")?;
+    assert_eq!(&rt; tables.suffix_reach(word.as_slice()), 2);
+    assert_eq!(&rt; tables.prefix_reach(word.as_slice()), 1);
     for row in rows.split('\n') {
         assert_row(rt, alloc, &tables, row)?;
     }
@@ -147,8 +150,9 @@ fn puts_rules_into_groups(rt: HostRuntime) -> Result<(), Fail> {
     let rules = rules.as_slice();
     assert!(&rt; rules.len() < 100);
     let tables = AffixTables::new(alloc, rules)?;
-    assert_eq!(&rt; tables.longest_suffix(), 2);
-    assert_eq!(&rt; tables.longest_prefix(), 1);
+    let word = text_of(alloc, "syes")?;
+    assert_eq!(&rt; tables.suffix_reach(word.as_slice()), 2);
+    assert_eq!(&rt; tables.prefix_reach(word.as_slice()), 1);
     for row in rows.split('\n') {
         let text = text_of(alloc, field(row, 0))?;
         let suffixes = tables.suffix_groups(text.as_slice());
