@@ -22,7 +22,7 @@ use Rattle.affix_strip.proofs.TableLemmas.{on-rule}
 one-of : {X : Type 0} (test : X → Bool) (xs : List X) (x : X) → Contains xs x → test x ≡ true → list_any test xs ≡ true
 one-of test xs x (k, within, at) holds = list_any_at test xs k x within (ap test at ∙ holds)
 
-at-place : {X : Type 0} (test : X → Bool) (xs : List X) (place : ℕ) (x : X) → slice_get xs place ≡ Some x → test x ≡ true → list_any test xs ≡ true
+pub at-place : {X : Type 0} (test : X → Bool) (xs : List X) (place : ℕ) (x : X) → slice_get xs place ≡ Some x → test x ≡ true → list_any test xs ≡ true
 at-place test xs place x at holds = list_any_at test xs place x (slice_get_within xs place x at) (ap test (get_or_from_slice_get xs place x x at) ∙ holds)
 
 -- no entry is forbidden

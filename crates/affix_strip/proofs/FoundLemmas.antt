@@ -5,6 +5,7 @@ use Rattle.std.specs.Option.{option_map, option_map_or}
 use Rattle.std.proofs.lemmas.Bool.{and_parts, and_from}
 use Rattle.std.proofs.lemmas.List.Elements.{Contains-append_right}
 use Rattle.std.proofs.lemmas.List.Folds.{list_any_at}
+use Rattle.std.proofs.lemmas.Option.{slice_get-map}
 use Rattle.spell_types.specs.declared.Entry.{Entry}
 use Rattle.spell_types.specs.declared.Lexicon.{Lexicon}
 use Rattle.spell_types.specs.declared.derivations.Derivation.{Derivation}
@@ -19,6 +20,7 @@ use Rattle.affix_strip.specs.EntryTable.{AreEntriesOf}
 use Rattle.affix_strip.specs.Tables.{IsReady, may_be_outer, may_undo_outer}
 use Rattle.affix_strip.specs.declared.walk.Dictionary.{Dictionary}
 use Rattle.affix_strip.proofs.ShowLemmas.{some-same}
+use Rattle.affix_strip.proofs.BarringLemmas.{at-place}
 use Rattle.affix_strip.proofs.InverseLemmas.{rule_on-side}
 use Rattle.affix_strip.proofs.LicenceLemmas.{licensed-order, form-parts, IsCarrier, carrier}
 use Rattle.affix_strip.proofs.StepLemmas.{IsAffix, none-put, step-none, step-peeled}
@@ -221,9 +223,9 @@ no-seconds lexicon prefixes seconds text empty d passes = none-of seconds d.seco
 outer-may : (dictionary : Dictionary) → IsReady dictionary → (d : Derivation) (place : ℕ) → is_licensed dictionary.lexicon d ≡ true → d.second ≡ Some place → may_be_outer dictionary place ≡ true
 outer-may dictionary ready d place licensed is = by (rule_on dictionary.lexicon.affixes.rules Suffix place) refl
   where
-    carries : (rule : Rule) → IsCarrier dictionary.lexicon.affixes.rules rule → has dictionary.carried (Some rule.flag) ≡ true
+    carries : (rule : Rule) → IsCarrier dictionary.lexicon.affixes.rules rule → has ready.seconds.set (Some rule.flag) ≡ true
     carries rule by =
-        ready.carried.flags by.place by.rule rule.flag
+        ready.seconds.carried.flags by.place by.rule rule.flag
         (on-rule dictionary.lexicon.affixes.rules Suffix by.place by.rule by.on)
         (rule_on-side dictionary.lexicon.affixes.rules Suffix by.place by.rule by.on)
         by.carries
@@ -234,8 +236,20 @@ outer-may dictionary ready d place licensed is = by (rule_on dictionary.lexicon.
     by : (found : Option Rule) → rule_on dictionary.lexicon.affixes.rules Suffix place ≡ found → may_be_outer dictionary place ≡ true
     by None on = absurd (true≢false (sym right ∙ ap is_some on))
     by (Some rule) on =
-        ap (λ found. option_map_or (λ (r : Rule). has dictionary.carried (Some r.flag)) found false) (on-rule dictionary.lexicon.affixes.rules Suffix place rule on)
+        ap (λ seconds. option_map_or (λ may. may) (slice_get seconds place) false) ready.seconds.are
+        ∙ ap (λ found. option_map_or (λ may. may) found false) (slice_get-map (λ (r : Rule). has ready.seconds.set (Some r.flag)) dictionary.lexicon.affixes.rules place ∙ ap (option_map (λ (r : Rule). has ready.seconds.set (Some r.flag))) (on-rule dictionary.lexicon.affixes.rules Suffix place rule on))
         ∙ carries rule (carrier dictionary.lexicon d rule licensed (ap (affix_on dictionary.lexicon.affixes.rules Suffix) is ∙ on))
+
+-- where no rule may be one there is none
+pub no-seconds-at : (dictionary : Dictionary) (prefixes : List (Option ℕ)) (endings : List Peeled) → IsReady dictionary → dictionary.has_seconds ≡ false
+    → (d : Derivation) → AtSome (Peels dictionary.lexicon Suffix (λ d. d.second) (λ d. Contains prefixes d.prefix) (with_first dictionary.lexicon)) endings d → ⊥
+no-seconds-at dictionary prefixes endings ready none d some =
+    let at = some.is in
+    true≢false (sym (by at.item (slice_get dictionary.seconds.items at.item) refl (outer-may dictionary ready d at.item at.is.1.licensed at.is.1.has.1)) ∙ sym ready.has_seconds ∙ none)
+  where
+    by : (place : ℕ) (found : Option Bool) → slice_get dictionary.seconds.items place ≡ found → option_map_or (λ may. may) found false ≡ true → list_any (λ may. may) dictionary.seconds.items ≡ true
+    by place None at holds = absurd (cc)
+    by place (Some may) at holds = at-place (λ may. may) dictionary.seconds.items place may at holds
 
 -- a second suffix stands behind a first one
 first-inside : (lexicon : Lexicon) (d : Derivation) (place : ℕ) → is_licensed lexicon d ≡ true → d.second ≡ Some place → is_some d.first ≡ true

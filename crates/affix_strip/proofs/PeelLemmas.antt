@@ -127,11 +127,11 @@ peeled-next side kept (first ∷ groups) number before found now rest places wit
     there = slice_get-get_or (first ∷ groups) number first within
 
 -- all cuts
-pub peeled-all : (rules : List Rule) (side : Side) (word : List ℕ) (longest count : ℕ) (found : List Peeled) → ((place : ℕ) (rule : Rule) → IsOn rules side place rule → length rule.add ≤ longest)
-    → min longest (length word) + 1 ≤ count → ArePeeledBelow rules side word count found → ArePeeled rules side word found
-peeled-all rules side word longest count found bound past below = record {
+pub peeled-all : (rules : List Rule) (side : Side) (word : List ℕ) (reach count : ℕ) (found : List Peeled) → ((place : ℕ) (rule : Rule) → IsOn rules side place rule → has_at side word rule.add ≡ true → length rule.add ≤ reach)
+    → reach + 1 ≤ count → ArePeeledBelow rules side word count found → ArePeeled rules side word found
+peeled-all rules side word reach count found bound past below = record {
   sound = below.sound;
-  all = λ place rule on has. below.all place rule on has (omega (arith, bound place rule on, has-within side word rule.add has, past));
+  all = λ place rule on has. below.all place rule on has (omega (arith, bound place rule on has, past));
 }
 
 -- ---- what is undone

@@ -1,5 +1,5 @@
 -- The tables of a dictionary: one rule more; and which places they give.
-use Rattle.std.proofs.Common.{◌≡◌, ◌∙◌, ◌⊎◌, inl, inr, refl, sym, ap, subst, ℕ, zero, suc, ◌+◌, ◌<◌, Bool, true, false, cond, ◌&&◌, ◌||◌, true≢false, List, [], ◌∷◌, ◌++◌, length, take, get_or, nat_eq, slice_get, Contains, None, Some, if◌then◌else◌, eq-eqb, Vec, Global, arith}
+use Rattle.std.proofs.Common.{◌≡◌, ◌∙◌, ◌⊎◌, inl, inr, refl, sym, ap, subst, ℕ, zero, suc, ◌+◌, ◌<◌, Bool, true, false, cond, ◌&&◌, ◌||◌, true≢false, List, [], ◌∷◌, ◌++◌, length, take, get_or, nat_eq, slice_get, Contains, None, Some, if◌then◌else◌, eq-eqb, map, Result, Ok, Err, IfOk, Vec, Global, arith}
 use Rattle.std.specs.Cmp.Lexicographic.{pointwise}
 use Rattle.std.specs.List.{starts_with, ends_with}
 use Rattle.std.proofs.lemmas.Bool.{and_parts}
@@ -21,7 +21,7 @@ use Rattle.spell_types.proofs.FlagLemmas.{put-has, put_all-has}
 use Rattle.affix_classes.specs.Undoing.{undone_suffix, undone_prefix, suffix_put_back, prefix_put_back}
 use Rattle.affix_tables.specs.Places.{suffix_places, prefix_places}
 use Rattle.affix_tables.proofs.LawLemmas.{suffix-members, prefix-members}
-use Rattle.affix_strip.specs.Tables.{HasCarried, HasClasses}
+use Rattle.affix_strip.specs.Tables.{HasCarried, AreSeconds, HasClasses}
 use Rattle.affix_strip.proofs.UndoneWords.{undone_at}
 use Rattle.affix_strip.proofs.InverseLemmas.{rule_on-side}
 
@@ -65,6 +65,12 @@ carried-more rules rule before now holds is = record {
     by {place} {other} flag (inl at) side carries = kept flag (is_same_side Suffix rule.side) (holds.flags place other flag at side carries)
     by {place} {other} flag (inr (at, same)) side carries =
         added flag rule.side (ap (λ (r : Rule). r.side) same ∙ side) (subst (λ (r : Rule). has r.carried (Some flag) ≡ true) (sym same) carries)
+
+-- the rules whose flags these are
+pub are-seconds : {E : Type 0} (rules : List Rule) (set : List Flag) → HasCarried rules set → (told : Result (Vec Bool Global) E) → IfOk told (λ seconds. seconds.items ≡ map (λ rule. has set (Some rule.flag)) rules)
+    → IfOk told (λ seconds. AreSeconds rules seconds.items)
+are-seconds rules set carried (Ok seconds) are = record { set = set; carried = carried; are = are }
+are-seconds rules set carried (Err why) are = tt
 
 -- ---- the flags of classes
 or-true : (b : Bool) → (b || true) ≡ true

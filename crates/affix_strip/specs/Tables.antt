@@ -1,5 +1,5 @@
 -- What the tables of a dictionary hold.
-use Rattle.std.specs.Prelude.{◌≡◌, ℕ, Bool, true, false, ◌&&◌, List, slice_get, Some}
+use Rattle.std.specs.Prelude.{◌≡◌, ℕ, Bool, true, false, ◌&&◌, List, map, slice_get, Some}
 use Rattle.std.specs.List.{list_any}
 use Rattle.std.specs.Option.{option_map_or}
 use Rattle.spell_types.specs.declared.Entry.{Entry}
@@ -18,6 +18,12 @@ use Rattle.affix_strip.specs.declared.walk.Dictionary.{Dictionary}
 -- the set has each flag that a suffix rule carries
 pub record HasCarried (rules : List Rule) (set : List Flag) : Type 0 where
   pub flags : (place : ℕ) (rule : Rule) (flag : Flag) → slice_get rules place ≡ Some rule → rule.side ≡ Suffix → has rule.carried (Some flag) ≡ true → has set (Some flag) ≡ true
+
+-- at the place of each rule whether suffix rules carry its flag
+pub record AreSeconds (rules : List Rule) (seconds : List Bool) : Type 0 where
+  pub set : List Flag
+  pub carried : HasCarried rules set
+  pub are : seconds ≡ map (λ rule. has set (Some rule.flag)) rules
 
 -- the set has the flag of each rule's class
 pub record HasClasses (rules : List Rule) (set : List Flag) : Type 0 where
@@ -54,13 +60,13 @@ IsBarring lexicon AtForms = Unit {0}
 pub record IsReady (dictionary : Dictionary) : Type 0 where
   pub rules : IsTableOf dictionary.lexicon.affixes.rules dictionary.rules
   pub entries : HasEntries dictionary.lexicon.entries dictionary.by_word
-  pub carried : HasCarried dictionary.lexicon.affixes.rules dictionary.carried
+  pub seconds : AreSeconds dictionary.lexicon.affixes.rules dictionary.seconds.items
+  pub has_seconds : dictionary.has_seconds ≡ list_any (λ may. may) dictionary.seconds.items
   pub barring : IsBarring dictionary.lexicon dictionary.barring
 
--- whether the flag of the rule with a place is among those that suffix rules carry
+-- whether the rule with a place may be a second suffix
 abbrev pub may_be_outer : Dictionary → ℕ → Bool
-may_be_outer dictionary place =
-    option_map_or (λ rule. has dictionary.carried (Some rule.flag)) (slice_get dictionary.lexicon.affixes.rules place) false
+may_be_outer dictionary place = option_map_or (λ may. may) (slice_get dictionary.seconds.items place) false
 
 -- whether the rule with a place may be a second suffix that is attached to this
 abbrev pub may_undo_outer : Dictionary → List ℕ → ℕ → Bool

@@ -1,16 +1,19 @@
 //! Affixes peeled off words, by groups of rules.
 
-ghost use Rattle.std.specs.Prelude.{◌≡◌, ◌++◌, ◌≤◌, ℕ, List, length, map, OnOk, IfOk};
+ghost use Rattle.std.specs.Prelude.{◌≡◌, ◌++◌, ◌≤◌, ℕ, List, true, length, map, OnOk, IfOk};
 ghost use Rattle.spell_types.specs.declared.rules.Rule.{Rule};
 ghost use Rattle.affix_tables.specs.Groups.{AreGroups};
 ghost use Rattle.affix_tables.specs.Tables.{IsTableOf};
-ghost use Rattle.affix_strip.specs.Peeling.{IsCut, IsOn, join, peeled_by, ArePeeled};
+ghost use Rattle.affix_strip.specs.Peeling.{IsCut, IsOn, has_at, join, peeled_by, ArePeeled};
 
 use affix_tables::{AffixTables, Groups, group_places, group_strip};
 use lists::NoMemory;
 use spell_types::Side;
 use std::alloc::Global;
 use std::marker::Model;
+
+/// No more groups of rules may have made most words, so that their list is made at once.
+const MOST: usize = 12;
 
 /// A word without the affix of a group of rules, which all add and strip off the same. Whether one of them may be undone is
 /// not looked at. What is left is what is kept of the word and what the rules strip off, and is not joined before it must be.
@@ -80,22 +83,23 @@ pub(crate) fn peel<'a>(
     ensures { (rules : List Rule) → IsTableOf rules tables.now
         → IfOk result (λ found. ArePeeled rules side word.now found.items) }
 {
-    let mut found = Vec::new(alloc);
-    for count in 0..longest(tables, side).min(word.len()) + 1 {
+    let mut found = Vec::with_capacity(alloc, MOST)?;
+    for count in 0..reach(tables, side, word) + 1 {
         let (added, kept) = cut(side, word, count);
         add_groups(side, &groups(tables, side, added), kept, &mut found)?;
     }
     Ok(found)
 }
 
-/// No rule of the side adds more characters than this.
-fn longest(tables: &AffixTables, side: Side) -> usize
-    ensures { (rules : List Rule) → IsTableOf rules tables.now → (place : ℕ) (rule : Rule)
-        → IsOn rules side place rule → length rule.add ≤ result }
+/// No rule of the side whose added text stands there in the word adds more characters than this.
+fn reach(tables: &AffixTables, side: Side, word: &[char]) -> usize
+    ensures within { result ≤ length word.now }
+    ensures rules { (rules : List Rule) → IsTableOf rules tables.now → (place : ℕ) (rule : Rule)
+        → IsOn rules side place rule → has_at side word.now rule.add ≡ true → length rule.add ≤ result }
 {
     match side {
-        Side::Prefix => tables.longest_prefix(),
-        Side::Suffix => tables.longest_suffix(),
+        Side::Prefix => tables.prefix_reach(word),
+        Side::Suffix => tables.suffix_reach(word),
     }
 }
 

@@ -1,12 +1,12 @@
 //! Flags of affix rules.
 
-ghost use Rattle.std.specs.Prelude.{◌≡◌, List, OnOk, IfOk, if◌then◌else◌};
+ghost use Rattle.std.specs.Prelude.{◌≡◌, Some, map, OnOk, IfOk, if◌then◌else◌};
 ghost use Rattle.spell_types.specs.Derivations.{is_same_side};
-ghost use Rattle.spell_types.specs.Flags.{put, put_all};
-ghost use Rattle.affix_strip.specs.Tables.{HasCarried, HasClasses};
+ghost use Rattle.spell_types.specs.Flags.{has, put_all};
+ghost use Rattle.affix_strip.specs.Tables.{HasCarried, AreSeconds, HasClasses};
 
 use lists::NoMemory;
-use spell_types::{FlagSet, Rule, Side};
+use spell_types::{FlagSet, Rule, Side, has};
 use std::alloc::Global;
 
 /// The flags of all affix classes.
@@ -20,8 +20,27 @@ pub(crate) fn flags_of_classes(alloc: Global, rules: &[Rule]) -> Result<FlagSet,
     Ok(set)
 }
 
+/// At the place of each rule whether it may be a second suffix: whether suffix rules carry its flag.
+pub(crate) fn second_suffixes(alloc: Global, rules: &[Rule]) -> Result<Vec<bool>, NoMemory>
+    ensures { IfOk result (λ seconds. AreSeconds rules.now seconds.items) }
+{
+    let carried = carried_by_suffixes(alloc, rules)?;
+    with_flags(alloc, rules, &carried)
+}
+
+/// At the place of each rule whether its flag is in a set.
+fn with_flags(alloc: Global, rules: &[Rule], set: &FlagSet) -> Result<Vec<bool>, NoMemory>
+    ensures { IfOk result (λ told. told.items ≡ map (λ rule. has set.now (Some rule.flag)) rules.now) }
+{
+    let told = rules
+        .iter()
+        .map(|rule| has(set, Some(rule.flag)))
+        .collect(alloc)?;
+    Ok(told)
+}
+
 /// The flags that suffix rules carry.
-pub(crate) fn carried_by_suffixes(alloc: Global, rules: &[Rule]) -> Result<FlagSet, NoMemory>
+fn carried_by_suffixes(alloc: Global, rules: &[Rule]) -> Result<FlagSet, NoMemory>
     ensures { IfOk result (λ set. HasCarried rules.now set) }
 {
     let mut set = FlagSet::new(alloc);

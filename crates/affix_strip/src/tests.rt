@@ -7,8 +7,7 @@ use crate::entry_table::{START, fold};
 use affix_classes::read_condition;
 use lists::{Copied, Items};
 use spell_types::{
-    Affixes, Chars, Entries, Entry, Flag, FlagKind, FlagSet, Options, Rule, Side, Signs, chars_of,
-    form,
+    Affixes, Chars, Entries, Entry, Flag, FlagKind, FlagSet, Rule, Side, alone, chars_of, form,
 };
 use std::process::Abort;
 use std::test::Fail;
@@ -87,10 +86,25 @@ fn entries_of(alloc: Global, rows: &str) -> Result<Entries, Fail> {
     Ok(entries)
 }
 
-fn affixes_of(alloc: Global, full_strip: bool, rules: &str) -> Result<Affixes, Fail> {
+/// A dictionary, and words with their derivations.
+struct Case {
+    /// Whether words may be stripped whole.
+    full_strip: bool,
+    /// The flag of forbidden words, or `0`.
+    forbidden: char,
+    rules: &'static str,
+    entries: &'static str,
+    /// Each word has its derivations behind a colon, and an exclamation mark before it where it is barred.
+    words: &'static str,
+}
+
+fn affixes_of(alloc: Global, case: &Case) -> Result<Affixes, Fail> {
     let mut affixes = Affixes::none(alloc, FlagKind::Single);
-    affixes.rules = rules_of(alloc, rules)?;
-    affixes.options.full_strip = full_strip;
+    affixes.rules = rules_of(alloc, case.rules)?;
+    affixes.options.full_strip = case.full_strip;
+    if case.forbidden != '0' {
+        affixes.signs.forbidden = Some(Flag(u64::from(case.forbidden as u32)));
+    }
     Ok(affixes)
 }
 
@@ -132,18 +146,6 @@ fn stems_of(
     Ok(Stems::new(alloc, lexicon)?)
 }
 
-fn lexicon_of(
-    rt: &impl Abort,
-    alloc: Global,
-    full_strip: bool,
-    rules: &str,
-    entries: &str,
-) -> Result<Stems, Fail> {
-    let affixes = affixes_of(alloc, full_strip, rules)?;
-    let entries = entries_of(alloc, entries)?;
-    stems_of(rt, alloc, affixes, entries)
-}
-
 fn place_of(field: &str) -> Option<u32> {
     field.parse::<u32>().ok()
 }
@@ -168,12 +170,13 @@ fn derivations_of(alloc: Global, rows: &str) -> Result<Vec<Derivation>, Fail> {
     Ok(made)
 }
 
-/// That a word has these derivations, and that it is the form of each.
+/// That a word has these derivations, that it is the form of each, and that the questions are answered by them.
 fn assert_word(
     rt: &impl Abort,
     alloc: Global,
     stems: &Stems,
     word: &str,
+    is_barred: bool,
     rows: &str,
 ) -> Result<(), Fail> {
     let characters = text_of(alloc, word)?;
@@ -186,18 +189,34 @@ fn assert_word(
             Some(made) => assert_eq!(rt; made.as_slice(), characters.as_slice(), "{word}"),
         }
     }
+    assert_eq!(rt; stems.is_barred(alloc, &characters)?, is_barred, "{word}");
+    let stands = found.iter().any(|d| alone(stems.lexicon(), d));
+    assert_eq!(rt;
+        stems.is_alone(alloc, &characters, &characters)?,
+        stands,
+        "{word}"
+    );
     Ok(())
 }
 
-/// The same for each row, a word with its derivations behind a colon.
+/// The same for each row.
 fn assert_words(rt: &impl Abort, alloc: Global, stems: &Stems, rows: &str) -> Result<(), Fail> {
     for row in rows.split("; ") {
         match row.split_once(": ") {
             None => assert!(rt; false, "{row}"),
-            Some((word, derivations)) => assert_word(rt, alloc, stems, word, derivations)?,
+            Some((word, derivations)) => match word.strip_prefix("!") {
+                None => assert_word(rt, alloc, stems, word, false, derivations)?,
+                Some(barred) => assert_word(rt, alloc, stems, barred, true, derivations)?,
+            },
         }
     }
     Ok(())
+}
+
+fn assert_case(rt: &impl Abort, alloc: Global, case: &Case) -> Result<(), Fail> {
+    let entries = entries_of(alloc, case.entries)?;
+    let stems = stems_of(rt, alloc, affixes_of(alloc, case)?, entries)?;
+    assert_words(rt, alloc, &stems, case.words)
 }
 
 const RULES: &str =
@@ -207,59 +226,78 @@ const RULES: &str =
 const ENTRIES: &str =
     "do USAX; paid P; friend 0; try Y; day Y; go W; gos 0; do AS; tea C; ran VR; drink Z; drink S";
 
-/// Homonyms, a second suffix, and prefixes that a suffix licenses.
-const AFFIXED: &str =
-    "drinks: 10 - 13 -, 11 - 1 -; do: 0 - - -, 7 - - -; dos: 0 - 1 -, 7 - 1 -; undo: 0 0 - -; undos: 0 0 1 -; \
-    undoable: 0 0 2 -, 7 0 2 -; doables: 0 - 2 1, 7 - 2 1; undoables: 0 0 2 1, 7 0 2 1; dosable: ";
+/// Homonyms, a second suffix, and prefixes that a suffix licenses; a prefix that licenses a suffix, two affixes that license
+/// each other from nothing, and a class that does not cross; conditions, one of them longer than the word, a word stripped
+/// whole, and rules that change nothing.
+const DERIVED: Case = Case {
+    full_strip: false,
+    forbidden: '0',
+    rules: RULES,
+    entries: ENTRIES,
+    words: "drinks: 10 - 13 -, 11 - 1 -; do: 0 - - -, 7 - - -; dos: 0 - 1 -, 7 - 1 -; undo: 0 0 - -; undos: 0 0 1 -; \
+        undoable: 0 0 2 -, 7 0 2 -; doables: 0 - 2 1, 7 - 2 1; undoables: 0 0 2 1, 7 0 2 1; dosable: ; \
+        prepaidable: 1 3 2 -; paidable: ; befriending: ; friend: 2 - - -; dox: 0 - 6 -; undox: ; \
+        tries: 3 - 7 -; trys: ; days: 4 - 8 -; daies: ; teaz: ; went: ; go: 5 - - -; \
+        ran: 9 - - -, 9 - 11 -, 9 12 - -, 9 12 11 -; 0: ; und: ",
+};
 
-/// A prefix that licenses a suffix, two affixes that license each other from nothing, and a class that does not
-/// cross.
-const LICENSED: &str =
-    "prepaidable: 1 3 2 -; paidable: ; befriending: ; friend: 2 - - -; dox: 0 - 6 -; undox: ";
+/// A word that may be stripped whole.
+const WHOLE: Case = Case {
+    full_strip: true,
+    forbidden: '0',
+    rules: RULES,
+    entries: ENTRIES,
+    words: "went: 5 - 9 -",
+};
 
-/// Conditions, one of them longer than the word, a word stripped whole, and rules that change nothing.
-const FITTING: &str =
-    "tries: 3 - 7 -; trys: ; days: 4 - 8 -; daies: ; teaz: ; went: ; go: 5 - - -; \
-    ran: 9 - - -, 9 - 11 -, 9 12 - -, 9 12 11 -; 0: ; und: ";
+/// Rules that add and strip off the same, and have other conditions and flags.
+const GROUPED: Case = Case {
+    full_strip: false,
+    forbidden: '0',
+    rules: "S F 0 s 0 [aeiou]t; S G 0 s 0 [^aeiou]t; P K 0 re 0 d; P L 0 re 0 c",
+    entries: "cat F; cat G; belt G; belt F; dot FK; cot GL; cot FL",
+    words: "cats: 0 - 0 -; belts: 2 - 1 -; redots: 4 2 0 -; recots: 6 3 0 -; recot: 5 3 - -, 6 3 - -; recats: ",
+};
 
-fn assert_all(rt: &impl Abort, alloc: Global, stems: &Stems) -> Result<(), Fail> {
-    assert_words(rt, alloc, stems, AFFIXED)?;
-    assert_words(rt, alloc, stems, LICENSED)?;
-    assert_words(rt, alloc, stems, FITTING)
-}
+/// Homonyms of two words that have one hash.
+const ALIKE: Case = Case {
+    full_strip: false,
+    forbidden: '0',
+    rules: "S S 0 s 0",
+    entries: "akaihaalsioa S; eadaaenaaaai 0; akaihaalsioa 0; eadaaenaaaai S",
+    words: "akaihaalsioa: 0 - - -, 2 - - -; eadaaenaaaai: 1 - - -, 3 - - -; akaihaalsioas: 0 - 0 -; eadaaenaaaais: 3 - 0 -",
+};
+
+/// Forbidden words that allow no affix.
+const BARRED: Case = Case {
+    full_strip: false,
+    forbidden: 'N',
+    rules: "S S 0 s 0; P U 0 un 0",
+    entries: "cat S; cats N; dot SU; undot N",
+    words: "cat: 0 - - -; !cats: 0 - 0 -, 1 - - -; dots: 2 - 0 -; !undot: 2 1 - -, 3 - - -; undots: 2 1 0 -; catss: ",
+};
+
+/// Forbidden words with affixes.
+const BARRED_WITH_AFFIXES: Case = Case {
+    full_strip: false,
+    forbidden: 'N',
+    rules: "S S 0 s 0; P U 0 un 0",
+    entries: "cat NS; dot U; dot NSU",
+    words: "!cat: 0 - - -; !cats: 0 - 0 -; !dot: 1 - - -, 2 - - -; !undots: 2 1 0 -; uncat: ",
+};
 
 #[test]
 fn derives_words(rt: HostRuntime) -> Result<(), Fail> {
     let alloc = rt.alloc();
-    let stems = lexicon_of(&rt, alloc, false, RULES, ENTRIES)?;
-    assert_all(&rt, alloc, &stems)
+    for case in &[DERIVED, WHOLE, GROUPED, ALIKE, BARRED, BARRED_WITH_AFFIXES] {
+        assert_case(&rt, alloc, case)?;
+    }
+    Ok(())
 }
 
 #[test]
 fn says_what_derivations_are() {
     derivations_are();
-}
-
-/// Rules that add and strip off the same, and have other conditions and flags.
-const GROUPED_RULES: &str = "S F 0 s 0 [aeiou]t; S G 0 s 0 [^aeiou]t; P K 0 re 0 d; P L 0 re 0 c";
-
-const GROUPED_ENTRIES: &str = "cat F; cat G; belt G; belt F; dot FK; cot GL; cot FL";
-
-const GROUPED: &str =
-    "cats: 0 - 0 -; belts: 2 - 1 -; redots: 4 2 0 -; recots: 6 3 0 -; recot: 5 3 - -, 6 3 - -; recats: ";
-
-#[test]
-fn tells_rules_of_a_group_apart(rt: HostRuntime) -> Result<(), Fail> {
-    let alloc = rt.alloc();
-    let stems = lexicon_of(&rt, alloc, false, GROUPED_RULES, GROUPED_ENTRIES)?;
-    assert_words(&rt, alloc, &stems, GROUPED)
-}
-
-#[test]
-fn strips_words_whole(rt: HostRuntime) -> Result<(), Fail> {
-    let alloc = rt.alloc();
-    let stems = lexicon_of(&rt, alloc, true, RULES, ENTRIES)?;
-    assert_word(&rt, alloc, &stems, "went", "5 - 9 -")
 }
 
 /// That each entry has one derivation here, in their order.
@@ -280,12 +318,22 @@ fn homonyms_of(alloc: Global, count: u32) -> Result<Entries, Fail> {
     Ok(entries)
 }
 
-fn stems_of_homonyms(rt: &impl Abort, alloc: Global, count: u32) -> Result<Stems, Fail> {
-    let entries = homonyms_of(alloc, count)?;
-    stems_of(rt, alloc, affixes_of(alloc, false, "S S 0 s 0")?, entries)
-}
+/// A rule for the homonyms.
+const HOMONYMS: Case = Case {
+    full_strip: false,
+    forbidden: '0',
+    rules: "S S 0 s 0",
+    entries: "",
+    words: "",
+};
 
-fn assert_homonyms(rt: &impl Abort, alloc: Global, stems: &Stems, count: u32) -> Result<(), Fail> {
+fn assert_homonyms(rt: &impl Abort, alloc: Global, count: u32) -> Result<(), Fail> {
+    let stems = stems_of(
+        rt,
+        alloc,
+        affixes_of(alloc, &HOMONYMS)?,
+        homonyms_of(alloc, count)?,
+    )?;
     let found = stems.derivations(alloc, &text_of(alloc, "runs")?)?;
     assert_each(rt, &found, count);
     Ok(())
@@ -293,16 +341,8 @@ fn assert_homonyms(rt: &impl Abort, alloc: Global, stems: &Stems, count: u32) ->
 
 #[test]
 fn derives_homonyms(rt: HostRuntime) -> Result<(), Fail> {
-    let alloc = rt.alloc();
-    let stems = stems_of_homonyms(&rt, alloc, 1000)?;
-    assert_homonyms(&rt, alloc, &stems, 1000)
+    assert_homonyms(&rt, rt.alloc(), 1000)
 }
-
-/// Homonyms of two words that have one hash.
-const ALIKE: &str = "akaihaalsioa S; eadaaenaaaai 0; akaihaalsioa 0; eadaaenaaaai S";
-
-const APART: &str =
-    "akaihaalsioa: 0 - - -, 2 - - -; eadaaenaaaai: 1 - - -, 3 - - -; akaihaalsioas: 0 - 0 -; eadaaenaaaais: 3 - 0 -";
 
 fn hash_of(alloc: Global, text: &str) -> Result<u64, Fail> {
     Ok(fold(START, &text_of(alloc, text)?))
@@ -313,11 +353,4 @@ fn has_two_words_of_one_hash(rt: HostRuntime) -> Result<(), Fail> {
     let hash = hash_of(rt.alloc(), "akaihaalsioa")?;
     assert_eq!(rt; hash_of(rt.alloc(), "eadaaenaaaai")?, hash);
     Ok(())
-}
-
-#[test]
-fn tells_words_of_one_hash_apart(rt: HostRuntime) -> Result<(), Fail> {
-    let alloc = rt.alloc();
-    let stems = lexicon_of(&rt, alloc, false, "S S 0 s 0", ALIKE)?;
-    assert_words(&rt, alloc, &stems, APART)
 }

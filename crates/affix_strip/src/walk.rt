@@ -14,12 +14,12 @@ ghost use Rattle.affix_strip.specs.Tables.{IsReady, may_be_outer, may_undo_outer
 use crate::barring::{Barring, barring_of};
 use crate::entry_table::EntryTable;
 use crate::peeling::{Peeled, peel};
-use crate::rule_flags::carried_by_suffixes;
+use crate::rule_flags::second_suffixes;
 use crate::visiting::{Forbidden, Question, Test, Visitor};
 use affix_classes::{matches_back, matches_front};
 use affix_tables::AffixTables;
 use lists::NoMemory;
-use spell_types::{Derivation, FlagSet, Lexicon, Rule, Side, has, licensed};
+use spell_types::{Derivation, Lexicon, Rule, Side, licensed};
 use std::alloc::Global;
 
 /// A dictionary, and tables of its rules and entries.
@@ -30,8 +30,10 @@ pub(crate) struct Dictionary {
     rules: AffixTables,
     /// The entries by their words.
     by_word: EntryTable,
-    /// The flags that suffix rules carry: no other class has second suffixes.
-    carried: FlagSet,
+    /// Which rules may be second suffixes, at their places.
+    seconds: Vec<bool>,
+    /// Whether one of them may.
+    has_seconds: bool,
     barring: Barring,
 }
 
@@ -45,13 +47,15 @@ impl Dictionary {
     {
         let rules = AffixTables::new(alloc, &lexicon.affixes.rules)?;
         let by_word = EntryTable::new(alloc, &lexicon.entries)?;
-        let carried = carried_by_suffixes(alloc, &lexicon.affixes.rules)?;
+        let seconds = second_suffixes(alloc, &lexicon.affixes.rules)?;
+        let has_seconds = one_may(seconds.as_slice());
         let barring = barring_of(alloc, &lexicon)?;
         Ok(Dictionary {
             lexicon,
             rules,
             by_word,
-            carried,
+            seconds,
+            has_seconds,
             barring,
         })
     }
@@ -189,6 +193,9 @@ impl Dictionary {
             (λ d. Contains prefixes.now d.prefix) (with_first self.now.lexicon)) endings.now)
             (V.sees visitor.old) (V.sees visitor.new)) }
     {
+        if !self.has_seconds {
+            return Ok(false);
+        }
         for ending in endings {
             if self.visit_outer(alloc, prefixes, ending, visitor)? {
                 return Ok(true);
@@ -432,13 +439,13 @@ impl Dictionary {
         places.iter().any(|place| self.may_be_outer(*place))
     }
 
-    /// Whether a rule may be a second suffix: some suffix rule carries its flag.
+    /// Whether a rule may be a second suffix.
     fn may_be_outer(&self, place: u32) -> bool
         ensures { result ≡ may_be_outer self.now place }
     {
-        match self.lexicon.affixes.rules.as_slice().get(place as usize) {
+        match self.seconds.get(place as usize) {
             None => false,
-            Some(rule) => has(&self.carried, Some(rule.flag)),
+            Some(may) => *may,
         }
     }
 
@@ -543,6 +550,13 @@ fn visit_licensed<V: Visitor>(
         return Ok(false);
     }
     visitor.visit(d)
+}
+
+/// Whether one of these may.
+fn one_may(each: &[bool]) -> bool
+    ensures { result ≡ list_any (λ may. may) each.now }
+{
+    each.iter().any(|may| *may)
 }
 
 /// Whether a rule may be attached to this. `full_strip` says whether a rule may strip a word whole: the option FULLSTRIP of

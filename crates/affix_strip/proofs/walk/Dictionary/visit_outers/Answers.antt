@@ -1,10 +1,14 @@
 -- The derivations with a second suffix of one group more are shown.
-use Rattle.std.proofs.Common.{◌≡◌, refl, true, None, Some, get_or, Contains, arith}
+use Rattle.std.proofs.Common.{rules, ◌≡◌, refl, true, None, Some, get_or, Contains, arith}
 use Rattle.spell_types.specs.declared.rules.Side.TheVariants.{Suffix}
 use Rattle.affix_strip.specs.Parts.{Peels, with_first}
 use Rattle.affix_strip.specs.Parts.{AtSome}
-use Rattle.affix_strip.proofs.ShowLemmas.{loop-first, loop-more, loop-end, loop-last}
+use Rattle.affix_strip.proofs.FoundLemmas.{no-seconds-at}
+use Rattle.affix_strip.proofs.ShowLemmas.{shows-none, loop-first, loop-more, loop-end, loop-last}
 use Rattle.affix_strip.proofs.walk.Dictionary.visit_outers.Goals as goal
+
+pub returns-then-not-self : goal.returns-then-not-self
+returns-then-not-self g c = shows-none (no-seconds-at c.args.self.now c.args.prefixes.now c.args.endings.now c.requires (search rules))
 
 pub loop-ending-init : goal.loop-ending-init
 loop-ending-init g c = loop-first (Peels c.args.self.now.lexicon Suffix (λ d. d.second) (λ d. Contains c.args.prefixes.now d.prefix) (with_first c.args.self.now.lexicon)) c.args.endings.now
