@@ -130,23 +130,3 @@ pub words-all : (lexicon : Lexicon) (document : List ℕ) (lines : List Line) �
     → located_words lexicon.affixes.wordchars (paragraphs_of document lines) ≡ one_by_one (λ paragraph. located_words lexicon.affixes.wordchars (paragraph ∷ [])) (paragraphs_of document lines)
     → words_from lexicon document lines ≡ length (located_words lexicon.affixes.wordchars (paragraphs_of document lines))
 words-all lexicon document lines are_alone local = words-each are_alone lexicon document 1 lines ∙ ap length (sym local)
-
--- behind the last paragraph all is reported
-
-pub lines-finished : (lexicon : Lexicon) (document : List ℕ) (lines : List Line) (text : List ℕ) (place : ℕ) → length lines ≤ place
-    → text ++ lines_from lexicon document (place + 1) (drop place lines) ≡ lines_from lexicon document 1 lines
-    → text ≡ lines_from lexicon document 1 lines
-lines-finished lexicon document lines text place past all =
-    sym (ap (λ rest. text ++ lines_from lexicon document (place + 1) rest) (drop_of_length-le lines past) ∙ append-nil text) ∙ all
-
-pub marks-finished : (lexicon : Lexicon) (document : List ℕ) (lines : List Line) (marks place : ℕ) → length lines ≤ place
-    → marks + marks_from lexicon document (drop place lines) ≡ marks_from lexicon document lines
-    → marks ≡ marks_from lexicon document lines
-marks-finished lexicon document lines marks place past all =
-    sym (ap (λ rest. marks + marks_from lexicon document rest) (drop_of_length-le lines past) ∙ add-zero marks) ∙ all
-
-pub words-finished : (lexicon : Lexicon) (document : List ℕ) (lines : List Line) (words place : ℕ) → length lines ≤ place
-    → words + words_from lexicon document (drop place lines) ≡ words_from lexicon document lines
-    → words ≡ words_from lexicon document lines
-words-finished lexicon document lines words place past all =
-    sym (ap (λ rest. words + words_from lexicon document rest) (drop_of_length-le lines past) ∙ add-zero words) ∙ all

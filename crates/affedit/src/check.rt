@@ -17,7 +17,7 @@ use lists::NoMemory;
 use outside::{FileFault, Files};
 use spell_types::{Affixes, Entries};
 use std::alloc::Global;
-use text_lines::lines;
+use text_lines::bad_line;
 use word_verdict::Speller;
 
 /// How large an .aff or a .dic file may be, in bytes.
@@ -132,12 +132,11 @@ fn check_document(
     ensures files { ¬ (IsErrOf result Stop.Files) }
     ensures words { ¬ (IsErrOf result Stop.Words) }
 {
-    let found = lines(alloc, document)?;
-    if let Some(line) = found.bad {
+    if let Some(line) = bad_line(document) {
         return Err(Stop::Document { line });
     }
     let speller = Speller::build(alloc, affixes, entries)?;
-    match make_report(alloc, &speller, document, &found.good) {
+    match make_report(alloc, &speller, document) {
         Ok(report) => Ok(report),
         Err(NoMemory) => Err(Stop::NoMemory),
     }

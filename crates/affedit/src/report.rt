@@ -1,12 +1,12 @@
 //! Prints the marks of a document.
 
-ghost use Rattle.std.specs.Prelude.{◌≡◌, ◌+◌, ◌<◌, ◌≤◌, ◌^◌, [], ◌∷◌, ◌++◌, All, IfOk, OnOk, filter, length, encode_utf8_all};
+ghost use Rattle.std.specs.Prelude.{◌≡◌, ◌+◌, ◌<◌, ◌≤◌, ◌^◌, [], ◌∷◌, ◌++◌, IfOk, OnOk, filter, length, encode_utf8_all};
 ghost use Rattle.std.specs.List.{flat_map};
 ghost use Rattle.std.specs.Str.{chars};
 ghost use Rattle.std.specs.String.{string_bytes};
 ghost use Rattle.mark_types.specs.Marks.{located_words, marks_of};
 ghost use Rattle.mark_types.specs.Words.{byte_count, words_of};
-ghost use Rattle.text_lines.specs.Lines.{IsInside};
+ghost use Rattle.text_lines.specs.Lines.{good_lines};
 ghost use Rattle.affedit.specs.Reports.{line_of, mark_line, word_line, is_marked, count_line, report_of, paragraph_lines, paragraphs_of};
 ghost use Rattle.affedit.specs.Runs.{found_word};
 
@@ -14,8 +14,7 @@ use crate::cutter::{Found, Rest, next_word, refill};
 use lists::NoMemory;
 use mark_types::{Judge, marks_are_local, words_stand_in_their_text};
 use std::alloc::{AllocError, Global};
-use text_lines::found::Line;
-use text_lines::line_text;
+use text_lines::{all_lines, line_text, next_line};
 
 /// The lines that are to be printed, and how many marks and words they tell of.
 #[derive(Drop)]
@@ -25,21 +24,14 @@ pub struct Report {
     pub words: u64,
 }
 
-/// The report on a document of these lines: a line `P S E WORD` for each mark, with its paragraph from 1
-/// and its bytes in the paragraph from 0, and a last line `M of W`.
-pub fn make_report<J: Judge>(
-    alloc: Global,
-    judge: &J,
-    document: &[u8],
-    lines: &[Line],
-) -> Result<Report, NoMemory>
+/// The report on a document, up to its first line that is not UTF-8: a line `P S E WORD` for each mark, with its
+/// paragraph from 1 and its bytes in the paragraph from 0, and a last line `M of W`.
+pub fn make_report<J: Judge>(alloc: Global, judge: &J, document: &[u8]) -> Result<Report, NoMemory>
     requires small { length document.now < 2 ^ 32 }
-    requires lines { All (IsInside document.now) lines.now }
-    requires few { length lines.now ≤ length document.now }
-    ensures text { IfOk result (λ report. string_bytes report.text ≡ (report_of (J.lexicon judge.now) (paragraphs_of document.now lines.now)).text) }
-    ensures marks { IfOk result (λ report. report.marks ≡ (report_of (J.lexicon judge.now) (paragraphs_of document.now lines.now)).marks) }
+    ensures text { IfOk result (λ report. string_bytes report.text ≡ (report_of (J.lexicon judge.now) (paragraphs_of document.now (good_lines document.now))).text) }
+    ensures marks { IfOk result (λ report. report.marks ≡ (report_of (J.lexicon judge.now) (paragraphs_of document.now (good_lines document.now))).marks) }
 {
-    let mut report = report_of_paragraphs(alloc, judge, document, lines)?;
+    let mut report = report_of_paragraphs(alloc, judge, document)?;
     push_count_line(&mut report.text, report.marks, report.words)?;
     Ok(report)
 }
@@ -48,16 +40,13 @@ fn report_of_paragraphs<J: Judge>(
     alloc: Global,
     judge: &J,
     document: &[u8],
-    lines: &[Line],
 ) -> Result<Report, NoMemory>
     requires small { length document.now < 2 ^ 32 }
-    requires lines { All (IsInside document.now) lines.now }
-    requires few { length lines.now ≤ length document.now }
     ensures text { IfOk result (λ report. string_bytes report.text
-        ≡ flat_map line_of (marks_of (J.lexicon judge.now) (paragraphs_of document.now lines.now))) }
-    ensures marks { IfOk result (λ report. report.marks ≡ length (marks_of (J.lexicon judge.now) (paragraphs_of document.now lines.now))) }
+        ≡ flat_map line_of (marks_of (J.lexicon judge.now) (paragraphs_of document.now (good_lines document.now)))) }
+    ensures marks { IfOk result (λ report. report.marks ≡ length (marks_of (J.lexicon judge.now) (paragraphs_of document.now (good_lines document.now)))) }
     ensures words { IfOk result (λ report. report.words
-        ≡ length (located_words (J.lexicon judge.now).affixes.wordchars (paragraphs_of document.now lines.now))) }
+        ≡ length (located_words (J.lexicon judge.now).affixes.wordchars (paragraphs_of document.now (good_lines document.now)))) }
 {
     marks_are_local();
     let mut report = Report {
@@ -66,9 +55,11 @@ fn report_of_paragraphs<J: Judge>(
         words: 0,
     };
     let mut characters = Vec::new(alloc);
-    for (place, line) in lines.iter().enumerate() {
-        let text = line_text(document, line);
-        report.add_paragraph(alloc, judge, place as u64 + 1, text, &mut characters)?;
+    let mut ahead = all_lines(document);
+    while let Some((line, next)) = next_line(document, ahead) {
+        let text = line_text(document, &line);
+        report.add_paragraph(alloc, judge, line.number, text, &mut characters)?;
+        ahead = next;
     }
     Ok(report)
 }

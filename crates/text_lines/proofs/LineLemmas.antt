@@ -10,10 +10,11 @@ use Rattle.std.proofs.lemmas.List.Sums.{position_or_len_is, fails_before_first, 
 use Rattle.std.proofs.lemmas.List.Elements.{All-push}
 use Rattle.std.proofs.lemmas.Str.{IsUtf8-from_is_utf8, is_utf8-from_IsUtf8}
 use Rattle.std.specs.Str.{IsUtf8, is_utf8}
-use Rattle.std.proofs.lemmas.Bool.{cases_lt}
+use Rattle.std.proofs.lemmas.Bool.{cases_lt, lt-ltb, le-ltb}
 use Rattle.bstr.specs.Find.{IsFirstByte, is_byte}
+use Rattle.text_lines.specs.declared.found.Ahead.{Ahead}
 use Rattle.text_lines.specs.declared.found.Line.{Line}
-use Rattle.text_lines.specs.Lines.{is_line_feed, line_at, lines_from, lines_after, is_text, good_lines, bad_line, IsInside}
+use Rattle.text_lines.specs.Lines.{is_line_feed, line_at, lines_from, lines_after, is_text, good_lines, bad_line, good_ahead, bad_ahead, number_here, IsInside, ComesNext}
 
 false_from_not_true : (b : Bool) → (b ≡ true → ⊥) → b ≡ false
 false_from_not_true true h = absurd (h refl)
@@ -92,17 +93,6 @@ numbers_more good line before is =
     ∙ sym (numbers_push 1 (length good))
     ∙ ap (range_with_len 1) (sym (length_push good line ∙ add-one (length good)))
 
--- what the walk keeps: the good lines so far, and that all others are after a place
-pub record Walks (bytes : List ℕ) (good : List Line) (number place : ℕ) : Type 0 where
-  pub count : number ≤ place + 1
-  pub few : number ≤ length bytes + 1
-  pub next : number ≡ length good + 1
-  pub numbers : map (λ line. line.number) good ≡ range_with_len 1 (length good)
-  pub within : place ≤ length bytes + 1
-  pub reads : good_lines bytes ≡ good ++ take_while (is_text bytes) (lines_after bytes number place)
-  pub faults : bad_line bytes ≡ option_map (λ line. line.number) (find (λ line. not (is_text bytes line)) (lines_after bytes number place))
-  pub inside : All (IsInside bytes) good
-
 -- the line that the walk comes to, from a place up to where its piece stops
 pub record Comes (bytes : List ℕ) (number place stop : ℕ) (line : Line) : Type 0 where
   pub within : place < length bytes
@@ -125,43 +115,84 @@ faults_line : (bytes : List ℕ) (line : Line) (later : List Line) (test : Bool)
     → find (λ l. not (is_text bytes l)) (line ∷ later) ≡ cond (not test) (Some line) (find (λ l. not (is_text bytes l)) later)
 faults_line bytes line later test is = ap (λ b. cond (not b) (Some line) (find (λ l. not (is_text bytes l)) later)) is
 
--- where the walk stops at a line that is not UTF-8
-pub walk_bad : (bytes : List ℕ) (good : List Line) (number place stop : ℕ) (line : Line) → Walks bytes good number place
-    → Comes bytes number place stop line → is_text bytes line ≡ false → (good ≡ good_lines bytes) × (Some number ≡ bad_line bytes)
-walk_bad bytes good number place stop line walks comes bad =
-    let later : List Line = lines_after bytes (number + 1) (stop + 1) in
-    let step = walk_line bytes number place stop line comes in (
-      sym (walks.reads ∙ ap (λ ls. good ++ take_while (is_text bytes) ls) step ∙ ap (λ ls. good ++ ls) (reads_line bytes line later false bad) ∙ append-nil good),
-      sym (walks.faults ∙ ap (λ ls. option_map (λ l. l.number) (find (λ l. not (is_text bytes l)) ls)) step
-          ∙ ap (option_map (λ l. l.number)) (faults_line bytes line later false bad) ∙ ap (λ l. Some l.number) comes.is),
+-- the good line that comes next
+pub line_next : (bytes : List ℕ) (ahead next : Ahead) (stop : ℕ) (line : Line) → ahead.number ≤ ahead.place + 1
+    → Comes bytes ahead.number ahead.place stop line → IsInside bytes line → line.to ≤ stop → stop ≤ length bytes → next ≡ record { number = ahead.number + 1; place = stop + 1 }
+    → (line ∷ good_ahead bytes next ≡ good_ahead bytes ahead) × ComesNext bytes ahead (line, next)
+line_next bytes ahead next stop line count comes inside ends fits is =
+    let step = walk_line bytes ahead.number ahead.place stop line comes in
+    let later : List Line = lines_after bytes (ahead.number + 1) (stop + 1) in
+    let number = ap (λ n. n.number) is in
+    let place = ap (λ n. n.place) is in
+    let behind : lines_after bytes next.number next.place ≡ later = ap (λ n. lines_after bytes n.number n.place) is in
+    let own = ap (λ l. l.from) comes.is in (
+      ap (λ ls. line ∷ take_while (is_text bytes) ls) behind ∙ sym (ap (take_while (is_text bytes)) step ∙ reads_line bytes line later true inside.utf8),
+      record {
+        inside = inside;
+        number = ap (λ l. l.number) comes.is;
+        next_number = number;
+        begins = omega arith;
+        ends = omega arith;
+        within = omega arith;
+        few = let within = comes.within in omega arith;
+        bad = ap (λ ls. option_map (λ l. l.number) (find (λ l. not (is_text bytes l)) ls)) behind
+            ∙ sym (ap (λ ls. option_map (λ l. l.number) (find (λ l. not (is_text bytes l)) ls)) step
+            ∙ ap (option_map (λ l. l.number)) (faults_line bytes line later true inside.utf8));
+      },
     )
 
--- where the walk comes to the end
-pub walk_end : (bytes : List ℕ) (good : List Line) (number place : ℕ) → Walks bytes good number place → length bytes ≤ place
-    → (good ≡ good_lines bytes) × (None ≡ bad_line bytes)
-walk_end bytes good number place walks past =
-    let none = lines_after_end bytes number place past in (
-      sym (walks.reads ∙ ap (λ ls. good ++ take_while (is_text bytes) ls) none ∙ append-nil good),
-      sym (walks.faults ∙ ap (λ ls. option_map (λ l. l.number) (find (λ l. not (is_text bytes l)) ls)) none),
+-- where the bytes are at their end
+pub none_at_end : (bytes : List ℕ) (ahead : Ahead) → length bytes ≤ ahead.place → ([] ≡ good_ahead bytes ahead) × (bad_ahead bytes ahead ≡ number_here bytes ahead)
+none_at_end bytes ahead past =
+    let none = lines_after_end bytes ahead.number ahead.place past in (
+      sym (ap (take_while (is_text bytes)) none),
+      ap (λ ls. option_map (λ l. l.number) (find (λ l. not (is_text bytes l)) ls)) none
+          ∙ sym (ap (λ b. cond b (Some ahead.number) None) (le-ltb ahead.place (length bytes) past)),
     )
 
--- where the walk goes past a line
-pub walk_more : (bytes : List ℕ) (good : List Line) (number place stop : ℕ) (line : Line) → Walks bytes good number place
-    → Comes bytes number place stop line → IsInside bytes line → stop ≤ length bytes → Walks bytes (good ++ line ∷ []) (number + 1) (stop + 1)
-walk_more bytes good number place stop line walks comes inside fits =
-    let later : List Line = lines_after bytes (number + 1) (stop + 1) in
-    let step = walk_line bytes number place stop line comes in
+-- where the line that comes next is not UTF-8
+pub none_at_bad : (bytes : List ℕ) (ahead : Ahead) (stop : ℕ) (line : Line) → Comes bytes ahead.number ahead.place stop line → is_text bytes line ≡ false
+    → ([] ≡ good_ahead bytes ahead) × (bad_ahead bytes ahead ≡ number_here bytes ahead)
+none_at_bad bytes ahead stop line comes bad =
+    let step = walk_line bytes ahead.number ahead.place stop line comes in
+    let later : List Line = lines_after bytes (ahead.number + 1) (stop + 1) in (
+      sym (ap (take_while (is_text bytes)) step ∙ reads_line bytes line later false bad),
+      ap (λ ls. option_map (λ l. l.number) (find (λ l. not (is_text bytes l)) ls)) step
+          ∙ ap (option_map (λ l. l.number)) (faults_line bytes line later false bad)
+          ∙ ap (λ l. Some l.number) comes.is
+          ∙ sym (ap (λ b. cond b (Some ahead.number) None) (lt-ltb ahead.place (length bytes) comes.within)),
+    )
+
+-- what the walk over the lines keeps: those so far and those ahead are all lines
+pub record Walks (bytes : List ℕ) (good : List Line) (ahead : Ahead) : Type 0 where
+  pub count : ahead.number ≤ ahead.place + 1
+  pub few : ahead.number ≤ length bytes + 1
+  pub next : ahead.number ≡ length good + 1
+  pub numbers : map (λ line. line.number) good ≡ range_with_len 1 (length good)
+  pub within : ahead.place ≤ length bytes + 1
+  pub reads : good ++ good_ahead bytes ahead ≡ good_lines bytes
+  pub faults : bad_ahead bytes ahead ≡ bad_line bytes
+  pub inside : All (IsInside bytes) good
+
+pub walk_more : (bytes : List ℕ) (good : List Line) (ahead next : Ahead) (line : Line) → Walks bytes good ahead
+    → line ∷ good_ahead bytes next ≡ good_ahead bytes ahead → ComesNext bytes ahead (line, next) → Walks bytes (good ++ line ∷ []) next
+walk_more bytes good ahead next line walks is comes =
+    let ordered = comes.inside.ordered in
+    let count = walks.count in
+    let begins = comes.begins in
+    let ends = comes.ends in
+    let number = comes.next_number in
+    let before = walks.next in
+    let longer = length_push good line in
     record {
-      count = omega (arith, walks.count, comes.stops);
-      few = omega (arith, walks.count, comes.within);
-      next = omega (arith, walks.next, length_push good line);
-      numbers = numbers_more good line walks.numbers (ap (λ l. l.number) comes.is ∙ walks.next);
-      within = omega arith;
-      reads = walks.reads ∙ ap (λ ls. good ++ take_while (is_text bytes) ls) step ∙ ap (λ ls. good ++ ls) (reads_line bytes line later true inside.utf8)
-          ∙ sym (append_assoc good (line ∷ []) (take_while (is_text bytes) later));
-      faults = walks.faults ∙ ap (λ ls. option_map (λ l. l.number) (find (λ l. not (is_text bytes l)) ls)) step
-          ∙ ap (option_map (λ l. l.number)) (faults_line bytes line later true inside.utf8);
-      inside = All-push (IsInside bytes) good line walks.inside inside;
+      count = omega arith;
+      few = comes.few;
+      next = omega arith;
+      numbers = numbers_more good line walks.numbers (comes.number ∙ walks.next);
+      within = comes.within;
+      reads = append_assoc good (line ∷ []) (good_ahead bytes next) ∙ ap (λ ls. good ++ ls) is ∙ walks.reads;
+      faults = comes.bad ∙ walks.faults;
+      inside = All-push (IsInside bytes) good line walks.inside comes.inside;
     }
 
 -- `from_utf8` tells the test

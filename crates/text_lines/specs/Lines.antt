@@ -1,9 +1,10 @@
 -- What the lines of a file are. A line ends at a line feed or at the end of the bytes; a last piece without bytes is no line.
-use Rattle.std.specs.Prelude.{◌≡◌, ℕ, ◌+◌, ◌≤◌, ◌==◌, Bool, true, not, List, [], ◌∷◌, map, length, drop, nat_eq, find, take_while, Option, slice_range, if◌then◌else◌}
+use Rattle.std.specs.Prelude.{◌≡◌, ℕ, ◌+◌, ◌<◌, ◌≤◌, ◌==◌, Bool, true, not, List, [], ◌∷◌, map, length, drop, nat_eq, nat_lt, find, take_while, Option, Some, None, slice_range, if◌then◌else◌}
 use Rattle.std.specs.List.{slice_split, starts_with}
 use Rattle.std.specs.Option.{option_map}
 use Rattle.std.specs.Str.{is_utf8}
 use Rattle.std.specs.Str.Lines.{strip_carriage_return}
+use Rattle.text_lines.specs.declared.found.Ahead.{Ahead}
 use Rattle.text_lines.specs.declared.found.Line.{Line}
 
 -- the bytes of a byte order mark
@@ -57,8 +58,36 @@ good_lines bytes = take_while (is_text bytes) (all_lines bytes)
 abbrev pub bad_line : List ℕ → Option ℕ
 bad_line bytes = option_map (λ line. line.number) (find (λ line. not (is_text bytes line)) (all_lines bytes))
 
+-- the lines from here on before the first that is not UTF-8
+abbrev pub good_ahead : List ℕ → Ahead → List Line
+good_ahead bytes ahead = take_while (is_text bytes) (lines_after bytes ahead.number ahead.place)
+
+-- the number of the first line from here on that is not UTF-8
+abbrev pub bad_ahead : List ℕ → Ahead → Option ℕ
+bad_ahead bytes ahead = option_map (λ line. line.number) (find (λ line. not (is_text bytes line)) (lines_after bytes ahead.number ahead.place))
+
+-- the line that comes next, if one does, and the good lines behind it
+abbrev pub good_from : List ℕ → Option (Line × Ahead) → List Line
+good_from bytes None = []
+good_from bytes (Some found) = found.0 ∷ good_ahead bytes found.1
+
+-- the number of the line that is here, unless the bytes are at their end
+abbrev pub number_here : List ℕ → Ahead → Option ℕ
+number_here bytes ahead = if nat_lt ahead.place (length bytes) then Some ahead.number else None
+
 -- the line stands in the bytes, and its own bytes are UTF-8
 pub record IsInside (bytes : List ℕ) (line : Line) : Type 0 where
   pub ordered : line.from ≤ line.to
   pub within : line.to ≤ length bytes
   pub utf8 : is_text bytes line ≡ true
+
+-- the line is the first from here on, and the others are behind it
+pub record ComesNext (bytes : List ℕ) (ahead : Ahead) (found : Line × Ahead) : Type 0 where
+  pub inside : IsInside bytes found.0
+  pub number : found.0.number ≡ ahead.number
+  pub next_number : found.1.number ≡ ahead.number + 1
+  pub begins : ahead.place ≤ found.0.from
+  pub ends : found.0.to < found.1.place
+  pub within : found.1.place ≤ length bytes + 1
+  pub few : found.1.number ≤ length bytes + 1
+  pub bad : bad_ahead bytes found.1 ≡ bad_ahead bytes ahead

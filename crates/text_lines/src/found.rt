@@ -14,6 +14,15 @@ pub struct Line {
     pub to: usize,
 }
 
+/// The lines of a file from a place on.
+#[derive(Clone, Copy, Debug, PartialEq, Eq)]
+pub struct Ahead {
+    /// The number of the first of them.
+    pub number: u64,
+    /// Where it begins.
+    pub place: usize,
+}
+
 impl Copied for Line {
     fn copy(&self, _alloc: Global) -> Result<Line, NoMemory> {
         Ok(*self)

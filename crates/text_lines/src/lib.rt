@@ -5,13 +5,13 @@
 //! dropped. A field is a longest run of characters other than space and tab.
 #![tactic(auto)]
 
-ghost use Rattle.std.specs.Prelude.{◌≡◌, ◌+◌, ◌≤◌, ◌<◌, All, IfOk, OnOk, IsTrue, length, drop, map, slice_get, slice_range};
+ghost use Rattle.std.specs.Prelude.{◌≡◌, ◌+◌, ◌≤◌, ◌<◌, All, IfNone, IfOk, IfSome, OnOk, IsTrue, length, drop, map, slice_get, slice_range};
 ghost use Rattle.std.specs.List.{position_or_len, range_with_len};
 ghost use Rattle.std.specs.Option.{option_copied};
 ghost use Rattle.text_lines.specs.Fields.{fields, decimal_of};
-ghost use Rattle.text_lines.specs.Lines.{first_place, is_line_feed, line_at, is_text, good_lines, bad_line, text_of, IsInside};
+ghost use Rattle.text_lines.specs.Lines.{first_place, is_line_feed, line_at, is_text, good_lines, bad_line, good_ahead, bad_ahead, good_from, number_here, text_of, IsInside, ComesNext};
 
-use crate::found::{Line, Lines};
+use crate::found::{Ahead, Line, Lines};
 use bstr::ByteSlice;
 use lists::{Items, NoMemory};
 use std::alloc::Global;
@@ -36,30 +36,79 @@ pub fn lines(alloc: Global, bytes: &[u8]) -> Result<Lines, NoMemory>
     ensures inside { IfOk result (λ found. All (IsInside bytes.now) found.good) }
 {
     let mut good = Items::new(alloc);
-    let mut number = 1u64;
-    let mut place = start_of(bytes);
-    while place < bytes.len() {
-        let end = end_of(bytes, place);
-        let line = line_between(bytes, number, place, end);
-        if !has_text(bytes, &line) {
-            return Ok(Lines {
-                good,
-                bad: Some(number),
-            });
-        }
+    let mut ahead = all_lines(bytes);
+    while let Some((line, next)) = next_line(bytes, ahead) {
         good.push(line)?;
-        number += 1;
-        place = end + 1;
+        ahead = next;
     }
-    Ok(Lines { good, bad: None })
+    Ok(Lines {
+        good,
+        bad: number_here(bytes, ahead),
+    })
 }
 
-/// The text of a line that `lines` found in these bytes.
+/// The number of the first line that is not UTF-8. It takes no memory.
+pub fn bad_line(bytes: &[u8]) -> Option<u64>
+    ensures { result ≡ bad_line bytes.now }
+{
+    let mut ahead = all_lines(bytes);
+    while let Some((_, next)) = next_line(bytes, ahead) {
+        ahead = next;
+    }
+    number_here(bytes, ahead)
+}
+
+/// All lines of a file.
+pub fn all_lines(bytes: &[u8]) -> Ahead
+    ensures lines { (result.number ≡ 1) × (result.place ≡ first_place bytes.now) }
+    ensures within { result.place ≤ length bytes.now }
+{
+    Ahead {
+        number: 1,
+        place: start_of(bytes),
+    }
+}
+
+/// The first of these lines, unless it is not UTF-8, and the lines behind it.
+pub fn next_line(bytes: &[u8], ahead: Ahead) -> Option<(Line, Ahead)>
+    requires { ahead.number ≤ ahead.place + 1 }
+    ensures good { good_from bytes.now result ≡ good_ahead bytes.now ahead }
+    ensures next { IfSome result (ComesNext bytes.now ahead) }
+    ensures none { IfNone result (bad_ahead bytes.now ahead ≡ number_here bytes.now ahead) }
+{
+    let Ahead { number, place } = ahead;
+    if place >= bytes.len() {
+        return None;
+    }
+    let end = end_of(bytes, place);
+    let line = line_between(bytes, number, place, end);
+    if !has_text(bytes, &line) {
+        return None;
+    }
+    let next = Ahead {
+        number: number + 1,
+        place: end + 1,
+    };
+    Some((line, next))
+}
+
+/// The number of the first of these lines, if there is one.
+fn number_here(bytes: &[u8], ahead: Ahead) -> Option<u64>
+    ensures { result ≡ number_here bytes.now ahead }
+{
+    if ahead.place < bytes.len() {
+        Some(ahead.number)
+    } else {
+        None
+    }
+}
+
+/// The text of a line that was found in these bytes.
 pub fn line_text<'a>(bytes: &'a [u8], line: &Line) -> &'a str
     requires { IsInside bytes.now line.now }
     ensures { result.now ≡ text_of bytes.now line.now }
 {
-    // `lines` has seen that these bytes are UTF-8, so nothing is refused here.
+    // The line was found for being UTF-8, so nothing is refused here.
     std::str::from_utf8(&bytes[line.from..line.to]).unwrap()
 }
 
