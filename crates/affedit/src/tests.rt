@@ -1,12 +1,12 @@
 //! Whole runs over objects in memory.
 
-mod affix_tables;
 mod case_tables;
 mod derivations;
 mod flag_tables;
 mod licence_tables;
 mod readers;
 mod refusals;
+mod rule_tables;
 mod spellings;
 mod tables;
 mod word_tables;
