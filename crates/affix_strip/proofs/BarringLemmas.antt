@@ -1,5 +1,5 @@
 -- What the flags of forbidden entries say: whether a forbidden word has affixes.
-use Rattle.std.proofs.Common.{◌≡◌, ◌∙◌, ◌↔◌, ◌⊎◌, inl, inr, refl, sym, ap, subst, ℕ, Bool, true, false, true≢false, ◌&&◌, ◌||◌, IsTrue, List, [], ◌∷◌, slice_get, Contains, Option, None, Some, is_none, is_some, if◌then◌else◌, option_and_then, arith}
+use Rattle.std.proofs.Common.{◌≡◌, ◌∙◌, ◌↔◌, ◌⊎◌, inl, inr, refl, sym, ap, ℕ, Bool, true, false, true≢false, ◌&&◌, ◌||◌, IsTrue, List, [], slice_get, Contains, Option, None, Some, is_none, is_some, if◌then◌else◌}
 use Rattle.std.specs.List.{list_any}
 use Rattle.std.specs.Option.{option_map}
 use Rattle.std.proofs.lemmas.Bool.{and_parts, and_from, false_from_ne_true}
@@ -12,7 +12,7 @@ use Rattle.spell_types.specs.declared.flags.Flag.{Flag}
 use Rattle.spell_types.specs.declared.rules.Rule.{Rule}
 use Rattle.spell_types.specs.declared.rules.Side.{Side}
 use Rattle.spell_types.specs.declared.rules.Side.TheVariants.{Prefix, Suffix}
-use Rattle.spell_types.specs.Derivations.{Named, named_with, affix_on, rule_on, is_right, is_in_order}
+use Rattle.spell_types.specs.Derivations.{named_with, affix_on, rule_on, is_right, is_in_order}
 use Rattle.spell_types.specs.Flags.{has}
 use Rattle.spell_types.specs.Licences.{holds_of, allows, carried_by, is_allowed, is_first_allowed, is_second_allowed, is_prefix_allowed, is_crossing_right, meets_signs, meets_need, meets_circumfix, is_forbidden}
 use Rattle.affix_strip.specs.Tables.{HasClasses, has_flag_of, is_forbidden_entry, takes_affixes, OfForbidden, AllowsNone}

@@ -3,7 +3,7 @@ use Rattle.std.proofs.Common.{◌≡◌, ◌∙◌, ◌⊎◌, inl, inr, refl, s
 use Rattle.std.specs.Option.{option_map, option_map_or, option_flatten}
 use Rattle.std.specs.Cmp.Lexicographic.{pointwise}
 use Rattle.std.proofs.Math.Seq.{take-append_seam}
-use Rattle.std.proofs.lemmas.Bool.{cases_order}
+use Rattle.std.proofs.lemmas.Bool.{cases_order, false_from_ne_true}
 use Rattle.std.proofs.lemmas.List.{append_cancel_left, take_more, take-append-drop}
 use Rattle.std.proofs.lemmas.List.Sums.{fold-append}
 use Rattle.std.proofs.lemmas.Option.{slice_get_past}
@@ -13,8 +13,10 @@ use Rattle.indexmap.specs.IndexMap.{get}
 use Rattle.spell_types.specs.declared.Entry.{Entry}
 use Rattle.spell_types.specs.Cases.{is_same_word}
 use Rattle.affix_strip.specs.declared.entry_table.EntryTable.{EntryTable}
-use Rattle.affix_strip.specs.declared.entry_table.TheConstants.{FACTOR}
-use Rattle.affix_strip.specs.EntryTable.{folded, hash_of, has_hash, has_word, passes_at, last_where, HasEntries}
+use Rattle.key_filter.specs.Filter.{may_have}
+use Rattle.affix_strip.specs.declared.hashed.TheConstants.{FACTOR}
+use Rattle.affix_strip.specs.Hashes.{folded, hash_of}
+use Rattle.affix_strip.specs.EntryTable.{has_hash, has_word, passes_at, last_where, HasEntries}
 
 -- ---- a list with one item more
 get-before : {X : Type 0} (xs : List X) (x : X) (i : ℕ) → i < length xs → slice_get (xs ++ x ∷ []) i ≡ slice_get xs i
@@ -201,21 +203,30 @@ entries-none table last earlier = record {
   count = ap length earlier;
   last = λ hash. ap (lookup (nat_eq hash)) last;
   earlier = λ place. ap (λ items. slice_get items place) earlier;
+  hashes = λ hash none. ap (lookup (nat_eq hash)) last;
 }
 
 pub entries-more : (entries : List Entry) (entry : Entry) (before now : EntryTable) (old : Option ℕ) → HasEntries entries before
     → ((hash : ℕ) → get nat_eq now.last hash ≡ cond (nat_eq (hash_of entry.word) hash) (Some (length entries)) (get nat_eq before.last hash))
     → old ≡ get nat_eq before.last (hash_of entry.word) → now.earlier.items ≡ before.earlier.items ++ old ∷ []
+    → may_have now.hashes (hash_of entry.word) ≡ true → ((hash : ℕ) → may_have before.hashes hash ≡ true → may_have now.hashes hash ≡ true)
     → HasEntries (entries ++ entry ∷ []) now
-entries-more entries entry before now old holds puts old-is pushed = record {
+entries-more entries entry before now old holds puts old-is pushed there kept = record {
   count = ap length pushed ∙ longer;
   last = λ hash.
       puts hash
       ∙ ap (cond (nat_eq (hash_of entry.word) hash) (Some (length entries))) (holds.last hash)
       ∙ sym (last_where-all (has_hash hash) entries entry);
   earlier = λ place. ap (λ items. slice_get items place) pushed ∙ at place (cases_order place (length entries));
+  hashes = λ hash none. puts hash ∙ no-place hash none (nat_eq (hash_of entry.word) hash) refl;
 }
   where
+    no-place : (hash : ℕ) → may_have now.hashes hash ≡ false → (b : Bool) → nat_eq (hash_of entry.word) hash ≡ b → cond b (Some (length entries)) (get nat_eq before.last hash) ≡ None
+    no-place hash none true same =
+        absurd (true≢false (sym there ∙ ap (may_have now.hashes) (eqb-true (hash_of entry.word) hash same) ∙ none))
+    no-place hash none false other =
+        holds.hashes hash (false_from_ne_true (may_have before.hashes hash) (λ had. true≢false (sym (kept hash had) ∙ none)))
+
     longer : length (before.earlier.items ++ old ∷ []) ≡ length (entries ++ entry ∷ [])
     longer = omega (arith, length-append before.earlier.items (old ∷ []), length-append entries (entry ∷ []), holds.count)
 

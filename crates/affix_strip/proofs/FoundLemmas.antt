@@ -1,5 +1,5 @@
 -- What each part of the walk finds.
-use Rattle.std.proofs.Common.{◌≡◌, ◌∙◌, ◌↔◌, ◌⊎◌, inl, inr, refl, sym, ap, subst, ℕ, zero, suc, Bool, true, false, cond, true≢false, ◌&&◌, ◌||◌, List, [], ◌∷◌, length, map, filter, slice_get, Contains, Option, None, Some, is_none, is_some, arith}
+use Rattle.std.proofs.Common.{◌≡◌, ◌∙◌, ◌↔◌, ◌⊎◌, inl, inr, refl, sym, ap, subst, ℕ, zero, suc, Bool, true, false, cond, true≢false, ◌||◌, List, [], ◌∷◌, length, map, filter, slice_get, Contains, Option, None, Some, is_none, is_some, arith}
 use Rattle.std.specs.List.{list_any}
 use Rattle.std.specs.Option.{option_map, option_map_or}
 use Rattle.std.proofs.lemmas.Bool.{and_parts, and_from}

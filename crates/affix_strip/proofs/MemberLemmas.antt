@@ -1,10 +1,9 @@
 -- Which derivations are found: those that are licensed and whose form is the word.
-use Rattle.std.proofs.Common.{◌≡◌, ◌∙◌, ◌↔◌, refl, sym, ap, subst, ℕ, ◌<◌, Bool, true, false, cond, ◌&&◌, List, [], ◌∷◌, length, map, slice_get, Contains, Option, None, Some, is_none, is_some, option_and_then, ◌||◌, if◌then◌else◌, arith, zero, suc}
-use Rattle.std.specs.List.{flat_map, filter, range_with_len}
+use Rattle.std.proofs.Common.{◌≡◌, ◌↔◌, refl, ℕ, ◌<◌, Bool, true, false, ◌&&◌, List, length, map, slice_get, Contains, Option, None, Some, is_none, is_some, option_and_then, ◌||◌, if◌then◌else◌}
+use Rattle.std.specs.List.{flat_map, range_with_len}
 use Rattle.std.specs.Option.{option_map}
 use Rattle.std.proofs.lemmas.Bool.{and_parts, and_from}
-use Rattle.std.proofs.lemmas.List.Elements.{All-contains, filter_passes, Contains-append_left, Contains-append_right}
-use Rattle.std.proofs.lemmas.List.FromFn.{length-range_with_len, get_or-range_with_len}
+use Rattle.std.proofs.lemmas.List.Elements.{All-contains, filter_passes}
 use Rattle.std.proofs.lemmas.Option.{slice_get_within}
 use Rattle.lists.specs.Laws.{contains-head, contains-tail, contains-map, contains-flat_map, contains-filter, contains-range}
 use Rattle.spell_types.specs.declared.Entry.{Entry}

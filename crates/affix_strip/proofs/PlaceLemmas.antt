@@ -1,5 +1,5 @@
 -- The places of a word's entries, from the last one on.
-use Rattle.std.proofs.Common.{◌≡◌, ◌∙◌, ◌↔◌, ◌⊎◌, inl, inr, refl, sym, ap, subst, ℕ, zero, suc, ◌<◌, ◌≤◌, length, true, false, true≢false, List, [], ◌∷◌, ◌++◌, slice_get, Contains, Option, None, Some, arith}
+use Rattle.std.proofs.Common.{◌≡◌, ◌∙◌, ◌↔◌, ◌⊎◌, inl, inr, sym, ap, subst, ℕ, suc, ◌<◌, ◌≤◌, length, true, false, List, [], ◌∷◌, ◌++◌, slice_get, Contains, Option, None, Some, arith}
 use Rattle.std.specs.Option.{option_map_or}
 use Rattle.std.proofs.lemmas.Bool.{cases_order}
 use Rattle.std.proofs.lemmas.List.Elements.{Contains-push, Contains-push_cases, Contains-append_left}

@@ -8,7 +8,7 @@ use Rattle.spell_types.specs.declared.Lexicon.{Lexicon}
 use Rattle.spell_types.specs.declared.derivations.Derivation.{Derivation}
 use Rattle.spell_types.specs.Licences.{is_forbidden}
 use Rattle.affix_strip.specs.Found.{derivations_of}
-use Rattle.affix_strip.specs.Parts.{Passes, Sight, sees_by, Shows, stem_of}
+use Rattle.affix_strip.specs.Parts.{Passes, sees_by, Shows, stem_of}
 use Rattle.affix_strip.specs.Tables.{OfForbidden, AllowsNone}
 use Rattle.affix_strip.proofs.BarringLemmas.{from-forbidden, no-affixes}
 use Rattle.affix_strip.proofs.FoundLemmas.{Around, Gives, none-in, none-gives, bare-inside, gives-bare}

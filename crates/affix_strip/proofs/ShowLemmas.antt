@@ -1,9 +1,9 @@
 -- What a visitor is shown, one thing after another.
-use Rattle.std.proofs.Common.{◌≡◌, ◌∙◌, ◌↔◌, ◌⊎◌, inl, inr, refl, sym, subst, ℕ, ◌+◌, ◌<◌, ◌≤◌, Bool, true, false, true≢false, List, [], ◌∷◌, ◌++◌, length, take, take_all, get_or, Contains, Result, Ok, Err, IfOk, arith}
+use Rattle.std.proofs.Common.{◌≡◌, ◌↔◌, ◌⊎◌, inl, inr, refl, sym, subst, ℕ, ◌+◌, ◌<◌, ◌≤◌, Bool, true, false, true≢false, List, [], ◌∷◌, ◌++◌, length, take, take_all, get_or, Contains, Result, Ok, Err, IfOk, arith}
 use Rattle.std.proofs.lemmas.List.{take_more}
 use Rattle.std.proofs.lemmas.List.Elements.{Contains-append_left, Contains-get_or, Contains-push, Contains-push_cases}
 use Rattle.spell_types.specs.declared.derivations.Derivation.{Derivation}
-use Rattle.affix_strip.specs.Parts.{Sight, AtSome, IsEnd, Shows}
+use Rattle.affix_strip.specs.Parts.{Sight, AtSome, Shows}
 
 -- there was nothing to show
 pub shows-none : {P : Derivation → Type 0} {before : Sight} → ((d : Derivation) → P d → ⊥) → Shows P before before false

@@ -1,29 +1,15 @@
 -- The tables of a dictionary: one rule more; and which places they give.
-use Rattle.std.proofs.Common.{◌≡◌, ◌∙◌, ◌⊎◌, inl, inr, refl, sym, ap, subst, ℕ, zero, suc, ◌+◌, ◌<◌, Bool, true, false, cond, ◌&&◌, ◌||◌, true≢false, List, [], ◌∷◌, ◌++◌, length, take, get_or, nat_eq, slice_get, Contains, None, Some, if◌then◌else◌, eq-eqb, map, Result, Ok, Err, IfOk, Vec, Global, arith}
-use Rattle.std.specs.Cmp.Lexicographic.{pointwise}
-use Rattle.std.specs.List.{starts_with, ends_with}
-use Rattle.std.proofs.lemmas.Bool.{and_parts}
+use Rattle.std.proofs.Common.{◌≡◌, ◌∙◌, ◌⊎◌, inl, inr, refl, sym, ap, subst, ℕ, zero, suc, ◌+◌, ◌<◌, Bool, true, false, cond, ◌||◌, true≢false, List, [], ◌∷◌, ◌++◌, length, take, get_or, nat_eq, slice_get, None, Some, if◌then◌else◌, eq-eqb, map, Result, Ok, Err, IfOk, Vec, Global}
 use Rattle.std.proofs.lemmas.List.{take_more}
-use Rattle.std.proofs.lemmas.List.Elements.{Contains-append_left, Contains-append_right, Contains-append_cases}
 use Rattle.std.proofs.lemmas.Option.{option_and_then_some, cond_some}
-use Rattle.std.proofs.lemmas.Slice.Eq.{bytes_eq-Decides}
-use Rattle.spell_types.specs.declared.Affixes.{Affixes}
-use Rattle.spell_types.specs.declared.Entry.{Entry}
 use Rattle.spell_types.specs.declared.flags.Flag.{Flag}
 use Rattle.spell_types.specs.declared.rules.Rule.{Rule}
 use Rattle.spell_types.specs.declared.rules.Side.{Side}
 use Rattle.spell_types.specs.declared.rules.Side.TheVariants.{Prefix, Suffix}
-use Rattle.spell_types.specs.Attaching.{may_strip}
-use Rattle.spell_types.specs.Conditions.{fits_front, fits_back}
 use Rattle.spell_types.specs.Derivations.{is_same_side, rule_on}
 use Rattle.spell_types.specs.Flags.{has, put, put_all}
 use Rattle.spell_types.proofs.FlagLemmas.{put-has, put_all-has}
-use Rattle.affix_classes.specs.Undoing.{undone_suffix, undone_prefix, suffix_put_back, prefix_put_back}
-use Rattle.affix_tables.specs.Places.{suffix_places, prefix_places}
-use Rattle.affix_tables.proofs.LawLemmas.{suffix-members, prefix-members}
 use Rattle.affix_strip.specs.Tables.{HasCarried, AreSeconds, HasClasses}
-use Rattle.affix_strip.proofs.UndoneWords.{undone_at}
-use Rattle.affix_strip.proofs.InverseLemmas.{rule_on-side}
 
 -- ---- a list with one item more
 get-more : {X : Type 0} (xs : List X) (x : X) (i : ℕ) (y : X) → slice_get (xs ++ x ∷ []) i ≡ Some y → (slice_get xs i ≡ Some y) ⊎ ((i ≡ length xs) × (x ≡ y))

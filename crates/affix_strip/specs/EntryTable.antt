@@ -1,19 +1,12 @@
 -- Entries by a hash of their words.
-use Rattle.std.specs.Prelude.{◌≡◌, ◌↔◌, ℕ, zero, suc, ◌+◌, ◌*◌, ◌%◌, ◌^◌, Bool, false, List, length, fold, nat_eq, slice_get, Contains, Option, None, Some, if◌then◌else◌}
+use Rattle.std.specs.Prelude.{◌≡◌, ◌↔◌, ℕ, zero, suc, Bool, false, List, length, nat_eq, slice_get, Contains, Option, None, Some, if◌then◌else◌}
 use Rattle.std.specs.Option.{option_map, option_map_or}
 use Rattle.indexmap.specs.IndexMap.{get}
 use Rattle.spell_types.specs.declared.Entry.{Entry}
 use Rattle.spell_types.specs.Cases.{is_same_word}
-use Rattle.affix_strip.specs.declared.entry_table.TheConstants.{START, FACTOR}
+use Rattle.key_filter.specs.Filter.{may_have}
 use Rattle.affix_strip.specs.declared.entry_table.EntryTable.{EntryTable}
-
--- the hash of a text, taken on from the hash of what stands before it
-unfoldable pub folded : ℕ → List ℕ → ℕ
-folded hash text = fold (λ h c. ((h * FACTOR) % 2 ^ 64 + c) % 2 ^ 64) hash text
-
--- the hash of a word
-abbrev pub hash_of : List ℕ → ℕ
-hash_of word = folded START word
+use Rattle.affix_strip.specs.Hashes.{hash_of}
 
 abbrev pub has_hash : ℕ → Entry → Bool
 has_hash hash entry = nat_eq (hash_of entry.word) hash
@@ -30,11 +23,12 @@ abbrev pub last_where : (Entry → Bool) → List Entry → ℕ → Option ℕ
 last_where test entries zero = None
 last_where test entries (suc place) = if passes_at test entries place then Some place else last_where test entries place
 
--- the table has at each hash the last place of an entry whose word has it, and at each place the last one below it of the same hash
+-- the table has at each hash the last place of an entry whose word has it, and at each place the last one below it of the same hash, and what the filter excludes has no place
 pub record HasEntries (entries : List Entry) (table : EntryTable) : Type 0 where
   pub count : length table.earlier.items ≡ length entries
   pub last : (hash : ℕ) → get nat_eq table.last hash ≡ last_where (has_hash hash) entries (length entries)
   pub earlier : (place : ℕ) → slice_get table.earlier.items place ≡ option_map (λ entry. last_where (has_hash (hash_of entry.word)) entries place) (slice_get entries place)
+  pub hashes : (hash : ℕ) → may_have table.hashes hash ≡ false → get nat_eq table.last hash ≡ None
 
 -- these are the places of the entries of a word
 pub record AreEntriesOf (entries : List Entry) (word places : List ℕ) : Type 0 where

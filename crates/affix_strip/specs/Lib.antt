@@ -1,5 +1,6 @@
 pub mod EntryTable
 pub mod Found
+pub mod Hashes
 pub mod Parts
 pub mod Peeling
 pub mod Tables

@@ -1,22 +1,20 @@
 //! Entries by a hash of their words. A word is compared only with those of its hash, so no words are kept beside the
-//! entries.
+//! entries, and most that are no entry's word are known by a filter of the hashes.
 
-ghost use Rattle.std.specs.Prelude.{◌≡◌, ◌++◌, [], ◌∷◌, ◌^◌, ◌<◌, ℕ, List, true, length, slice_get, OnOk, IfOk};
+ghost use Rattle.std.specs.Prelude.{◌≡◌, ◌++◌, [], ◌∷◌, ◌^◌, ◌<◌, ℕ, List, true, length, nat_eq, slice_get, OnOk, IfOk};
 ghost use Rattle.std.specs.Option.{option_flatten};
+ghost use Rattle.indexmap.specs.IndexMap.{get};
 ghost use Rattle.spell_types.specs.declared.Entry.{Entry};
 ghost use Rattle.spell_types.specs.Cases.{is_same_word};
-ghost use Rattle.affix_strip.specs.EntryTable.{folded, hash_of, has_hash, has_word, passes_at, last_where, HasEntries, AreEntriesOf};
+ghost use Rattle.affix_strip.specs.Hashes.{hash_of, IsHashed};
+ghost use Rattle.affix_strip.specs.EntryTable.{has_hash, has_word, passes_at, last_where, HasEntries, AreEntriesOf};
 
+use crate::hashed::{Hashed, START, fold};
 use indexmap::IndexMap;
+use key_filter::KeyFilter;
 use lists::NoMemory;
 use spell_types::Entry;
 use std::alloc::Global;
-
-/// The hash of a text without characters.
-pub(crate) const START: u64 = 1;
-
-/// What a hash is multiplied with before a character is added. It is odd, so that no bit of what stands before is lost.
-const FACTOR: u64 = 0x9E37_79B9_7F4A_7C15;
 
 /// The entries of a dictionary by a hash of their words. They are not kept: each call is given those that the table was
 /// made of. An entry is named by its place among them, from 0.
@@ -26,6 +24,8 @@ pub(crate) struct EntryTable {
     last: IndexMap<u64, u32>,
     /// At each place the last one below it of an entry whose word has the same hash.
     earlier: Vec<Option<u32>>,
+    /// The hashes: one that is not among them is not looked up.
+    hashes: KeyFilter,
 }
 
 impl EntryTable {
@@ -36,7 +36,12 @@ impl EntryTable {
     {
         let last = IndexMap::with_capacity(alloc, entries.len())?;
         let earlier = Vec::with_capacity(alloc, entries.len())?;
-        let mut table = EntryTable { last, earlier };
+        let hashes = KeyFilter::new(alloc, entries.len())?;
+        let mut table = EntryTable {
+            last,
+            earlier,
+            hashes,
+        };
         for (place, entry) in entries.iter().enumerate() {
             table.add(entry, place as u32)?;
         }
@@ -51,6 +56,7 @@ impl EntryTable {
         let hash = fold(START, entry.word.as_slice());
         let earlier = self.last.insert(hash, place)?;
         self.earlier.push(earlier)?;
+        self.hashes.insert(hash);
         Ok(())
     }
 
@@ -59,18 +65,19 @@ impl EntryTable {
         &self,
         alloc: Global,
         entries: &[Entry],
-        front: &[char],
+        front: Hashed<'_>,
         back: &[char],
     ) -> Result<Vec<u32>, NoMemory>
-        requires { HasEntries entries.now self.now }
-        ensures { IfOk result (λ places. AreEntriesOf entries.now (front.now ++ back.now) places.items) }
+        requires entries { HasEntries entries.now self.now }
+        requires front { IsHashed front }
+        ensures { IfOk result (λ places. AreEntriesOf entries.now (front.entry.text.now ++ back.now) places.items) }
     {
         let mut places = Vec::new(alloc);
-        let hash = fold(fold(START, front), back);
-        let mut next = self.last_of(entries, hash, front, back);
+        let hash = fold(front.hash, back);
+        let mut next = self.last_of(entries, hash, front.text, back);
         while let Some(place) = next {
             places.push(place)?;
-            next = self.before(entries, place, front, back);
+            next = self.before(entries, place, front.text, back);
         }
         Ok(places)
     }
@@ -81,7 +88,17 @@ impl EntryTable {
         requires hash { hash ≡ hash_of (front.now ++ back.now) }
         ensures { result ≡ last_where (has_word (front.now ++ back.now)) entries.now (length entries.now) }
     {
-        self.down_from(entries, self.last.get(&hash).copied(), front, back)
+        self.down_from(entries, self.last_with(hash), front, back)
+    }
+
+    /// The last place of an entry whose word has a hash.
+    fn last_with(&self, hash: u64) -> Option<u32>
+        ensures { (entries : List Entry) → HasEntries entries self.now → result ≡ get nat_eq self.now.last hash }
+    {
+        if !self.hashes.may_have(hash) {
+            return None;
+        }
+        self.last.get(&hash).copied()
     }
 
     /// The last place of such an entry below a place where one stands.
@@ -121,17 +138,6 @@ impl EntryTable {
     {
         self.earlier.get(place as usize).copied().flatten()
     }
-}
-
-/// The hash of a text, taken on from the hash of what stands before it.
-pub(crate) fn fold(hash: u64, characters: &[char]) -> u64
-    ensures { result ≡ folded hash characters.now }
-{
-    let mut folded = hash;
-    for c in characters {
-        folded = folded.wrapping_mul(FACTOR).wrapping_add(*c as u64);
-    }
-    folded
 }
 
 /// Whether there is an entry at a place, and its word is `front` and `back` joined.

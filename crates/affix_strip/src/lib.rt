@@ -13,6 +13,7 @@ ghost use Rattle.affix_strip.specs.Found.{derivations_of, derivation_cmp, AreInO
 
 mod barring;
 mod entry_table;
+mod hashed;
 mod peeling;
 mod rule_flags;
 #[cfg(test)]

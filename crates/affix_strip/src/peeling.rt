@@ -4,8 +4,10 @@ ghost use Rattle.std.specs.Prelude.{◌≡◌, ◌++◌, ◌≤◌, ℕ, List, t
 ghost use Rattle.spell_types.specs.declared.rules.Rule.{Rule};
 ghost use Rattle.affix_tables.specs.Groups.{AreGroups};
 ghost use Rattle.affix_tables.specs.Tables.{IsTableOf};
+ghost use Rattle.affix_strip.specs.Hashes.{IsHashed};
 ghost use Rattle.affix_strip.specs.Peeling.{IsCut, IsOn, has_at, join, peeled_by, ArePeeled};
 
+use crate::hashed::Hashed;
 use affix_tables::{AffixTables, Groups, group_places, group_strip};
 use lists::NoMemory;
 use spell_types::Side;
@@ -19,26 +21,30 @@ const MOST: usize = 12;
 /// not looked at. What is left is what is kept of the word and what the rules strip off, and is not joined before it must be.
 #[derive(Drop)]
 pub(crate) struct Peeled<'a> {
-    front: &'a [char],
+    front: Hashed<'a>,
     back: &'a [char],
     places: &'a [u32],
 }
 
 impl<'a> Model for Peeled<'a> {
     ghost use Rattle.std.specs.Prelude.{ℕ, List, ◌++◌};
+    ghost use Rattle.affix_strip.specs.Hashes.{IsHashed};
 
     ghost Value = { List ℕ × List ℕ };
 
-    ghost view = { λ inside. (inside.front.now ++ inside.back.now, inside.places.now) };
+    ghost view = { λ inside. (inside.front.text.now ++ inside.back.now, inside.places.now) };
+
+    ghost invariant = { λ inside. IsHashed inside.front };
 }
 
 impl<'a> Peeled<'a> {
     /// What a group of rules leaves, of which so much is kept.
-    fn new(side: Side, kept: &'a [char], strip: &'a [char], places: &'a [u32]) -> Peeled<'a>
-        ensures { result ≡ (join side kept.now strip.now, places.now) }
+    fn new(side: Side, kept: Hashed<'a>, strip: &'a [char], places: &'a [u32]) -> Peeled<'a>
+        requires { IsHashed kept }
+        ensures { result ≡ (join side kept.entry.text.now strip.now, places.now) }
     {
         let (front, back) = match side {
-            Side::Prefix => (strip, kept),
+            Side::Prefix => (Hashed::new(strip), kept.text),
             Side::Suffix => (kept, strip),
         };
         Peeled {
@@ -49,8 +55,9 @@ impl<'a> Peeled<'a> {
     }
 
     /// What the rules may have been attached to, in two parts.
-    pub(crate) fn parts(&self) -> (&'a [char], &'a [char])
-        ensures { result.0.now ++ result.1.now ≡ self.now.0 }
+    pub(crate) fn parts(&self) -> (Hashed<'a>, &'a [char])
+        ensures parts { result.0.text.now ++ result.1.now ≡ self.now.0 }
+        ensures hash { IsHashed result.0 }
     {
         (self.front, self.back)
     }
@@ -59,8 +66,9 @@ impl<'a> Peeled<'a> {
     pub(crate) fn joined(&self, alloc: Global) -> Result<Vec<char>, NoMemory>
         ensures { IfOk result (λ text. text.items ≡ self.now.0) }
     {
-        let mut text = Vec::with_capacity(alloc, self.front.len() + self.back.len())?;
-        text.extend_from_slice(self.front)?;
+        let front = self.front.text;
+        let mut text = Vec::with_capacity(alloc, front.len() + self.back.len())?;
+        text.extend_from_slice(front)?;
         text.extend_from_slice(self.back)?;
         Ok(text)
     }
@@ -136,9 +144,13 @@ fn add_groups<'a>(
 ) -> Result<(), NoMemory>
     ensures { OnOk result (found.new.items ≡ found.old.items ++ map (peeled_by side kept.now) groups.now) }
 {
+    if groups.is_empty() {
+        return Ok(());
+    }
+    let hashed = Hashed::new(kept);
     for number in 0..groups.len() {
         let strip = group_strip(groups, number);
-        found.push(Peeled::new(side, kept, strip, group_places(groups, number)))?;
+        found.push(Peeled::new(side, hashed, strip, group_places(groups, number)))?;
     }
     Ok(())
 }

@@ -7,12 +7,14 @@ ghost use Rattle.spell_types.specs.Derivations.{form_of};
 ghost use Rattle.spell_types.specs.Licences.{is_licensed, is_forbidden};
 ghost use Rattle.affix_strip.specs.EntryTable.{AreEntriesOf};
 ghost use Rattle.affix_strip.specs.Found.{derivations_of};
+ghost use Rattle.affix_strip.specs.Hashes.{IsHashed};
 ghost use Rattle.affix_strip.specs.Parts.{stem_of, with_first, with_suffixes, Any, Outside, Passes, AtSome, Shows, From, FromAll, RuleFrom, Peels};
 ghost use Rattle.affix_strip.specs.Peeling.{may_undo, may_undo_at, fits_on};
 ghost use Rattle.affix_strip.specs.Tables.{IsReady, may_be_outer, may_undo_outer};
 
 use crate::barring::{Barring, barring_of};
 use crate::entry_table::EntryTable;
+use crate::hashed::Hashed;
 use crate::peeling::{Peeled, peel};
 use crate::rule_flags::second_suffixes;
 use crate::visiting::{Forbidden, Question, Test, Visitor};
@@ -268,7 +270,7 @@ impl Dictionary {
             (stem_of self.now.lexicon) word.now)
             (V.sees visitor.old) (V.sees visitor.new)) }
     {
-        let entries = self.entries_of(alloc, word, &[])?;
+        let entries = self.entries_of(alloc, Hashed::new(word), &[])?;
         visit_prefixes(
             &self.lexicon,
             prefixes,
@@ -461,9 +463,15 @@ impl Dictionary {
     }
 
     /// The places of the entries whose word is `front` and `back` joined.
-    fn entries_of(&self, alloc: Global, front: &[char], back: &[char]) -> Result<Vec<u32>, NoMemory>
-        requires { IsReady self.now }
-        ensures { IfOk result (λ places. AreEntriesOf self.now.lexicon.entries (front.now ++ back.now) places.items) }
+    fn entries_of(
+        &self,
+        alloc: Global,
+        front: Hashed<'_>,
+        back: &[char],
+    ) -> Result<Vec<u32>, NoMemory>
+        requires ready { IsReady self.now }
+        requires front { IsHashed front }
+        ensures { IfOk result (λ places. AreEntriesOf self.now.lexicon.entries (front.entry.text.now ++ back.now) places.items) }
     {
         self.by_word
             .places_of(alloc, &self.lexicon.entries, front, back)

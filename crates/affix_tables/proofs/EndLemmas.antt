@@ -1,13 +1,14 @@
 -- The ends of a word are those of each text that ends it.
-use Rattle.std.proofs.Common.{◌≡◌, ◌∙◌, ◌⊎◌, inl, inr, refl, sym, ap, ap₂, subst, ℕ, zero, suc, ◌+◌, ◌-◌, ◌<◌, ◌≤◌, Bool, true, false, true≢false, List, length, take, drop, get_or, length-take, length-drop, nat_eq, cond, eq-eqb, arith}
+use Rattle.std.proofs.Common.{◌≡◌, ◌∙◌, ◌⊎◌, inl, inr, refl, sym, ap, ap₂, ℕ, zero, suc, ◌+◌, ◌-◌, ◌<◌, ◌≤◌, Bool, true, false, true≢false, List, length, take, drop, get_or, length-take, length-drop, nat_eq, arith}
 use Rattle.std.specs.List.{starts_with, ends_with}
 use Rattle.std.proofs.lemmas.Bool.{cases_lt}
 use Rattle.std.proofs.lemmas.List.{get_or-take, get_or-drop}
 use Rattle.std.proofs.lemmas.Slice.Eq.{bytes_eq-Decides}
-use Rattle.indexmap.specs.IndexSet.{IndexSet, contains}
+use Rattle.key_filter.specs.declared.KeyFilter.{KeyFilter}
+use Rattle.key_filter.specs.Filter.{may_have}
 use Rattle.spell_types.specs.declared.rules.Side.{Side}
 use Rattle.spell_types.specs.declared.rules.Side.TheVariants.{Prefix, Suffix}
-use Rattle.affix_tables.specs.Ends.{char_at, key_with, key_at, HasEnds, KeepsEnds}
+use Rattle.affix_tables.specs.Ends.{char_at, key_with, key_at, HasEnds, KeepsKeys}
 use Rattle.affix_tables.specs.declared.TheConstants.{START}
 
 -- whether the text stands at the side's end of the word
@@ -50,52 +51,45 @@ same-key side word text (suc count) has within =
     ap₂ key_with (same-key side word text count has (omega (arith, within))) (same-char side word text count has (omega (arith, within)))
 
 -- where a word's end has no key, no text that ends the word goes on
-pub reached : {S : Type 0} (side : Side) (ends : IndexSet ℕ S) (word text : List ℕ) (count : ℕ) → (count < length word → contains nat_eq ends (key_at side word (count + 1)) ≡ false)
+pub reached : (side : Side) (ends : KeyFilter) (word text : List ℕ) (count : ℕ) → (count < length word → may_have ends (key_at side word (count + 1)) ≡ false)
     → HasEnds side text ends → has_at side word text ≡ true → length text ≤ count
 reached side ends word text count over all has = by (cases_lt count (length text))
   where
     by : (count < length text) ⊎ (length text ≤ count) → length text ≤ count
     by (inl longer) =
         let fits : length text ≤ length word = is-cut side word text has in
-        let here : contains nat_eq ends (key_at side text (count + 1)) ≡ true = all (count + 1) (omega arith) (omega (arith, longer)) in
-        absurd (true≢false (sym here ∙ ap (contains nat_eq ends) (same-key side word text (count + 1) has (omega (arith, longer))) ∙ over (omega (arith, longer, fits))))
+        let here : may_have ends (key_at side text (count + 1)) ≡ true = all (count + 1) (omega arith) (omega (arith, longer)) in
+        absurd (true≢false (sym here ∙ ap (may_have ends) (same-key side word text (count + 1) has (omega (arith, longer))) ∙ over (omega (arith, longer, fits))))
     by (inr within) = within
 
 -- ---- the keys of a text, one after another
-pub record AreAdded {S : Type 0} (side : Side) (text : List ℕ) (count key : ℕ) (before now : IndexSet ℕ S) : Type 0 where
+pub record AreAdded (side : Side) (text : List ℕ) (count key : ℕ) (before now : KeyFilter) : Type 0 where
   pub key_is : key ≡ key_at side text count
-  pub has : (shorter : ℕ) → 0 < shorter → shorter ≤ count → contains nat_eq now (key_at side text shorter) ≡ true
-  pub keeps : KeepsEnds before now
+  pub has : (shorter : ℕ) → 0 < shorter → shorter ≤ count → may_have now (key_at side text shorter) ≡ true
+  pub keeps : KeepsKeys before now
 
-pub added-none : {S : Type 0} (side : Side) (text : List ℕ) (ends : IndexSet ℕ S) → AreAdded side text 0 START ends ends
+pub added-none : (side : Side) (text : List ℕ) (ends : KeyFilter) → AreAdded side text 0 START ends ends
 added-none side text ends = record {
   key_is = key-none side text;
   has = λ shorter some within. absurd (omega (arith, some, within));
   keeps = λ key there. there;
 }
 
-pub added-more : {S : Type 0} (side : Side) (text : List ℕ) (count key next : ℕ) (before now then : IndexSet ℕ S) → AreAdded side text count key before now → next ≡ key_with key (char_at side text count)
-    → ((other : ℕ) → contains nat_eq then other ≡ cond (nat_eq next other) true (contains nat_eq now other)) → AreAdded side text (count + 1) next before then
-added-more side text count key next before now then so is adds = record {
+pub added-more : (side : Side) (text : List ℕ) (count key next : ℕ) (before now then : KeyFilter) → AreAdded side text count key before now → next ≡ key_with key (char_at side text count)
+    → may_have then next ≡ true → KeepsKeys now then → AreAdded side text (count + 1) next before then
+added-more side text count key next before now then so is there kept = record {
   key_is = next-is;
   has = λ shorter some within. by shorter some (cases_lt shorter (count + 1)) within;
-  keeps = λ other there. kept other (so.keeps other there);
+  keeps = λ other was. kept other (so.keeps other was);
 }
   where
     next-is : next ≡ key_at side text (count + 1)
     next-is = is ∙ ap (λ k. key_with k (char_at side text count)) so.key_is ∙ sym (key-more side text count)
 
-    either : (a b : Bool) → b ≡ true → cond a true b ≡ true
-    either true b there = refl
-    either false b there = there
-
-    kept : (other : ℕ) → contains nat_eq now other ≡ true → contains nat_eq then other ≡ true
-    kept other there = adds other ∙ either (nat_eq next other) (contains nat_eq now other) there
-
-    by : (shorter : ℕ) → 0 < shorter → (shorter < count + 1) ⊎ (count + 1 ≤ shorter) → shorter ≤ count + 1 → contains nat_eq then (key_at side text shorter) ≡ true
+    by : (shorter : ℕ) → 0 < shorter → (shorter < count + 1) ⊎ (count + 1 ≤ shorter) → shorter ≤ count + 1 → may_have then (key_at side text shorter) ≡ true
     by shorter some (inl less) within = kept (key_at side text shorter) (so.has shorter some (omega (arith, less)))
     by shorter some (inr all) within =
         let same : shorter ≡ count + 1 = omega (arith, all, within) in
-        ap (λ n. contains nat_eq then (key_at side text n)) same
-        ∙ adds (key_at side text (count + 1))
-        ∙ ap (λ b. cond b true (contains nat_eq now (key_at side text (count + 1)))) (eq-eqb next (key_at side text (count + 1)) next-is)
+        ap (λ n. may_have then (key_at side text n)) same
+        ∙ ap (may_have then) (sym next-is)
+        ∙ there

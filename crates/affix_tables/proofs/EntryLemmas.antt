@@ -1,7 +1,6 @@
 -- What the entries of a table have at a text once a place is added.
 use Rattle.std.proofs.Common.{◌≡◌, ◌∙◌, refl, sym, ap, subst, ℕ, Bool, true, false, cond, true≢false, List, [], ◌∷◌, ◌++◌, append-nil, append_assoc, nat_eq, IsPermutation, Option, Some, None, Vec, Global, if◌then◌else◌}
 use Rattle.std.specs.Cmp.Lexicographic.{pointwise}
-use Rattle.std.specs.List.{flat_map}
 use Rattle.std.specs.Map.{lookup, set_value}
 use Rattle.std.specs.Option.{option_map_or}
 use Rattle.std.proofs.lemmas.Bool.{false_from_ne_true}

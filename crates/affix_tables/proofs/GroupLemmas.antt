@@ -1,9 +1,10 @@
 -- The groups at a text, once a rule is put into its group; and what groups are found.
-use Rattle.std.proofs.Common.{◌≡◌, ◌∙◌, ◌↔◌, refl, sym, ap, subst, ℕ, ◌+◌, ◌<◌, Bool, true, false, cond, ◌&&◌, true≢false, List, [], ◌∷◌, ◌++◌, append-nil, length, take, get_or, nat_eq, slice_get, Contains, Option, Some, None, Vec, Global, if◌then◌else◌, IsPermutation, arith}
+use Rattle.std.proofs.Common.{◌≡◌, ◌∙◌, ◌↔◌, refl, sym, ap, subst, ℕ, ◌+◌, ◌<◌, Bool, true, false, cond, ◌&&◌, true≢false, List, [], ◌∷◌, ◌++◌, append-nil, length, take, get_or, nat_eq, slice_get, Contains, Option, Some, None, if◌then◌else◌, IsPermutation, arith}
 use Rattle.std.specs.Cmp.{IsEquivalence}
 use Rattle.std.specs.Cmp.Lexicographic.{pointwise}
 use Rattle.std.specs.List.Sorted.{IsStrictlyIncreasing}
 use Rattle.std.specs.Map.{lookup, set_value}
+use Rattle.std.specs.List.{IsDistinct}
 use Rattle.std.specs.Option.{option_map_or}
 use Rattle.std.proofs.lemmas.Bool.{and_parts, and_from, false_from_ne_true}
 use Rattle.std.proofs.lemmas.Cmp.{on_equiv, nat_list_eq_equiv}
@@ -19,7 +20,9 @@ use Rattle.indexmap.specs.IndexMap.{IndexMap}
 use Rattle.spell_types.specs.declared.rules.Rule.{Rule}
 use Rattle.spell_types.specs.declared.rules.Side.{Side}
 use Rattle.spell_types.specs.Derivations.{is_same_side}
+use Rattle.key_filter.specs.Filter.{may_have}
 use Rattle.affix_tables.specs.declared.Table.{Table}
+use Rattle.affix_tables.specs.Ends.{key_at}
 use Rattle.affix_tables.specs.Groups.{Group, places_in, AreApart, HasPlace, AreGroups}
 use Rattle.affix_tables.specs.Places.{exchanges, places_where}
 use Rattle.affix_tables.specs.Tables.{places_at, groups_at, all_places, Puts, IsTable}
@@ -184,6 +187,30 @@ are-groups rules side table added groups are apart holds = record {
     inside strip place has =
         subst (λ ps. Contains ps place)
         (sym (ap (places_at groups) (sym has.strips) ∙ group-places groups apart has.group has.among)) has.has
+
+-- where there are no groups, none are equal
+pub none-apart : AreApart []
+unfolding IsDistinct
+none-apart = tt
+
+-- a text without a key is added by no rule
+pub no-groups : (rules : List Rule) (side : Side) (table : Table) (added : List ℕ) → may_have table.texts (key_at side added (length added)) ≡ false → IsTable rules side table → AreGroups rules side added []
+no-groups rules side table added none holds = record {
+  members = λ strip place. (
+    λ has. absurd (nothing has.group has.among),
+    λ (rule, at, on, adds, strips). absurd (true≢false (sym (there rule place at on adds) ∙ none)),
+  );
+  rising = λ group among. absurd (nothing group among);
+  apart = none-apart;
+}
+  where
+    nothing : (group : Group) → Contains [] group → ⊥
+    nothing group (k, within, at) = omega (arith, within)
+
+    there : (rule : Rule) (place : ℕ) → slice_get rules place ≡ Some rule → rule.side ≡ side → rule.add ≡ added → may_have table.texts (key_at side added (length added)) ≡ true
+    there rule place at on adds =
+        subst (λ text. may_have table.texts (key_at side text (length text)) ≡ true) adds
+        (holds.texts place rule at (ap (is_same_side side) on ∙ own_side side))
 
 -- ---- the places of the groups before a number
 pub all_places-more : (groups : List Group) (number : ℕ) → number < length groups → all_places (take (number + 1) groups) ≡ all_places (take number groups) ++ places_in (slice_get groups number)

@@ -1,6 +1,7 @@
 -- The ends of texts, seen from a side, by keys.
-use Rattle.std.specs.Prelude.{◌≡◌, ℕ, zero, suc, ◌+◌, ◌-◌, ◌*◌, ◌%◌, ◌^◌, ◌<◌, ◌≤◌, true, List, length, get_or, nat_eq}
-use Rattle.indexmap.specs.IndexSet.{IndexSet, contains}
+use Rattle.std.specs.Prelude.{◌≡◌, ℕ, zero, suc, ◌+◌, ◌-◌, ◌*◌, ◌%◌, ◌^◌, ◌<◌, ◌≤◌, true, List, length, get_or}
+use Rattle.key_filter.specs.declared.KeyFilter.{KeyFilter}
+use Rattle.key_filter.specs.Filter.{may_have}
 use Rattle.spell_types.specs.declared.rules.Side.{Side}
 use Rattle.spell_types.specs.declared.rules.Side.TheVariants.{Prefix, Suffix}
 use Rattle.affix_tables.specs.declared.TheConstants.{START, FACTOR}
@@ -19,10 +20,14 @@ unfoldable pub key_at : Side → List ℕ → ℕ → ℕ
 key_at side text zero = START
 key_at side text (suc count) = key_with (key_at side text count) (char_at side text count)
 
--- the keys of all ends of a text are there
-abbrev pub HasEnds : {S : Type 0} → Side → List ℕ → IndexSet ℕ S → Type 0
-HasEnds side text ends = (count : ℕ) → 0 < count → count ≤ length text → contains nat_eq ends (key_at side text count) ≡ true
+-- the keys of all ends of a text may be there
+abbrev pub HasEnds : Side → List ℕ → KeyFilter → Type 0
+HasEnds side text ends = (count : ℕ) → 0 < count → count ≤ length text → may_have ends (key_at side text count) ≡ true
 
--- the keys that were there are there
-abbrev pub KeepsEnds : {S : Type 0} → IndexSet ℕ S → IndexSet ℕ S → Type 0
-KeepsEnds before now = (key : ℕ) → contains nat_eq before key ≡ true → contains nat_eq now key ≡ true
+-- the key of a text may be there
+abbrev pub HasText : Side → List ℕ → KeyFilter → Type 0
+HasText side text texts = may_have texts (key_at side text (length text)) ≡ true
+
+-- the keys that might be there still may
+abbrev pub KeepsKeys : KeyFilter → KeyFilter → Type 0
+KeepsKeys before now = (key : ℕ) → may_have before key ≡ true → may_have now key ≡ true

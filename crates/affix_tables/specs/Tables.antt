@@ -14,7 +14,7 @@ use Rattle.spell_types.specs.declared.rules.Side.TheVariants.{Prefix, Suffix}
 use Rattle.spell_types.specs.Derivations.{is_same_side}
 use Rattle.affix_tables.specs.declared.Table.{Table}
 use Rattle.affix_tables.specs.declared.AffixTables.{AffixTables}
-use Rattle.affix_tables.specs.Ends.{HasEnds}
+use Rattle.affix_tables.specs.Ends.{HasEnds, HasText}
 use Rattle.affix_tables.specs.Groups.{Group}
 use Rattle.affix_tables.specs.Places.{adds_on, exchanges, places_where}
 
@@ -35,12 +35,13 @@ pub record Puts {S : Type 0} (before now : List (Vec ℕ Global × IndexMap (Vec
   pub at_strip : (text strip : List ℕ) → places_at (groups_at now text) strip ≡ places_at (groups_at before text) strip ++ (if pointwise nat_eq text added && pointwise nat_eq strip stripped then place ∷ [] else [])
   pub at_text : (text : List ℕ) → IsPermutation (all_places (groups_at now text)) (all_places (groups_at before text) ++ (if pointwise nat_eq text added then place ∷ [] else []))
 
--- the table of the rules of a side: at each text the rules that add it, in groups by what they strip off; no rule of the side adds more characters than the bound, and the ends of all that they add have their keys
+-- the table of the rules of a side: at each text the rules that add it, in groups by what they strip off; no rule of the side adds more characters than the bound, and all that they add, and its ends, have their keys
 pub record IsTable (rules : List Rule) (side : Side) (table : Table) : Type 0 where
   pub at_strip : (text strip : List ℕ) → places_at (groups_at table.by_text.entries text) strip ≡ places_where (exchanges side text strip) rules
   pub at_text : (text : List ℕ) → IsPermutation (all_places (groups_at table.by_text.entries text)) (places_where (adds_on side (pointwise nat_eq text)) rules)
   pub bounded : (place : ℕ) (rule : Rule) → slice_get rules place ≡ Some rule → is_same_side side rule.side ≡ true → length rule.add ≤ table.longest
   pub ends : (place : ℕ) (rule : Rule) → slice_get rules place ≡ Some rule → is_same_side side rule.side ≡ true → HasEnds side rule.add table.ends
+  pub texts : (place : ℕ) (rule : Rule) → slice_get rules place ≡ Some rule → is_same_side side rule.side ≡ true → HasText side rule.add table.texts
 
 -- the tables of these rules
 pub record IsTableOf (rules : List Rule) (tables : AffixTables) : Type 0 where

@@ -10,15 +10,16 @@ ghost use Rattle.spell_types.specs.declared.rules.Rule.{Rule};
 ghost use Rattle.spell_types.specs.declared.rules.Side.TheVariants.{Prefix, Suffix};
 ghost use Rattle.affix_tables.specs.Places.{suffix_places, prefix_places};
 ghost use Rattle.affix_tables.specs.Groups.{strip_in, places_in, AreApart, AreGroups};
-ghost use Rattle.indexmap.specs.IndexSet.{contains};
-ghost use Rattle.affix_tables.specs.Ends.{char_at, key_with, key_at, HasEnds, KeepsEnds};
+ghost use Rattle.key_filter.specs.Filter.{may_have};
+ghost use Rattle.affix_tables.specs.Ends.{char_at, key_with, key_at, HasEnds, HasText, KeepsKeys};
 ghost use Rattle.affix_tables.specs.Tables.{places_at, groups_at, all_places, Puts, ending_places, front_places, IsTable, IsTableOf};
 
 #[cfg(test)]
 mod tests;
 
+use indexmap::IndexMap;
 use indexmap::map::Slice;
-use indexmap::{IndexMap, IndexSet};
+use key_filter::KeyFilter;
 use lists::NoMemory;
 use spell_types::{Rule, Side};
 use std::alloc::Global;
@@ -52,7 +53,9 @@ struct Table {
     /// No rule adds more characters.
     longest: usize,
     /// The keys of all ends of the texts that rules add, seen from the side: where a word's end has none of them, no rule goes on.
-    ends: IndexSet<u64>,
+    ends: KeyFilter,
+    /// The keys of the texts themselves: one that has none of them is not looked up.
+    texts: KeyFilter,
 }
 
 impl AffixTables {
@@ -95,14 +98,14 @@ impl AffixTables {
     pub fn suffix_groups(&self, added: &[char]) -> Groups<'_>
         ensures { (rules : List Rule) → IsTableOf rules self.now → AreGroups rules Suffix added.now result }
     {
-        groups_of(&self.suffixes.by_text, added)
+        groups_adding(Side::Suffix, &self.suffixes, added)
     }
 
     /// The groups of the prefix rules that add this text. There are none where no rule adds it.
     pub fn prefix_groups(&self, added: &[char]) -> Groups<'_>
         ensures { (rules : List Rule) → IsTableOf rules self.now → AreGroups rules Prefix added.now result }
     {
-        groups_of(&self.prefixes.by_text, added)
+        groups_adding(Side::Prefix, &self.prefixes, added)
     }
 
     /// No suffix rule whose added text ends the word adds more characters than this.
@@ -149,7 +152,8 @@ fn table_of(alloc: Global, side: Side, rules: &[Rule]) -> Result<Table, NoMemory
     let mut table = Table {
         by_text: IndexMap::new(alloc),
         longest: 0,
-        ends: IndexSet::new(alloc),
+        ends: KeyFilter::new(alloc, rules.len())?,
+        texts: KeyFilter::new(alloc, rules.len())?,
     };
     for (place, rule) in rules.iter().enumerate() {
         add_rule(alloc, side, rule, place as u32, &mut table)?;
@@ -204,34 +208,48 @@ fn put(
 ) -> Result<(), NoMemory>
     ensures place { OnOk result (Puts table.old.by_text.entries table.new.by_text.entries added.now stripped.now place) }
     ensures longest { OnOk result (table.new.longest ≡ max table.old.longest (length added.now)) }
-    ensures ends { OnOk result (HasEnds side added.now table.new.ends × KeepsEnds table.old.ends table.new.ends) }
+    ensures ends { OnOk result (HasEnds side added.now table.new.ends × KeepsKeys table.old.ends table.new.ends) }
+    ensures texts { OnOk result (HasText side added.now table.new.texts × KeepsKeys table.old.texts table.new.texts) }
 {
     put_in_group(alloc, &mut table.by_text, added, stripped, place)?;
     table.longest = table.longest.max(added.len());
-    add_ends(side, added, &mut table.ends)
+    add_ends(side, added, &mut table.ends);
+    table.texts.insert(key_of(side, added));
+    Ok(())
 }
 
 /// Adds the keys of all ends of a text, seen from the side.
-fn add_ends(side: Side, text: &[char], ends: &mut IndexSet<u64>) -> Result<(), NoMemory>
-    ensures { OnOk result (HasEnds side text.now ends.new × KeepsEnds ends.old ends.new) }
+fn add_ends(side: Side, text: &[char], ends: &mut KeyFilter)
+    ensures has { HasEnds side text.now ends.new }
+    ensures keeps { KeepsKeys ends.old ends.new }
 {
     let mut key = START;
     for number in 0..text.len() {
         key = key_with(key, char_at(side, text, number));
-        ends.insert(key)?;
+        ends.insert(key);
     }
-    Ok(())
+}
+
+/// The key of a text, seen from the side.
+fn key_of(side: Side, text: &[char]) -> u64
+    ensures { result ≡ key_at side text.now (length text.now) }
+{
+    let mut key = START;
+    for number in 0..text.len() {
+        key = key_with(key, char_at(side, text, number));
+    }
+    key
 }
 
 /// How many characters at the side's end of a word have a key among these, one after another.
-fn reach(side: Side, ends: &IndexSet<u64>, word: &[char]) -> usize
+fn reach(side: Side, ends: &KeyFilter, word: &[char]) -> usize
     ensures within { result ≤ length word.now }
-    ensures over { result < length word.now → contains nat_eq ends.now (key_at side word.now (result + 1)) ≡ false }
+    ensures over { result < length word.now → may_have ends.now (key_at side word.now (result + 1)) ≡ false }
 {
     let mut key = START;
     for number in 0..word.len() {
         key = key_with(key, char_at(side, word, number));
-        if !ends.contains(&key) {
+        if !ends.may_have(key) {
             return number;
         }
     }
@@ -341,6 +359,16 @@ fn add_places(
         found.extend_from_slice(group_places(&groups, number))?;
     }
     Ok(())
+}
+
+/// The groups of the rules of a table's side that add this text. Most texts that no rule adds are not looked up.
+fn groups_adding<'a>(side: Side, table: &'a Table, added: &[char]) -> Groups<'a>
+    ensures { (rules : List Rule) → IsTable rules side table.now → AreGroups rules side added.now result }
+{
+    if !table.texts.may_have(key_of(side, added)) {
+        return Slice::new();
+    }
+    groups_of(&table.by_text, added)
 }
 
 /// The groups of a text; none where it is not there.

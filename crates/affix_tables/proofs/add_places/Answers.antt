@@ -1,6 +1,5 @@
 -- The places of one group more are added.
 use Rattle.std.proofs.Common.{rules, ◌∙◌, sym, ap, ◌++◌, take, append_assoc}
-use Rattle.affix_tables.specs.Groups.{places_in}
 use Rattle.affix_tables.specs.Tables.{all_places}
 use Rattle.affix_tables.proofs.GroupLemmas.{all_places-more}
 use Rattle.affix_tables.proofs.add_places.Goals as goal

@@ -1,7 +1,7 @@
 -- A rule of the side goes into the table, and one of the other side changes nothing.
 use Rattle.std.proofs.Common.{rules, ◌≡◌, ◌∙◌, sym, ap, subst, max, true, false, length}
 use Rattle.spell_types.specs.Derivations.{is_same_side}
-use Rattle.affix_tables.specs.Ends.{HasEnds}
+use Rattle.affix_tables.specs.Ends.{HasEnds, HasText}
 use Rattle.affix_tables.specs.Tables.{Puts}
 use Rattle.affix_tables.proofs.TableLemmas.{rule_of_side, rule_of_other_side}
 use Rattle.affix_tables.proofs.add_rule.Goals as goal
@@ -21,4 +21,6 @@ returns c = λ before at was.
     c.in_ok-put.ensures.place)))
     (c.in_ok-put.ensures.longest ∙ ap (λ added. max c.args.table.now.longest (length added)) c.as_slice.ensures)
     (subst (λ added. HasEnds c.args.side added c.put.new.table.ends) c.as_slice.ensures c.in_ok-put.ensures.ends.0)
-    c.in_ok-put.ensures.ends.1 was
+    c.in_ok-put.ensures.ends.1
+    (subst (λ added. HasText c.args.side added c.put.new.table.texts) c.as_slice.ensures c.in_ok-put.ensures.texts.0)
+    c.in_ok-put.ensures.texts.1 was

@@ -1,6 +1,5 @@
 -- What is found, in order, is the list of all derivations.
-use Rattle.std.proofs.Common.{◌≡◌, ◌∙◌, ◌⊎◌, inl, inr, true, ap, List, [], Contains, Some}
-use Rattle.spell_types.specs.declared.derivations.Derivation.{Derivation}
+use Rattle.std.proofs.Common.{◌∙◌, ap}
 use Rattle.affix_strip.specs.Found.{derivations_of}
 use Rattle.affix_strip.proofs.SameLemmas.{same-derivations}
 use Rattle.affix_strip.proofs.QuestionLemmas.{listed}

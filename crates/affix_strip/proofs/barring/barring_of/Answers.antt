@@ -1,5 +1,5 @@
 -- No entry is forbidden, or none that is has a flag of a class.
-use Rattle.std.proofs.Common.{rules, ◌∙◌, sym}
+use Rattle.std.proofs.Common.{rules}
 use Rattle.affix_strip.proofs.BarringLemmas.{nowhere, at-entries}
 use Rattle.affix_strip.proofs.barring.barring_of.Goals as goal
 

@@ -1,5 +1,5 @@
 -- The affixes of so many characters more are peeled off.
-use Rattle.std.proofs.Common.{rules, ◌∙◌, ap, subst, ◌++◌, arith, [], sym, ◌≤◌, length}
+use Rattle.std.proofs.Common.{rules, subst, arith, sym, ◌≤◌, length}
 use Rattle.affix_strip.proofs.PeelLemmas.{ArePeeledBelow, peeled-none, peeled-more, peeled-all}
 use Rattle.affix_strip.proofs.peeling.peel.Goals as goal
 

@@ -1,8 +1,7 @@
 -- The derivation from one entry more is shown, if it is licensed.
-use Rattle.std.proofs.Common.{◌≡◌, refl, true, None, Some, get_or, Contains, arith}
+use Rattle.std.proofs.Common.{◌≡◌, refl, true, get_or, arith}
 use Rattle.spell_types.specs.Derivations.{derivation_of}
 use Rattle.spell_types.specs.Licences.{is_licensed}
-use Rattle.affix_strip.specs.Parts.{AtSome}
 use Rattle.affix_strip.proofs.ShowLemmas.{loop-first, loop-more, loop-end, loop-last}
 use Rattle.affix_strip.proofs.walk.visit_entries.Goals as goal
 

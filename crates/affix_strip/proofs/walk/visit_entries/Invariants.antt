@@ -1,5 +1,5 @@
 -- So far the licensed derivations from the entries before the loop's place were shown.
-use Rattle.std.proofs.Common.{◌≡◌, true, false, None, Some, take, Contains}
+use Rattle.std.proofs.Common.{◌≡◌, true, false, take}
 use Rattle.spell_types.specs.Derivations.{derivation_of}
 use Rattle.spell_types.specs.Licences.{is_licensed}
 use Rattle.affix_strip.specs.Parts.{AtSome, Shows}

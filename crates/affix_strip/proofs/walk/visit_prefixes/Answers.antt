@@ -1,5 +1,5 @@
 -- The derivations with one prefix more are shown.
-use Rattle.std.proofs.Common.{◌≡◌, refl, true, None, Some, get_or, Contains, arith}
+use Rattle.std.proofs.Common.{refl, None, get_or, arith}
 use Rattle.affix_strip.specs.Parts.{From}
 use Rattle.affix_strip.specs.Parts.{AtSome}
 use Rattle.affix_strip.proofs.ShowLemmas.{loop-first, loop-more, loop-end, loop-last}

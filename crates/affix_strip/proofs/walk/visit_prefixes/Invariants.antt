@@ -1,5 +1,5 @@
 -- So far what comes before the loop's place was shown.
-use Rattle.std.proofs.Common.{◌≡◌, true, false, None, Some, take, Contains}
+use Rattle.std.proofs.Common.{false, take}
 use Rattle.affix_strip.specs.Parts.{From}
 use Rattle.affix_strip.specs.Parts.{AtSome, Shows}
 use Rattle.affix_strip.proofs.walk.visit_prefixes.Given as goal

@@ -1,24 +1,25 @@
 -- From each place of the word the walk goes on to the one before.
 use Rattle.std.proofs.Common.{◌≡◌, ◌∙◌, sym, ap, subst, suc, ◌<◌, ◌≤◌, ◌++◌, arith}
-use Rattle.affix_strip.specs.EntryTable.{has_word, folded, last_where}
-use Rattle.affix_strip.specs.declared.entry_table.TheConstants.{START}
+use Rattle.affix_strip.specs.EntryTable.{has_word}
+use Rattle.affix_strip.specs.Hashes.{folded}
+use Rattle.affix_strip.specs.declared.hashed.TheConstants.{START}
 use Rattle.affix_strip.proofs.EntryLemmas.{end_of, last_where-below, folded-append}
 use Rattle.affix_strip.proofs.PlaceLemmas.{PlacesBehind, places-first, places-at, places-more, places-last}
 use Rattle.affix_strip.proofs.entry_table.EntryTable.places_of.Goals as goal
 
 pub last_of-next-requires-clause-hash : goal.last_of-next-requires-clause-hash
 last_of-next-requires-clause-hash c =
-    c.fold-hash.ensures ∙ ap (λ hash. folded hash c.args.back.now) c.fold.ensures ∙ sym (folded-append START c.args.front.now c.args.back.now)
+    c.fold-hash.ensures ∙ ap (λ hash. folded hash c.args.back.now) c.requires.front ∙ sym (folded-append START c.args.front.text.now c.args.back.now)
 
 pub loop-next-init : goal.loop-next-init
 loop-next-init c =
-    subst (PlacesBehind c.args.entries.now (c.args.front.now ++ c.args.back.now) c.last_of-next.result) (sym c.new-places.ensures.items)
-    (places-first c.args.entries.now (c.args.front.now ++ c.args.back.now) c.last_of-next.result c.last_of-next.ensures)
+    subst (PlacesBehind c.args.entries.now (c.args.front.text.now ++ c.args.back.now) c.last_of-next.result) (sym c.new-places.ensures.items)
+    (places-first c.args.entries.now (c.args.front.text.now ++ c.args.back.now) c.last_of-next.result c.last_of-next.ensures)
 
 pub before-next-requires-clause-place : goal.before-next-requires-clause-place
 before-next-requires-clause-place c =
-    places-at c.args.entries.now (c.args.front.now ++ c.args.back.now) c.in-Some.place c.loop-next.places.items
-    (subst (λ next. PlacesBehind c.args.entries.now (c.args.front.now ++ c.args.back.now) next c.loop-next.places.items) c.in-Some.is c.loop-next.invariant)
+    places-at c.args.entries.now (c.args.front.text.now ++ c.args.back.now) c.in-Some.place c.loop-next.places.items
+    (subst (λ next. PlacesBehind c.args.entries.now (c.args.front.text.now ++ c.args.back.now) next c.loop-next.places.items) c.in-Some.is c.loop-next.invariant)
 
 pub loop-next-smaller : goal.loop-next-smaller
 loop-next-smaller c =
@@ -30,11 +31,11 @@ loop-next-smaller c =
 
 pub loop-next-preserved : goal.loop-next-preserved
 loop-next-preserved c =
-    places-more c.args.entries.now (c.args.front.now ++ c.args.back.now) c.in-Some.place c.before-next.result c.loop-next.places.items c.push.new.self.items
-    (subst (λ next. PlacesBehind c.args.entries.now (c.args.front.now ++ c.args.back.now) next c.loop-next.places.items) c.in-Some.is c.loop-next.invariant)
+    places-more c.args.entries.now (c.args.front.text.now ++ c.args.back.now) c.in-Some.place c.before-next.result c.loop-next.places.items c.push.new.self.items
+    (subst (λ next. PlacesBehind c.args.entries.now (c.args.front.text.now ++ c.args.back.now) next c.loop-next.places.items) c.in-Some.is c.loop-next.invariant)
     c.in_ok-push.ensures.items c.before-next.ensures
 
 pub returns : goal.returns
 returns c =
-    places-last c.args.entries.now (c.args.front.now ++ c.args.back.now) c.loop-next.places.items
-    (subst (λ next. PlacesBehind c.args.entries.now (c.args.front.now ++ c.args.back.now) next c.loop-next.places.items) c.in_default.is c.loop-next.invariant)
+    places-last c.args.entries.now (c.args.front.text.now ++ c.args.back.now) c.loop-next.places.items
+    (subst (λ next. PlacesBehind c.args.entries.now (c.args.front.text.now ++ c.args.back.now) next c.loop-next.places.items) c.in_default.is c.loop-next.invariant)

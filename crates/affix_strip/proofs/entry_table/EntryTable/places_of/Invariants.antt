@@ -5,7 +5,7 @@ use Rattle.affix_strip.proofs.PlaceLemmas.{PlacesBehind}
 use Rattle.affix_strip.proofs.entry_table.EntryTable.places_of.Given as goal
 
 abbrev pub invariant-loop-next : goal.invariant-loop-next
-invariant-loop-next l = PlacesBehind l.entries (l.front ++ l.back) l.next l.places.items
+invariant-loop-next l = PlacesBehind l.entries (l.front.text.now ++ l.back) l.next l.places.items
 
 abbrev pub decreases-loop-next : goal.decreases-loop-next
 decreases-loop-next l = end_of l.next

@@ -1,5 +1,5 @@
 -- Nothing is forbidden, or forbidden words are those of entries, or all derivations are asked.
-use Rattle.std.proofs.Common.{◌≡◌, subst, true, false}
+use Rattle.std.proofs.Common.{subst}
 use Rattle.affix_strip.specs.Tables.{IsBarring}
 use Rattle.affix_strip.proofs.QuestionLemmas.{if_answered, none-forbidden, barred-bare}
 use Rattle.affix_strip.proofs.walk.Dictionary.is_barred.Goals as goal

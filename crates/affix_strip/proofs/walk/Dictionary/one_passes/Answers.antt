@@ -1,5 +1,4 @@
 -- The walk is over where a derivation passes, and else none does.
-use Rattle.std.proofs.Common.{◌≡◌, true, false}
 use Rattle.affix_strip.proofs.QuestionLemmas.{if_answered, answered}
 use Rattle.affix_strip.proofs.walk.Dictionary.one_passes.Goals as goal
 

@@ -1,5 +1,5 @@
 -- There is no prefix, or one of those that may have made the word.
-use Rattle.std.proofs.Common.{rules, inl}
+use Rattle.std.proofs.Common.{rules}
 use Rattle.affix_strip.proofs.ShowLemmas.{shows-end, answer-then}
 use Rattle.affix_strip.proofs.FoundLemmas.{all-passing, none-gives}
 use Rattle.affix_strip.proofs.walk.Dictionary.visit_all.Goals as goal

@@ -1,5 +1,5 @@
 -- There is no prefix to add; or the word has no suffix, a first one, or a second one.
-use Rattle.std.proofs.Common.{rules, inl, inr, None, [], ◌∷◌}
+use Rattle.std.proofs.Common.{rules, inl}
 use Rattle.affix_strip.proofs.ShowLemmas.{shows-none, shows-end, shows-then, answer-then}
 use Rattle.affix_strip.proofs.FoundLemmas.{bare-inside, inside-passing, behind-passing, no-prefixes}
 use Rattle.affix_strip.proofs.walk.Dictionary.visit_behind.Goals as goal

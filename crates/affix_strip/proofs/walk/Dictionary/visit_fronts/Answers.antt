@@ -1,8 +1,7 @@
 -- The derivations with a prefix of one group more are shown.
-use Rattle.std.proofs.Common.{◌≡◌, refl, true, None, Some, get_or, Contains, arith}
+use Rattle.std.proofs.Common.{arith}
 use Rattle.spell_types.specs.declared.rules.Side.TheVariants.{Prefix}
 use Rattle.affix_strip.specs.Parts.{Any, Peels, with_suffixes}
-use Rattle.affix_strip.specs.Parts.{AtSome}
 use Rattle.affix_strip.proofs.ShowLemmas.{loop-first, loop-more, loop-end, loop-last}
 use Rattle.affix_strip.proofs.walk.Dictionary.visit_fronts.Goals as goal
 

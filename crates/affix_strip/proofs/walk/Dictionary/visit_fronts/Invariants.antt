@@ -1,5 +1,5 @@
 -- So far what comes before the loop's place was shown.
-use Rattle.std.proofs.Common.{◌≡◌, true, false, None, Some, take, Contains}
+use Rattle.std.proofs.Common.{false, take}
 use Rattle.spell_types.specs.declared.rules.Side.TheVariants.{Prefix}
 use Rattle.affix_strip.specs.Parts.{Any, Peels, with_suffixes}
 use Rattle.affix_strip.specs.Parts.{AtSome, Shows}

@@ -1,8 +1,7 @@
 -- The derivations with a second suffix of one group more are shown.
-use Rattle.std.proofs.Common.{rules, ◌≡◌, refl, true, None, Some, get_or, Contains, arith}
+use Rattle.std.proofs.Common.{rules, Contains, arith}
 use Rattle.spell_types.specs.declared.rules.Side.TheVariants.{Suffix}
 use Rattle.affix_strip.specs.Parts.{Peels, with_first}
-use Rattle.affix_strip.specs.Parts.{AtSome}
 use Rattle.affix_strip.proofs.FoundLemmas.{no-seconds-at}
 use Rattle.affix_strip.proofs.ShowLemmas.{shows-none, loop-first, loop-more, loop-end, loop-last}
 use Rattle.affix_strip.proofs.walk.Dictionary.visit_outers.Goals as goal

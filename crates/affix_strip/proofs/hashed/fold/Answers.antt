@@ -1,8 +1,8 @@
 -- One character more is in the hash.
 use Rattle.std.proofs.Common.{◌∙◌, sym, ap, ◌+◌, ◌*◌, ◌%◌, ◌^◌}
-use Rattle.affix_strip.specs.declared.entry_table.TheConstants.{FACTOR}
+use Rattle.affix_strip.specs.declared.hashed.TheConstants.{FACTOR}
 use Rattle.affix_strip.proofs.EntryLemmas.{folded-none, folded-more}
-use Rattle.affix_strip.proofs.entry_table.fold.Goals as goal
+use Rattle.affix_strip.proofs.hashed.fold.Goals as goal
 
 pub loop-c-init : goal.loop-c-init
 loop-c-init c = sym (folded-none c.args.hash)

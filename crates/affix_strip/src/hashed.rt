@@ -1,0 +1,40 @@
+//! Texts with their hashes.
+
+ghost use Rattle.std.specs.Prelude.{◌≡◌};
+ghost use Rattle.affix_strip.specs.Hashes.{folded, IsHashed};
+
+/// The hash of a text without characters.
+pub(crate) const START: u64 = 1;
+
+/// What a hash is multiplied with before a character is added. It is odd, so that no bit of what stands before is lost.
+const FACTOR: u64 = 0x9E37_79B9_7F4A_7C15;
+
+/// A text with its hash, which is computed once.
+#[derive(Clone, Copy)]
+pub(crate) struct Hashed<'a> {
+    pub(crate) text: &'a [char],
+    pub(crate) hash: u64,
+}
+
+impl<'a> Hashed<'a> {
+    pub(crate) fn new(text: &'a [char]) -> Hashed<'a>
+        ensures text { result.text.now ≡ text.now }
+        ensures hash { IsHashed result }
+    {
+        Hashed {
+            text,
+            hash: fold(START, text),
+        }
+    }
+}
+
+/// The hash of a text, taken on from the hash of what stands before it.
+pub(crate) fn fold(hash: u64, characters: &[char]) -> u64
+    ensures { result ≡ folded hash characters.now }
+{
+    let mut folded = hash;
+    for c in characters {
+        folded = folded.wrapping_mul(FACTOR).wrapping_add(*c as u64);
+    }
+    folded
+}
