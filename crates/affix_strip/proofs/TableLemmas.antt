@@ -8,7 +8,6 @@ use Rattle.spell_types.specs.declared.rules.Side.{Side}
 use Rattle.spell_types.specs.declared.rules.Side.TheVariants.{Prefix, Suffix}
 use Rattle.spell_types.specs.Derivations.{is_same_side, rule_on}
 use Rattle.spell_types.specs.Flags.{has, put, put_all}
-use Rattle.spell_types.proofs.FlagLemmas.{put-has, put_all-has}
 use Rattle.affix_strip.specs.Tables.{HasCarried, AreSeconds, HasClasses}
 
 -- ---- a list with one item more
@@ -22,12 +21,19 @@ get-more (z ∷ xs) x (suc i) y at = later (get-more xs x i y at)
     later (inl there) = inl there
     later (inr (last, same)) = inr (ap suc last, same)
 
+-- what a set has once a flag, or some flags, are put in
+abbrev pub TellsPut : Type 0
+TellsPut = (set : List Flag) (flag asked : Flag) → has (put flag set) (Some asked) ≡ (nat_eq flag.0 asked.0 || has set (Some asked))
+
+abbrev pub TellsPutAll : Type 0
+TellsPutAll = (set flags : List Flag) (asked : Flag) → has (put_all set flags) (Some asked) ≡ (has flags (Some asked) || has set (Some asked))
+
 -- ---- the flags that suffix rules carry
 pub carried-none : (set : List Flag) → HasCarried [] set
 carried-none set = record { flags = λ place rule flag at side has. absurd (cc) }
 
-pub carried-more : (rules : List Rule) (rule : Rule) (before now : List Flag) → HasCarried rules before → now ≡ (if is_same_side Suffix rule.side then put_all before rule.carried else before) → HasCarried (rules ++ rule ∷ []) now
-carried-more rules rule before now holds is = record {
+pub carried-more : TellsPutAll → (rules : List Rule) (rule : Rule) (before now : List Flag) → HasCarried rules before → now ≡ (if is_same_side Suffix rule.side then put_all before rule.carried else before) → HasCarried (rules ++ rule ∷ []) now
+carried-more tells rules rule before now holds is = record {
   flags = λ place other flag at side carries. subst (λ set. has set (Some flag) ≡ true) (sym is) (by flag (get-more rules rule place other at) side carries);
 }
   where
@@ -40,11 +46,11 @@ carried-more rules rule before now holds is = record {
     or-left false b same = absurd (true≢false (sym same))
 
     kept : (flag : Flag) (b : Bool) → has before (Some flag) ≡ true → has (cond b (put_all before rule.carried) before) (Some flag) ≡ true
-    kept flag true had = put_all-has before rule.carried flag ∙ or-right (has rule.carried (Some flag)) (has before (Some flag)) had
+    kept flag true had = tells before rule.carried flag ∙ or-right (has rule.carried (Some flag)) (has before (Some flag)) had
     kept flag false had = had
 
     added : (flag : Flag) (side : Side) → side ≡ Suffix → has rule.carried (Some flag) ≡ true → has (cond (is_same_side Suffix side) (put_all before rule.carried) before) (Some flag) ≡ true
-    added flag Suffix on carries = put_all-has before rule.carried flag ∙ or-left (has rule.carried (Some flag)) (has before (Some flag)) carries
+    added flag Suffix on carries = tells before rule.carried flag ∙ or-left (has rule.carried (Some flag)) (has before (Some flag)) carries
     added flag Prefix on carries = absurd (cc)
 
     by : {place : ℕ} {other : Rule} (flag : Flag) → (slice_get rules place ≡ Some other) ⊎ ((place ≡ length rules) × (rule ≡ other)) → other.side ≡ Suffix → has other.carried (Some flag) ≡ true → has (cond (is_same_side Suffix rule.side) (put_all before rule.carried) before) (Some flag) ≡ true
@@ -63,11 +69,11 @@ or-true : (b : Bool) → (b || true) ≡ true
 or-true true = refl
 or-true false = refl
 
-pub classes-more : (rules : List Rule) (rule : Rule) (before now : List Flag) → HasClasses rules before → now ≡ put rule.flag before → HasClasses (rules ++ rule ∷ []) now
-classes-more rules rule before now holds is = record { flags = λ place other at. by (get-more rules rule place other at) }
+pub classes-more : TellsPut → (rules : List Rule) (rule : Rule) (before now : List Flag) → HasClasses rules before → now ≡ put rule.flag before → HasClasses (rules ++ rule ∷ []) now
+classes-more tells rules rule before now holds is = record { flags = λ place other at. by (get-more rules rule place other at) }
   where
     has-now : (asked : Flag) → has now (Some asked) ≡ (nat_eq rule.flag.0 asked.0 || has before (Some asked))
-    has-now asked = ap (λ set. has set (Some asked)) is ∙ put-has rule.flag before asked
+    has-now asked = ap (λ set. has set (Some asked)) is ∙ tells before rule.flag asked
 
     by : {place : ℕ} {other : Rule} → (slice_get rules place ≡ Some other) ⊎ ((place ≡ length rules) × (rule ≡ other)) → has now (Some other.flag) ≡ true
     by {place} {other} (inl at) = has-now other.flag ∙ ap (λ b. nat_eq rule.flag.0 other.flag.0 || b) (holds.flags place other at) ∙ or-true (nat_eq rule.flag.0 other.flag.0)

@@ -54,9 +54,9 @@ impl EntryTable {
             → HasEntries (entries ++ entry.now ∷ []) self.new) }
     {
         let hash = fold(START, entry.word.as_slice());
+        self.hashes.insert(hash);
         let earlier = self.last.insert(hash, place)?;
         self.earlier.push(earlier)?;
-        self.hashes.insert(hash);
         Ok(())
     }
 

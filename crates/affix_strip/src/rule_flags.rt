@@ -6,13 +6,14 @@ ghost use Rattle.spell_types.specs.Flags.{has, put_all};
 ghost use Rattle.affix_strip.specs.Tables.{HasCarried, AreSeconds, HasClasses};
 
 use lists::NoMemory;
-use spell_types::{FlagSet, Rule, Side, has};
+use spell_types::{FlagSet, Rule, Side, has, sets_have_their_flags};
 use std::alloc::Global;
 
 /// The flags of all affix classes.
 pub(crate) fn flags_of_classes(alloc: Global, rules: &[Rule]) -> Result<FlagSet, NoMemory>
     ensures { IfOk result (λ set. HasClasses rules.now set) }
 {
+    sets_have_their_flags();
     let mut set = FlagSet::new(alloc);
     for rule in rules {
         set.insert(rule.flag)?;
@@ -43,6 +44,7 @@ fn with_flags(alloc: Global, rules: &[Rule], set: &FlagSet) -> Result<Vec<bool>,
 fn carried_by_suffixes(alloc: Global, rules: &[Rule]) -> Result<FlagSet, NoMemory>
     ensures { IfOk result (λ set. HasCarried rules.now set) }
 {
+    sets_have_their_flags();
     let mut set = FlagSet::new(alloc);
     for rule in rules {
         add_carried(rule, &mut set)?;

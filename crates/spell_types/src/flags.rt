@@ -1,6 +1,6 @@
 //! Flags, and sets of them.
 
-ghost use Rattle.std.specs.Prelude.{◌≡◌, ◌<◌, ◌≤◌, ◌↔◌, List, [], ◌∷◌, length, slice_get, Some, IsTrue, OnOk, OnErr, IfOk, IfErr, Contains};
+ghost use Rattle.std.specs.Prelude.{◌≡◌, ◌<◌, ◌≤◌, ◌↔◌, ◌==◌, ◌||◌, List, [], ◌∷◌, length, slice_get, Some, IsTrue, OnOk, OnErr, IfOk, IfErr, Contains};
 ghost use Rattle.std.specs.List.Sorted.{IsPartitionPoint};
 ghost use Rattle.spell_types.specs.declared.flags.Flag.{Flag};
 ghost use Rattle.spell_types.specs.Flags.{IsRising, put, put_all, has};
@@ -91,13 +91,17 @@ pub fn has(set: &FlagSet, flag: Option<Flag>) -> bool
     }
 }
 
-/// The set of some flags rises, and has exactly those flags. `has` tells which flags a set has.
+/// The set of some flags rises, and has exactly those flags. `has` tells which flags a set has, also once flags are put in.
 pub fn sets_have_their_flags()
     ensures rising { (flags : List Flag) → IsRising (put_all [] flags) }
     ensures members { (flags : List Flag) (flag : Flag) →
         Contains (put_all [] flags) flag ↔ Contains flags flag }
     ensures told { (set : List Flag) (flag : Flag) →
         IsTrue (has set (Some flag)) ↔ Contains set flag }
+    ensures put { (set : List Flag) (flag asked : Flag) →
+        has (put flag set) (Some asked) ≡ (flag.0 == asked.0 || has set (Some asked)) }
+    ensures put_all { (set flags : List Flag) (asked : Flag) →
+        has (put_all set flags) (Some asked) ≡ (has flags (Some asked) || has set (Some asked)) }
 {}
 
 /// The place of a flag in a rising list, or the place where it is missing.
