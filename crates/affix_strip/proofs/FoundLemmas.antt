@@ -241,15 +241,15 @@ outer-may dictionary ready d place licensed is = by (rule_on dictionary.lexicon.
         ∙ carries rule (carrier dictionary.lexicon d rule licensed (ap (affix_on dictionary.lexicon.affixes.rules Suffix) is ∙ on))
 
 -- where no rule may be one there is none
-pub no-seconds-at : (dictionary : Dictionary) (prefixes : List (Option ℕ)) (endings : List Peeled) → IsReady dictionary → dictionary.has_seconds ≡ false
+pub no-seconds-at : (dictionary : Dictionary) (prefixes : List (Option ℕ)) (endings : List Peeled) → IsReady dictionary → dictionary.tables.has_seconds ≡ false
     → (d : Derivation) → AtSome (Peels dictionary.lexicon Suffix (λ d. d.second) (λ d. Contains prefixes d.prefix) (with_first dictionary.lexicon)) endings d → ⊥
 no-seconds-at dictionary prefixes endings ready none d some =
     let at = some.is in
-    true≢false (sym (by at.item (slice_get dictionary.seconds.items at.item) refl (outer-may dictionary ready d at.item at.is.1.licensed at.is.1.has.1)) ∙ sym ready.has_seconds ∙ none)
+    true≢false (sym (by at.item (slice_get dictionary.tables.seconds.items at.item) refl (outer-may dictionary ready d at.item at.is.1.licensed at.is.1.has.1)) ∙ sym ready.has_seconds ∙ none)
   where
-    by : (place : ℕ) (found : Option Bool) → slice_get dictionary.seconds.items place ≡ found → option_map_or (λ may. may) found false ≡ true → list_any (λ may. may) dictionary.seconds.items ≡ true
+    by : (place : ℕ) (found : Option Bool) → slice_get dictionary.tables.seconds.items place ≡ found → option_map_or (λ may. may) found false ≡ true → list_any (λ may. may) dictionary.tables.seconds.items ≡ true
     by place None at holds = absurd (cc)
-    by place (Some may) at holds = at-place (λ may. may) dictionary.seconds.items place may at holds
+    by place (Some may) at holds = at-place (λ may. may) dictionary.tables.seconds.items place may at holds
 
 -- a second suffix stands behind a first one
 first-inside : (lexicon : Lexicon) (d : Derivation) (place : ℕ) → is_licensed lexicon d ≡ true → d.second ≡ Some place → is_some d.first ≡ true

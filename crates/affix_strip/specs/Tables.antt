@@ -14,6 +14,7 @@ use Rattle.affix_strip.specs.Peeling.{may_undo_at}
 use Rattle.affix_strip.specs.declared.barring.Barring.{Barring}
 use Rattle.affix_strip.specs.declared.barring.Barring.TheVariants.{Nowhere, AtEntries, AtForms}
 use Rattle.affix_strip.specs.declared.walk.Dictionary.{Dictionary}
+use Rattle.affix_strip.specs.declared.walk.Tables.{Tables}
 
 -- the set has each flag that a suffix rule carries
 pub record HasCarried (rules : List Rule) (set : List Flag) : Type 0 where
@@ -56,17 +57,21 @@ IsBarring lexicon Nowhere = OfForbidden lexicon (λ entry. ⊥)
 IsBarring lexicon AtEntries = OfForbidden lexicon (AllowsNone lexicon.affixes.rules)
 IsBarring lexicon AtForms = Unit {0}
 
+-- these are the tables of the dictionary
+pub record AreTablesOf (lexicon : Lexicon) (tables : Tables) : Type 0 where
+  pub rules : IsTableOf lexicon.affixes.rules tables.rules
+  pub entries : HasEntries lexicon.entries tables.by_word
+  pub seconds : AreSeconds lexicon.affixes.rules tables.seconds.items
+  pub has_seconds : tables.has_seconds ≡ list_any (λ may. may) tables.seconds.items
+  pub barring : IsBarring lexicon tables.barring
+
 -- the tables are those of the dictionary
-pub record IsReady (dictionary : Dictionary) : Type 0 where
-  pub rules : IsTableOf dictionary.lexicon.affixes.rules dictionary.rules
-  pub entries : HasEntries dictionary.lexicon.entries dictionary.by_word
-  pub seconds : AreSeconds dictionary.lexicon.affixes.rules dictionary.seconds.items
-  pub has_seconds : dictionary.has_seconds ≡ list_any (λ may. may) dictionary.seconds.items
-  pub barring : IsBarring dictionary.lexicon dictionary.barring
+abbrev pub IsReady : Dictionary → Type 0
+IsReady dictionary = AreTablesOf dictionary.lexicon dictionary.tables
 
 -- whether the rule with a place may be a second suffix
 abbrev pub may_be_outer : Dictionary → ℕ → Bool
-may_be_outer dictionary place = option_map_or (λ may. may) (slice_get dictionary.seconds.items place) false
+may_be_outer dictionary place = option_map_or (λ may. may) (slice_get dictionary.tables.seconds.items place) false
 
 -- whether the rule with a place may be a second suffix that is attached to this
 abbrev pub may_undo_outer : Dictionary → List ℕ → ℕ → Bool

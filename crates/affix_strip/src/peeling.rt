@@ -62,15 +62,23 @@ impl<'a> Peeled<'a> {
         (self.front, self.back)
     }
 
-    /// The same as one text.
-    pub(crate) fn joined(&self, alloc: Global) -> Result<Vec<char>, NoMemory>
-        ensures { IfOk result (λ text. text.items ≡ self.now.0) }
+    /// The same as one text. It is put together in `joined` where neither part is empty.
+    pub(crate) fn text<'b>(&self, joined: &'b mut Vec<char>) -> Result<&'b [char], NoMemory>
+    where
+        'a: 'b,
+        ensures { IfOk result (λ text. text.now ≡ self.now.0) }
     {
         let front = self.front.text;
-        let mut text = Vec::with_capacity(alloc, front.len() + self.back.len())?;
-        text.extend_from_slice(front)?;
-        text.extend_from_slice(self.back)?;
-        Ok(text)
+        if front.is_empty() {
+            return Ok(self.back);
+        }
+        if self.back.is_empty() {
+            return Ok(front);
+        }
+        joined.clear();
+        joined.extend_from_slice(front)?;
+        joined.extend_from_slice(self.back)?;
+        Ok(joined.as_slice())
     }
 
     /// The places of the rules.

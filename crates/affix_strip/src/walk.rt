@@ -10,7 +10,7 @@ ghost use Rattle.affix_strip.specs.Found.{derivations_of};
 ghost use Rattle.affix_strip.specs.Hashes.{IsHashed};
 ghost use Rattle.affix_strip.specs.Parts.{stem_of, with_first, with_suffixes, Any, Outside, Passes, AtSome, Shows, From, FromAll, RuleFrom, Peels};
 ghost use Rattle.affix_strip.specs.Peeling.{may_undo, may_undo_at, fits_on};
-ghost use Rattle.affix_strip.specs.Tables.{IsReady, may_be_outer, may_undo_outer};
+ghost use Rattle.affix_strip.specs.Tables.{AreTablesOf, IsReady, may_be_outer, may_undo_outer};
 
 use crate::barring::{Barring, barring_of};
 use crate::entry_table::EntryTable;
@@ -28,6 +28,12 @@ use std::alloc::Global;
 #[derive(Drop)]
 pub(crate) struct Dictionary {
     pub(crate) lexicon: Lexicon,
+    tables: Tables,
+}
+
+/// What is found out once of a dictionary.
+#[derive(Drop)]
+struct Tables {
     /// The rules by what they add.
     rules: AffixTables,
     /// The entries by their words.
@@ -39,6 +45,28 @@ pub(crate) struct Dictionary {
     barring: Barring,
 }
 
+impl Tables {
+    /// The tables of a dictionary.
+    fn new(alloc: Global, lexicon: &Lexicon) -> Result<Tables, NoMemory>
+        requires rules { length lexicon.now.affixes.rules < 2 ^ 32 }
+        requires entries { length lexicon.now.entries < 2 ^ 32 }
+        ensures { IfOk result (AreTablesOf lexicon.now) }
+    {
+        let seconds = second_suffixes(alloc, &lexicon.affixes.rules)?;
+        let has_seconds = one_may(seconds.as_slice());
+        let barring = barring_of(alloc, lexicon)?;
+        let by_word = EntryTable::new(alloc, &lexicon.entries)?;
+        let rules = AffixTables::new(alloc, &lexicon.affixes.rules)?;
+        Ok(Tables {
+            rules,
+            by_word,
+            seconds,
+            has_seconds,
+            barring,
+        })
+    }
+}
+
 impl Dictionary {
     /// The dictionary with its tables.
     pub(crate) fn new(alloc: Global, lexicon: Lexicon) -> Result<Dictionary, NoMemory>
@@ -47,19 +75,8 @@ impl Dictionary {
         ensures lexicon { IfOk result (λ made. made.lexicon ≡ lexicon) }
         ensures ready { IfOk result (λ made. IsReady made) }
     {
-        let rules = AffixTables::new(alloc, &lexicon.affixes.rules)?;
-        let by_word = EntryTable::new(alloc, &lexicon.entries)?;
-        let seconds = second_suffixes(alloc, &lexicon.affixes.rules)?;
-        let has_seconds = one_may(seconds.as_slice());
-        let barring = barring_of(alloc, &lexicon)?;
-        Ok(Dictionary {
-            lexicon,
-            rules,
-            by_word,
-            seconds,
-            has_seconds,
-            barring,
-        })
+        let tables = Tables::new(alloc, &lexicon)?;
+        Ok(Dictionary { lexicon, tables })
     }
 
     /// Whether one of the derivations of a word passes a test. The walk ends at the first that does.
@@ -87,7 +104,7 @@ impl Dictionary {
         let test = Forbidden {
             lexicon: &self.lexicon,
         };
-        match self.barring {
+        match self.tables.barring {
             Barring::Nowhere => Ok(false),
             Barring::AtEntries => {
                 let mut question = Question { test };
@@ -113,7 +130,7 @@ impl Dictionary {
         if self.visit_behind(alloc, &[None], word, visitor)? {
             return Ok(true);
         }
-        let fronts = peel(alloc, &self.rules, Side::Prefix, word)?;
+        let fronts = peel(alloc, &self.tables.rules, Side::Prefix, word)?;
         self.visit_fronts(alloc, fronts.as_slice(), visitor)
     }
 
@@ -149,9 +166,10 @@ impl Dictionary {
             (Peels self.now.lexicon Side.Prefix (λ d. d.prefix) Any (with_suffixes self.now.lexicon) front.now)
             (V.sees visitor.old) (V.sees visitor.new)) }
     {
-        let rest = front.joined(alloc)?;
-        let prefixes = self.undoable(alloc, Side::Prefix, rest.as_slice(), front.places())?;
-        self.visit_behind(alloc, prefixes.as_slice(), rest.as_slice(), visitor)
+        let mut joined = Vec::new(alloc);
+        let rest = front.text(&mut joined)?;
+        let prefixes = self.undoable(alloc, Side::Prefix, rest, front.places())?;
+        self.visit_behind(alloc, prefixes.as_slice(), rest, visitor)
     }
 
     /// Shows the derivations with one of these prefixes, or with none if that is among them, that have this word behind it.
@@ -173,7 +191,7 @@ impl Dictionary {
         if self.visit_bare(alloc, prefixes, rest, visitor)? {
             return Ok(true);
         }
-        let endings = peel(alloc, &self.rules, Side::Suffix, rest)?;
+        let endings = peel(alloc, &self.tables.rules, Side::Suffix, rest)?;
         let endings = endings.as_slice();
         if self.visit_firsts(alloc, prefixes, &[None], endings, visitor)? {
             return Ok(true);
@@ -195,7 +213,7 @@ impl Dictionary {
             (λ d. Contains prefixes.now d.prefix) (with_first self.now.lexicon)) endings.now)
             (V.sees visitor.old) (V.sees visitor.new)) }
     {
-        if !self.has_seconds {
+        if !self.tables.has_seconds {
             return Ok(false);
         }
         for ending in endings {
@@ -223,15 +241,10 @@ impl Dictionary {
         if !self.one_may_be_outer(ending.places()) {
             return Ok(false);
         }
-        let inner = ending.joined(alloc)?;
-        let seconds = self.undoable_outer(alloc, inner.as_slice(), ending.places())?;
-        self.visit_inside(
-            alloc,
-            prefixes,
-            seconds.as_slice(),
-            inner.as_slice(),
-            visitor,
-        )
+        let mut joined = Vec::new(alloc);
+        let inner = ending.text(&mut joined)?;
+        let seconds = self.undoable_outer(alloc, inner, ending.places())?;
+        self.visit_inside(alloc, prefixes, seconds.as_slice(), inner, visitor)
     }
 
     /// Shows the derivations with one of these prefixes and one of these second suffixes that have this word inside of them.
@@ -252,7 +265,7 @@ impl Dictionary {
         if seconds.is_empty() {
             return Ok(false);
         }
-        let endings = peel(alloc, &self.rules, Side::Suffix, inner)?;
+        let endings = peel(alloc, &self.tables.rules, Side::Suffix, inner)?;
         self.visit_firsts(alloc, prefixes, seconds, endings.as_slice(), visitor)
     }
 
@@ -327,15 +340,9 @@ impl Dictionary {
         if entries.is_empty() {
             return Ok(false);
         }
-        let stem = ending.joined(alloc)?;
-        self.visit_rules(
-            prefixes,
-            ending.places(),
-            seconds,
-            stem.as_slice(),
-            entries,
-            visitor,
-        )
+        let mut joined = Vec::new(alloc);
+        let stem = ending.text(&mut joined)?;
+        self.visit_rules(prefixes, ending.places(), seconds, stem, entries, visitor)
     }
 
     /// Shows the derivations with one of these prefixes, one of these second suffixes, and as first suffix one of these rules
@@ -445,7 +452,7 @@ impl Dictionary {
     fn may_be_outer(&self, place: u32) -> bool
         ensures { result ≡ may_be_outer self.now place }
     {
-        match self.seconds.get(place as usize) {
+        match self.tables.seconds.get(place as usize) {
             None => false,
             Some(may) => *may,
         }
@@ -473,7 +480,8 @@ impl Dictionary {
         requires front { IsHashed front }
         ensures { IfOk result (λ places. AreEntriesOf self.now.lexicon.entries (front.entry.text.now ++ back.now) places.items) }
     {
-        self.by_word
+        self.tables
+            .by_word
             .places_of(alloc, &self.lexicon.entries, front, back)
     }
 }

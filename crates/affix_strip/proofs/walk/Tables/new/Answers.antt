@@ -1,9 +1,9 @@
 -- Each table is made of the rules or the entries.
 use Rattle.std.proofs.Common.{rules}
-use Rattle.affix_strip.proofs.walk.Dictionary.new.Goals as goal
+use Rattle.affix_strip.proofs.walk.Tables.new.Goals as goal
 
-pub returns-clause-ready : goal.returns-clause-ready
-returns-clause-ready c = record {
+pub returns : goal.returns
+returns c = record {
   rules = search rules;
   entries = search rules;
   seconds = search rules;
