@@ -6,6 +6,8 @@ ghost use Rattle.std.specs.String.{string_bytes};
 ghost use Rattle.spell_types.specs.Sanity.{AreSaneAffixes, AreSaneEntries};
 ghost use Rattle.affedit.specs.Due.{Found, file_due, affixes_step, entries_step, document_due, check_due, names_in, found_in};
 ghost use Rattle.affedit.specs.Given.{printed_by, names_by};
+ghost use Rattle.affedit.specs.Reports.{report_of, paragraphs_of};
+ghost use Rattle.text_lines.specs.Lines.{good_lines};
 ghost use Rattle.affedit.specs.Stops.{Gives};
 
 use crate::report::{Report, make_report};
@@ -135,9 +137,27 @@ fn check_document(
     if let Some(line) = bad_line(document) {
         return Err(Stop::Document { line });
     }
-    let speller = Speller::build(alloc, affixes, entries)?;
-    match make_report(alloc, &speller, document) {
+    match report_by(alloc, affixes, entries, document) {
         Ok(report) => Ok(report),
         Err(NoMemory) => Err(Stop::NoMemory),
     }
+}
+
+/// The report on the lines of the document that are text.
+fn report_by(
+    alloc: Global,
+    affixes: Affixes,
+    entries: Entries,
+    document: &[u8],
+) -> Result<Report, NoMemory>
+    requires small { length document.now < 2 ^ 32 }
+    requires affixes { AreSaneAffixes affixes }
+    requires entries { AreSaneEntries entries }
+    ensures text { IfOk result (λ report. string_bytes report.text
+        ≡ (report_of (record { affixes = affixes; entries = entries }) (paragraphs_of document.now (good_lines document.now))).text) }
+    ensures marks { IfOk result (λ report. report.marks
+        ≡ (report_of (record { affixes = affixes; entries = entries }) (paragraphs_of document.now (good_lines document.now))).marks) }
+{
+    let speller = Speller::build(alloc, affixes, entries)?;
+    make_report(alloc, &speller, document)
 }
