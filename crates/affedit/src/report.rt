@@ -5,12 +5,12 @@ ghost use Rattle.std.specs.List.{flat_map};
 ghost use Rattle.std.specs.Str.{chars};
 ghost use Rattle.std.specs.String.{string_bytes};
 ghost use Rattle.mark_types.specs.Marks.{located_words, marks_of};
-ghost use Rattle.mark_types.specs.Words.{byte_count, words_of};
+ghost use Rattle.mark_types.specs.Words.{words_of};
 ghost use Rattle.text_lines.specs.Lines.{good_lines};
 ghost use Rattle.affedit.specs.Reports.{line_of, mark_line, word_line, is_marked, count_line, report_of, paragraph_lines, paragraphs_of};
 ghost use Rattle.affedit.specs.Runs.{found_word};
 
-use crate::cutter::{Found, Rest, next_word, refill};
+use crate::cutter::{Found, Rest, next_word};
 use lists::NoMemory;
 use mark_types::{Judge, marks_are_local, words_stand_in_their_text};
 use std::alloc::{AllocError, Global};
@@ -54,26 +54,26 @@ fn report_of_paragraphs<J: Judge>(
         marks: 0,
         words: 0,
     };
-    let mut characters = Vec::new(alloc);
+    let mut word = Vec::new(alloc);
     let mut ahead = all_lines(document);
     while let Some((line, next)) = next_line(document, ahead) {
         let text = line_text(document, &line);
-        report.add_paragraph(alloc, judge, line.number, text, &mut characters)?;
+        report.add_paragraph(alloc, judge, line.number, text, &mut word)?;
         ahead = next;
     }
     Ok(report)
 }
 
 impl Report {
-    /// Adds the lines of one paragraph's marks, and counts its words. Its characters are put where those of the
-    /// paragraph before stood.
+    /// Adds the lines of one paragraph's marks, and counts its words. The characters of each word are put where those of
+    /// the word before stood.
     fn add_paragraph<J: Judge>(
         &mut self,
         alloc: Global,
         judge: &J,
         number: u64,
         text: &str,
-        characters: &mut Vec<char>,
+        word: &mut Vec<char>,
     ) -> Result<(), NoMemory>
         requires small { length text.now < 2 ^ 32 }
         requires room { self.old.words + 2 ^ 32 ≤ 2 ^ 64 }
@@ -84,70 +84,55 @@ impl Report {
         ensures grown { OnOk result (self.new.words ≤ self.old.words + length text.now) }
         ensures fewer { OnOk result (self.new.marks ≤ self.new.words) }
     {
-        refill(characters, text)?;
-        self.add_words(alloc, judge, number, characters)
-    }
-
-    /// Adds the lines of the words that are to be marked, and counts all words.
-    fn add_words<J: Judge>(
-        &mut self,
-        alloc: Global,
-        judge: &J,
-        number: u64,
-        paragraph: &[char],
-    ) -> Result<(), NoMemory>
-        requires small { byte_count paragraph.now < 2 ^ 32 }
-        requires room { self.old.words + 2 ^ 32 ≤ 2 ^ 64 }
-        requires fewer { self.old.marks ≤ self.old.words }
-        ensures text { OnOk result (string_bytes self.new.text ≡ string_bytes self.old.text ++ paragraph_lines (J.lexicon judge.now) number paragraph.now) }
-        ensures marks { OnOk result (self.new.marks ≡ self.old.marks + length (marks_of (J.lexicon judge.now) (paragraph.now ∷ []))) }
-        ensures words { OnOk result (self.new.words ≡ self.old.words + length (words_of (J.lexicon judge.now).affixes.wordchars paragraph.now)) }
-        ensures grown { OnOk result (self.new.words ≤ self.old.words + byte_count paragraph.now) }
-        ensures fewer { OnOk result (self.new.marks ≤ self.new.words) }
-    {
         marks_are_local();
         words_stand_in_their_text();
         let wordchars = judge.wordchars();
-        let mut rest = Rest::of(paragraph);
-        while let Some(found) = next_word(wordchars, rest) {
-            self.add_word(alloc, judge, number, &found)?;
+        let mut rest = Rest::of(text);
+        while let Some(found) = next_word(wordchars, rest, word)? {
+            self.add_word(alloc, judge, number, &found, word)?;
             rest = found.rest;
         }
         Ok(())
     }
 
-    /// Adds the line of a word if it is to be marked, and counts it.
+    /// Adds the line of a word with these characters if it is to be marked, and counts it.
     fn add_word<J: Judge>(
         &mut self,
         alloc: Global,
         judge: &J,
         number: u64,
         found: &Found<'_>,
+        word: &[char],
     ) -> Result<(), NoMemory>
         requires room { self.old.words + 1 < 2 ^ 64 }
         requires fewer { self.old.marks ≤ self.old.words }
-        ensures text { OnOk result (string_bytes self.new.text ≡ string_bytes self.old.text ++ word_line (J.lexicon judge.now) number (found_word found.now)) }
-        ensures marks { OnOk result (self.new.marks ≡ self.old.marks + length (filter (is_marked (J.lexicon judge.now)) (found_word found.now ∷ []))) }
+        ensures text { OnOk result (string_bytes self.new.text ≡ string_bytes self.old.text ++ word_line (J.lexicon judge.now) number (found_word word.now found.now)) }
+        ensures marks { OnOk result (self.new.marks ≡ self.old.marks + length (filter (is_marked (J.lexicon judge.now)) (found_word word.now found.now ∷ []))) }
         ensures words { OnOk result (self.new.words ≡ self.old.words + 1) }
         ensures fewer { OnOk result (self.new.marks ≤ self.new.words) }
     {
         self.words += 1;
-        if !judge.verdict(alloc, found.word)? {
+        if !judge.verdict(alloc, word)? {
             self.marks += 1;
-            push_mark_line(&mut self.text, number, found)?;
+            push_mark_line(&mut self.text, number, found, word)?;
         }
         Ok(())
     }
 }
 
-fn push_mark_line(text: &mut String, number: u64, found: &Found<'_>) -> Result<(), AllocError>
+fn push_mark_line(
+    text: &mut String,
+    number: u64,
+    found: &Found<'_>,
+    word: &[char],
+) -> Result<(), AllocError>
     ensures { OnOk result (string_bytes text.new
-        ≡ string_bytes text.old ++ mark_line number found.now.from found.now.rest.at (encode_utf8_all found.now.word.now)) }
+        ≡ string_bytes text.old ++ mark_line number found.now.from found.now.to (encode_utf8_all word.now)) }
 {
     let from = found.from;
-    let to = found.rest.at;
+    let to = found.to;
     write!(text, "{number} {from} {to} ")?;
-    push_characters(text, found.word)?;
+    push_characters(text, word)?;
     text.push('\n')
 }
 

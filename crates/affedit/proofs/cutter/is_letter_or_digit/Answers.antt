@@ -1,5 +1,5 @@
 -- An ASCII character is a letter if ASCII has it as one.
-use Rattle.std.proofs.Common.{◌<◌, ◌||◌, ◌∙◌, sym, ap}
+use Rattle.std.proofs.Common.{◌||◌, ◌∙◌, sym, ap}
 use Rattle.std.proofs.lemmas.Bool.{ltb-true}
 use Rattle.std.specs.Char.{is_ascii_digit}
 use Rattle.affedit.proofs.CharacterLemmas.{letter-ascii, alphanumeric-parts}

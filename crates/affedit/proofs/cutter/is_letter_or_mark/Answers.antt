@@ -1,5 +1,5 @@
 -- An ASCII character is a letter if ASCII has it as one, and no combining mark.
-use Rattle.std.proofs.Common.{◌<◌, ◌∙◌, sym}
+use Rattle.std.proofs.Common.{◌∙◌, sym}
 use Rattle.std.proofs.lemmas.Bool.{ltb-true}
 use Rattle.affedit.proofs.CharacterLemmas.{letter-or-mark-ascii}
 use Rattle.affedit.proofs.cutter.is_letter_or_mark.Goals as goal

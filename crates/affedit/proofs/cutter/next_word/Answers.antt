@@ -1,51 +1,68 @@
 -- Each character goes on with the run, ends it, or lies outside; and at the end the run ends.
-use Rattle.std.proofs.Common.{◌≡◌, ◌+◌, ◌∙◌, length, Some, sym, ap, subst, arith}
-use Rattle.mark_types.specs.Words.{belongs}
-use Rattle.affedit.proofs.CutLemmas.{Walks, IsHere, first-behind, walk-moved, walk-begins, walk-on, walk-over, walk-found, walk-ends, walk-leaves-less}
+use Rattle.std.proofs.Common.{◌≡◌, ◌+◌, ◌∙◌, ◌||◌, refl, rules, sym, ap, subst, arith}
+use Rattle.mark_types.specs.Characters.{is_letter_or_digit}
+use Rattle.affedit.proofs.CutLemmas.{Walks, IsFirst, walk-begins, walk-on, walk-over, walk-found, walk-ends, walk-stops, walk-leaves-less}
 use Rattle.affedit.proofs.cutter.next_word.Goals as goal
-use Rattle.affedit.proofs.cutter.next_word.Goals.{then-belongs, else-belongs+else-is_some}
 
-pub loop-place-init : goal.loop-place-init
-loop-place-init c = walk-begins c.args.wordchars.now c.args.rest
+pub loop-c-init : goal.loop-c-init
+loop-c-init c = (search rules, walk-begins c.args.wordchars.now c.args.rest c.clear.new.self.items c.clear.ensures.items)
 
-pub returns-then-is_some-clause-words : goal.returns-then-is_some-clause-words
-returns-then-is_some-clause-words c =
-    let l = c.loop-place in
-    walk-found c.args.wordchars.now c.args.rest l.place l.at l.before c.index-text-place.result l.run c.found_at-found.result l.invariant
-    (record { within = c.loop-place-test.true; here = sym c.index-text-place.is })
-    (sym (c.belongs.ensures ∙ ap (belongs c.args.wordchars.now l.before c.index-text-place.result) (c.first_of.ensures ∙ first-behind c.args.rest.text.now l.place)) ∙ c.if-belongs.false)
-    c.found_at-found.ensures.word (sym c.is_some.ensures ∙ c.if-is_some.true) c.found_at-found.ensures.rest
+pub loop-c-preserved-then-is_word : goal.loop-c-preserved-then-is_word
+loop-c-preserved-then-is_word c =
+    let l = c.loop-c in
+    let first : IsFirst l.text.now c.in-Some.c c.in-Some.behind.now = record { characters = c.in-Some.ensures.some.0; size = c.in-Some.ensures.some.1 } in
+    let still : l.is_word ≡ (l.is_word || is_letter_or_digit c.in-Some.c) = rw (c.if-is_word.true) refl in (
+      search rules,
+      subst (λ width. Walks c.args.wordchars.now c.args.rest c.in-Some.behind.now (l.at + width) c.in-Some.c l.from l.is_word c.push.new.self.items) (sym c.len_utf8.ensures.value)
+          (walk-on c.args.wordchars.now c.args.rest l.text.now c.in-Some.behind.now l.at l.before l.from c.in-Some.c l.is_word l.is_word l.word.items c.push.new.self.items
+          l.invariant.1 first (sym c.belongs-inside.ensures ∙ c.if-inside.true) still c.in_ok-push.ensures.items),
+    )
 
-pub returns-then-is_some-clause-less : goal.returns-then-is_some-clause-less
-returns-then-is_some-clause-less c =
-    let l = c.loop-place in
-    walk-leaves-less c.args.wordchars.now c.args.rest l.place l.at l.before l.run c.found_at-found.result l.invariant c.found_at-found.ensures.word c.found_at-found.ensures.rest
+pub loop-c-preserved-else-is_word : goal.loop-c-preserved-else-is_word
+loop-c-preserved-else-is_word c =
+    let l = c.loop-c in
+    let first : IsFirst l.text.now c.in-Some.c c.in-Some.behind.now = record { characters = c.in-Some.ensures.some.0; size = c.in-Some.ensures.some.1 } in
+    let now : c.is_letter_or_digit-is_word.result ≡ (l.is_word || is_letter_or_digit c.in-Some.c) =
+    c.is_letter_or_digit-is_word.ensures ∙ sym (ap (λ b. b || is_letter_or_digit c.in-Some.c) c.if-is_word.false) in (
+      search rules,
+      subst (λ width. Walks c.args.wordchars.now c.args.rest c.in-Some.behind.now (l.at + width) c.in-Some.c l.from c.is_letter_or_digit-is_word.result c.push.new.self.items)
+          (sym c.len_utf8.ensures.value)
+          (walk-on c.args.wordchars.now c.args.rest l.text.now c.in-Some.behind.now l.at l.before l.from c.in-Some.c l.is_word c.is_letter_or_digit-is_word.result l.word.items
+          c.push.new.self.items l.invariant.1 first (sym c.belongs-inside.ensures ∙ c.if-inside.true) now c.in_ok-push.ensures.items),
+    )
 
-pub loop-place-preserved : goal.loop-place-preserved
-loop-place-preserved c =
-    let l = c.loop-place in
-    let here : IsHere c.args.rest l.place c.index-text-place.result = record { within = c.loop-place-test.true; here = sym c.index-text-place.is } in
-    let belongs_is = sym (c.belongs.ensures ∙ ap (belongs c.args.wordchars.now l.before c.index-text-place.result) (c.first_of.ensures ∙ first-behind c.args.rest.text.now l.place)) in
-    subst (λ size. Walks c.args.wordchars.now c.args.rest (l.place + 1) (l.at + size) c.index-text-place.result c.if-belongs.run) (sym c.len_utf8.ensures.value)
-    (elim c.if-belongs.branch [
-      | then-belongs w ↦ walk-on c.args.wordchars.now c.args.rest l.place l.at l.before c.index-text-place.result l.run c.if-belongs.run l.invariant here
-          (belongs_is ∙ w.if-belongs.true) (w.run-is ∙ ap Some w.extended.ensures)
-      | else-belongs+else-is_some w ↦ walk-over c.args.wordchars.now c.args.rest l.place l.at l.before c.index-text-place.result l.run c.if-belongs.run w.found_at-found.result l.invariant here
-          (belongs_is ∙ w.if-belongs.false) w.found_at-found.ensures.word (sym w.is_some.ensures ∙ w.if-is_some.false) w.run-is
-    ])
+pub loop-c-preserved : goal.loop-c-preserved
+loop-c-preserved c =
+    let l = c.loop-c in
+    let first : IsFirst l.text.now c.in-Some.c c.in-Some.behind.now = record { characters = c.in-Some.ensures.some.0; size = c.in-Some.ensures.some.1 } in (
+      search rules,
+      subst (λ width. Walks c.args.wordchars.now c.args.rest c.in-Some.behind.now (l.at + width) c.in-Some.c (l.at + width) l.is_word c.clear-else-is_word-2.new.self.items)
+          (sym c.len_utf8.ensures.value)
+          (walk-over c.args.wordchars.now c.args.rest l.text.now c.in-Some.behind.now l.at l.before l.from c.in-Some.c l.is_word l.word.items c.clear-else-is_word-2.new.self.items
+          l.invariant.1 first (sym c.belongs-inside.ensures ∙ c.if-inside.false) c.if-is_word-2.false c.clear-else-is_word-2.ensures.items),
+    )
+
+pub returns-then-is_word-2-clause-words : goal.returns-then-is_word-2-clause-words
+returns-then-is_word-2-clause-words c =
+    let l = c.loop-c in
+    let first : IsFirst l.text.now c.in-Some.c c.in-Some.behind.now = record { characters = c.in-Some.ensures.some.0; size = c.in-Some.ensures.some.1 } in
+    walk-found c.args.wordchars.now c.args.rest l.text.now c.in-Some.behind.now l.at l.before l.from c.in-Some.c l.is_word l.word.items _ l.invariant.1 first
+    (sym c.belongs-inside.ensures ∙ c.if-inside.false) c.if-is_word-2.true
+    (record { from_is = refl; to_is = refl; text_is = refl; at_is = ap (λ width. l.at + width) c.len_utf8.ensures.value; before_is = refl })
+
+pub returns-then-not-is_word-clause-words : goal.returns-then-not-is_word-clause-words
+returns-then-not-is_word-clause-words c =
+    let l = c.loop-c in
+    walk-stops c.args.wordchars.now c.args.rest l.text.now l.at l.before l.from l.is_word l.word.items l.invariant.1 c.in_default.ensures.none.0 c.if-not-is_word.true
 
 pub returns-clause-words : goal.returns-clause-words
 returns-clause-words c =
-    let l = c.loop-place in
-    let text = c.args.rest.text.now in
-    let end : l.place ≡ length text = omega (arith, c.loop-place-test.false, l.auto.place-end) in
-    walk-ends c.args.wordchars.now c.args.rest (length text) l.at l.before l.run c.found_at.result
-    (walk-moved c.args.wordchars.now c.args.rest l.place (length text) l.at l.before l.run end l.invariant) (omega arith) c.found_at.ensures.word c.found_at.ensures.rest
+    let l = c.loop-c in
+    walk-ends c.args.wordchars.now c.args.rest l.text.now l.at l.before l.from l.is_word l.word.items _ l.invariant.1 c.in_default.ensures.none.0 c.if-not-is_word.false
+    (record { from_is = refl; to_is = refl; text_is = refl; at_is = refl; before_is = refl })
 
 pub returns-clause-less : goal.returns-clause-less
 returns-clause-less c =
-    let l = c.loop-place in
-    let text = c.args.rest.text.now in
-    let end : l.place ≡ length text = omega (arith, c.loop-place-test.false, l.auto.place-end) in
-    walk-leaves-less c.args.wordchars.now c.args.rest (length text) l.at l.before l.run c.found_at.result
-    (walk-moved c.args.wordchars.now c.args.rest l.place (length text) l.at l.before l.run end l.invariant) c.found_at.ensures.word c.found_at.ensures.rest
+    let l = c.loop-c in
+    walk-leaves-less c.args.wordchars.now c.args.rest l.text.now l.text.now l.at l.before l.from l.at l.before l.is_word l.word.items _ l.invariant.1 c.if-not-is_word.false
+    (record { from_is = refl; to_is = refl; text_is = refl; at_is = refl; before_is = refl }) (omega arith) refl
