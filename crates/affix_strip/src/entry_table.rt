@@ -13,8 +13,12 @@ use crate::hashed::{Hashed, START, fold};
 use indexmap::IndexMap;
 use key_filter::KeyFilter;
 use lists::NoMemory;
+use smallvec::SmallVec;
 use spell_types::Entry;
 use std::alloc::Global;
+
+/// Places of entries. Most words have one or two.
+pub(crate) type Places = SmallVec<u32, 4>;
 
 /// The entries of a dictionary by a hash of their words. They are not kept: each call is given those that the table was
 /// made of. An entry is named by its place among them, from 0.
@@ -67,12 +71,12 @@ impl EntryTable {
         entries: &[Entry],
         front: Hashed<'_>,
         back: &[char],
-    ) -> Result<Vec<u32>, NoMemory>
+    ) -> Result<Places, NoMemory>
         requires entries { HasEntries entries.now self.now }
         requires front { IsHashed front }
         ensures { IfOk result (λ places. AreEntriesOf entries.now (front.entry.text.now ++ back.now) places.items) }
     {
-        let mut places = Vec::new(alloc);
+        let mut places = SmallVec::new(alloc);
         let hash = fold(front.hash, back);
         let mut next = self.last_of(entries, hash, front.text, back);
         while let Some(place) = next {

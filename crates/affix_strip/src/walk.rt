@@ -13,7 +13,7 @@ ghost use Rattle.affix_strip.specs.Peeling.{may_undo, may_undo_at, fits_on};
 ghost use Rattle.affix_strip.specs.Tables.{AreTablesOf, IsReady, may_be_outer, may_undo_outer};
 
 use crate::barring::{Barring, barring_of};
-use crate::entry_table::EntryTable;
+use crate::entry_table::{EntryTable, Places};
 use crate::hashed::Hashed;
 use crate::peeling::{Peeled, peel};
 use crate::rule_flags::second_suffixes;
@@ -475,7 +475,7 @@ impl Dictionary {
         alloc: Global,
         front: Hashed<'_>,
         back: &[char],
-    ) -> Result<Vec<u32>, NoMemory>
+    ) -> Result<Places, NoMemory>
         requires ready { IsReady self.now }
         requires front { IsHashed front }
         ensures { IfOk result (λ places. AreEntriesOf self.now.lexicon.entries (front.entry.text.now ++ back.now) places.items) }

@@ -33,7 +33,7 @@ pub loop-next-preserved : goal.loop-next-preserved
 loop-next-preserved c =
     places-more c.args.entries.now (c.args.front.text.now ++ c.args.back.now) c.in-Some.place c.before-next.result c.loop-next.places.items c.push.new.self.items
     (subst (λ next. PlacesBehind c.args.entries.now (c.args.front.text.now ++ c.args.back.now) next c.loop-next.places.items) c.in-Some.is c.loop-next.invariant)
-    c.in_ok-push.ensures.items c.before-next.ensures
+    c.in_ok-push.ensures.ok c.before-next.ensures
 
 pub returns : goal.returns
 returns c =

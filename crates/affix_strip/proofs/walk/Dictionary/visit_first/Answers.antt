@@ -9,12 +9,12 @@ use Rattle.affix_strip.proofs.walk.Dictionary.visit_first.Goals as goal
 pub returns-then-is_empty : goal.returns-then-is_empty
 returns-then-is_empty g c =
     shows-none (no-rules c.args.self.now.lexicon c.args.prefixes.now c.args.seconds.now c.args.ending.now c.as_slice-entries.result.now
-    (subst (λ word. AreEntriesOf c.args.self.now.lexicon.entries word c.as_slice-entries.result.now) c.parts.ensures.parts (are-same c.as_slice-entries.ensures.value c.in_ok-entries.ensures))
+    (subst (λ word. AreEntriesOf c.args.self.now.lexicon.entries word c.as_slice-entries.result.now) c.parts.ensures.parts (are-same c.as_slice-entries.ensures c.in_ok-entries.ensures))
     (search rules))
 
 pub returns : goal.returns
 returns g c =
     answer-same _ _ c.visit_rules.result
     (rules-peels c.args.self.now.lexicon c.args.prefixes.now c.args.seconds.now c.args.ending.now c.in_ok-stem.stem.now c.places.result.now c.as_slice-entries.result.now (search rules) c.places.ensures
-    (subst (λ word. AreEntriesOf c.args.self.now.lexicon.entries word c.as_slice-entries.result.now) c.parts.ensures.parts (are-same c.as_slice-entries.ensures.value c.in_ok-entries.ensures)))
+    (subst (λ word. AreEntriesOf c.args.self.now.lexicon.entries word c.as_slice-entries.result.now) c.parts.ensures.parts (are-same c.as_slice-entries.ensures c.in_ok-entries.ensures)))
     c.visit_rules.ensures
