@@ -1,13 +1,16 @@
 //! Whole runs over objects in memory.
 
+mod break_tables;
 mod case_tables;
 mod derivations;
 mod flag_tables;
 mod licence_tables;
 mod readers;
+mod real_files;
 mod refusals;
 mod rule_tables;
 mod spellings;
+mod strip_tables;
 mod tables;
 mod word_tables;
 mod words;
@@ -114,7 +117,7 @@ fn assert_checked<R: Threads + Wait + Sync + Abort>(
 #[test]
 fn reads_bytes_of_any_kind(rt: HostRuntime) -> Result<(), Fail> {
     let alloc = rt.alloc();
-    let texts: [(&[u8], &str, u8); 3] = [
+    let texts: [(&[u8], &str, u8); 4] = [
         (b"hello 2nd\n", "0 of 2\n", 0),
         (
             b"\xef\xbb\xbfhello\r\n\r\nwrld\r\n",
@@ -122,17 +125,28 @@ fn reads_bytes_of_any_kind(rt: HostRuntime) -> Result<(), Fail> {
             1,
         ),
         (b"\n\nhello\rwrld", "3 6 10 wrld\n1 of 2\n", 1),
+        (
+            b"\xef\xbb\xbf\xef\xbb\xbfwrld\n\xef\xbb\xbfwrld\r\r\nwrld\r",
+            "1 3 7 wrld\n2 3 7 wrld\n3 0 4 wrld\n3 of 3\n",
+            1,
+        ),
     ];
     for (text, want, status) in texts {
         assert_checked(&rt, alloc, AFF, DIC, text, want.as_bytes(), status)?;
     }
-    let refused: [(&[u8], &[u8], &str); 6] = [
+    let refused: [(&[u8], &[u8], &str); 11] = [
         (b"# x\n\xff\nSFX A Y 0\n", DIC, "aff 2 NotUtf8\n"),
         (b"CHECKSHARPS\n\xff\n", DIC, "aff 2 NotUtf8\n"),
         (b"", b"\xef\xbb\xbf", "dic 1 BadCount\n"),
         (b"", b"\xff\n", "dic 1 NotUtf8\n"),
         (b"", b"x\n po:noun\n\xff\n", "dic 3 NotUtf8\n"),
         (b"", b"1\na/\n\xff\n", "dic 3 NotUtf8\n"),
+        // A slash in two bytes, half of a surrogate pair, past the last character, cut short, half of a mark.
+        (b"\xc0\xaf\n", DIC, "aff 1 NotUtf8\n"),
+        (b"#\n\nx\xed\xa0\x80y\n", DIC, "aff 3 NotUtf8\n"),
+        (b"\xf4\x90\x80\x80\n", DIC, "aff 1 NotUtf8\n"),
+        (b"", b"1\r\na\xe2\x82\r\n", "dic 2 NotUtf8\n"),
+        (b"", b"\xef\xbb\n1", "dic 1 NotUtf8\n"),
     ];
     for (aff, dic, want) in refused {
         assert_checked(&rt, alloc, aff, dic, b"", want.as_bytes(), 3)?;

@@ -104,6 +104,12 @@ const LATER_PASSES: &str = "# The second pass.
 2 MissingField: WARN|AF
 1 BadNumber: AF x|AF A|AF
 1 BadNumber: AF -1
+1 BadNumber: AF +1
+1 BadNumber: AF 1a
+1 BadNumber: AF 0x1
+1 BadNumber: AF 1_0
+1 BadNumber: AF \u{663}
+1 BadNumber: AF 18446744073709551616
 1 BadNumber: AF 4294967296
 1 BadNumber: AF 99999999999999999999
 1 TooMany: AF 65001|AF A
@@ -274,7 +280,7 @@ const LEFT_OUT: &str = "1 LeftOut: COMPOUNDFLAG
 fn refuses_aff_files_with_the_first_fault(rt: HostRuntime) -> Result<(), Fail> {
     let tables = [
         (FIRST_PASS, 25),
-        (LATER_PASSES, 37),
+        (LATER_PASSES, 43),
         (OPTIONS, 54),
         (CLASSES, 39),
         (LEFT_OUT, 22),

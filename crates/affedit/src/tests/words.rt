@@ -38,6 +38,7 @@ fn checks_long_words(rt: HostRuntime) -> Result<(), Fail> {
         ("", "\u{e4}", 101, "", 1),
         ("WORDCHARS 0123456789\n", "7", 101, "", 0),
         ("WORDCHARS -\n", "a-", 49, "a", 0),
+        ("WORDCHARS -\n", "a-", 49, "b", 1),
         ("WORDCHARS -\n", "-", 99, "a", 0),
         ("WORDCHARS -\n", "-", 99, "b", 1),
     ];

@@ -1,0 +1,48 @@
+//! What no run over objects in memory shows: the files and the input of the system, and lists as keys.
+
+use lists::Items;
+use outside::{FileFault, Files, RealFiles, Source, StdSource};
+use std::collections::HashMap;
+use std::fs;
+use std::test::Fail;
+
+// The file is longer than one piece.
+#[test]
+fn reads_what_is_there(rt: HostRuntime) -> Result<(), Fail> {
+    let alloc = rt.alloc();
+    let name = "affedit_real_files.txt";
+    let wanted = vec![in alloc; 7u8; 70_000]?;
+    fs::write(&rt, name, &wanted)?;
+    let mut files = RealFiles::new(&rt);
+    let mut into = Vec::new(alloc);
+    for (name, limit, want, len) in [
+        ("affedit_no_such_file.txt", 9, Err(FileFault::Missing), 0),
+        (name, 69_999, Err(FileFault::TooLong), 0),
+        (name, 70_000, Ok(()), 70_000),
+        (name, 0, Err(FileFault::TooLong), 70_000),
+    ] {
+        let loaded = files.load(alloc, name, limit, &mut into);
+        assert_eq!(rt; loaded, want, "{name} at {limit}");
+        assert_eq!(rt; into.len(), len, "{name} at {limit}");
+    }
+    assert!(rt; into.as_slice() == wanted.as_slice());
+    fs::remove_file(&rt, name)?;
+    let mut piece = [0u8; 4];
+    if let Ok(count) = StdSource::new(&rt).read(&mut piece) {
+        assert!(rt; count <= 4);
+    }
+    Ok(())
+}
+
+// A list is a key of maps by its items.
+#[test]
+fn finds_lists_by_their_items(rt: HostRuntime) -> Result<(), Fail> {
+    let alloc = rt.alloc();
+    let mut places = HashMap::new(alloc);
+    for (place, text) in [['a', 'b'], ['b', 'a']].iter().enumerate() {
+        places.insert(Items::from_vec(text.to_vec(alloc)?), place)?;
+    }
+    let key = Items::from_vec(['b', 'a'].to_vec(alloc)?);
+    assert_eq!(rt; places.get(&key).copied(), Some(1));
+    Ok(())
+}
