@@ -14,9 +14,6 @@ ghost use Rattle.key_filter.specs.Filter.{may_have};
 ghost use Rattle.affix_tables.specs.Ends.{char_at, key_with, key_at, HasEnds, HasText, KeepsKeys};
 ghost use Rattle.affix_tables.specs.Tables.{places_at, groups_at, all_places, Puts, ending_places, front_places, IsTable, IsTableOf};
 
-#[cfg(test)]
-mod tests;
-
 use indexmap::IndexMap;
 use indexmap::map::Slice;
 use key_filter::KeyFilter;
