@@ -16,8 +16,6 @@ mod entry_table;
 mod hashed;
 mod peeling;
 mod rule_flags;
-#[cfg(test)]
-mod tests;
 mod visiting;
 mod walk;
 
