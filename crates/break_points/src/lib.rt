@@ -14,8 +14,6 @@ ghost use Rattle.break_points.specs.Pieces.{is_broken_piece, is_broken_by, IsRig
 mod breaks;
 mod marks;
 mod table;
-#[cfg(test)]
-mod tests;
 mod ways;
 
 pub use breaks::Breaks;
