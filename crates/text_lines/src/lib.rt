@@ -18,8 +18,6 @@ use std::alloc::Global;
 
 pub mod found;
 mod owned;
-#[cfg(test)]
-mod tests;
 
 pub use owned::Text;
 
