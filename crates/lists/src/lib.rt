@@ -200,39 +200,3 @@ impl<T: Copied + Drop> Copied for Items<T> {
         Ok(Items::from_vec(copies_of(alloc, self.as_slice())?))
     }
 }
-
-#[cfg(test)]
-mod tests {
-    use super::*;
-    use std::collections::HashMap;
-    use std::test::Fail;
-
-    #[test]
-    fn pushes_copies_and_walks(rt: HostRuntime) -> Result<(), Fail> {
-        let alloc = rt.alloc();
-        let mut word = Items::new(alloc);
-        assert!(rt; word.is_empty());
-        word.push('a')?;
-        word.extend_from_slice(alloc, &['\u{2019}', 'b'])?;
-        let made = word.copy(alloc)?;
-        let same = Items::from_vec(['a', '\u{2019}', 'b'].to_vec(alloc)?);
-        assert!(rt; made == same);
-        assert_eq!(rt; made.len(), 3);
-        assert_eq!(rt; made.iter().copied().last(), Some('b'));
-        assert_eq!(rt; (&made).into_iter().count(), 3);
-        Ok(())
-    }
-
-    // A list is a key of maps by its items.
-    #[test]
-    fn is_found_by_its_items(rt: HostRuntime) -> Result<(), Fail> {
-        let alloc = rt.alloc();
-        let mut places = HashMap::new(alloc);
-        for (place, text) in [['a', 'b'], ['b', 'a']].iter().enumerate() {
-            places.insert(Items::from_vec(text.to_vec(alloc)?), place)?;
-        }
-        let key = Items::from_vec(['b', 'a'].to_vec(alloc)?);
-        assert_eq!(rt; places.get(&key).copied(), Some(1));
-        Ok(())
-    }
-}
