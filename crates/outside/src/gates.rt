@@ -19,18 +19,3 @@ impl Gate for FreeGate {
 
     fn enter(&self, _session: u32) {}
 }
-
-#[cfg(test)]
-mod tests {
-    use super::*;
-
-    fn passes<G: Gate + Send + Sync>(gate: &G) {
-        gate.pass(1, 2);
-        gate.enter(3);
-    }
-
-    #[test]
-    fn holds_no_one() {
-        passes(&FreeGate);
-    }
-}
