@@ -1,5 +1,5 @@
 -- What stops a step of what is due stops all of it.
-use Rattle.std.proofs.Common.{◌≡◌, ℕ, ◌+◌, ◌≤◌, Some, Result, Ok, Err, List, length, replicate, sym, ap, subst, arith}
+use Rattle.std.proofs.Common.{◌≡◌, ℕ, ◌+◌, ◌≤◌, Some, Result, Ok, Err, List, length, replicate, sym, ap, ◌∙◌, subst, arith}
 use Rattle.std.proofs.lemmas.Bool.Decides.{nat_tests}
 use Rattle.std.proofs.lemmas.List.{length-replicate}
 use Rattle.affedit.specs.declared.stop.Stop.{Stop}
@@ -27,6 +27,10 @@ goes-on step given next stop is rest = subst (λ s. StopsAs (s >>= next) stop) (
 pub loaded : (limit : ℕ) (bytes : List ℕ) → length bytes ≤ limit → file_due limit (Some bytes) ≡ Ok bytes
 unfolding file_due
 loaded limit bytes few = grind (arith, nat_tests)
+
+-- bytes that are made as they are defined are due where a file would be
+pub made : (limit : ℕ) (bytes defined : List ℕ) → bytes ≡ defined → length bytes ≤ limit → file_due limit (Some defined) ≡ Ok bytes
+made limit bytes defined is few = ap (λ file. file_due limit (Some file)) (sym is) ∙ loaded limit bytes few
 
 -- some file is larger than a limit
 pub too-long : (limit : ℕ) → file_due limit (Some (replicate {A = ℕ} (limit + 1) 0)) ≡ Err (Limit limit)

@@ -1,11 +1,11 @@
 -- What is put is an answer to what is due.
 use Rattle.std.proofs.Common.{◌≡◌, ℕ, List, [], inl, inr, ◌⊎◌, Option, Some, None, Result, Ok, Err, refl, sym, ap, subst}
 use Rattle.std.specs.Result.{IsErrOf}
-use Rattle.outside.specs.Files.{Folder}
 use Rattle.affedit.specs.declared.stop.Stop.{Stop}
 use Rattle.affedit.specs.declared.stop.Stop.TheVariants.{Words, Aff, Dic, Document, Missing, Files, NoMemory, Limit}
 use Rattle.affedit.specs.declared.report.Report.{Report}
-use Rattle.affedit.specs.Due.{Found, FileNames, NamedFileFailed, due, found_in, told_or}
+use Rattle.affedit.specs.Commands.{Asked, ToCheck, ToMake}
+use Rattle.affedit.specs.Due.{NamedFileFailed}
 use Rattle.affedit.specs.Given.{printed_by}
 use Rattle.affedit.specs.Reports.{Printed}
 use Rattle.affedit.specs.Stops.{status_of, last_line, StopsAs, Gives}
@@ -51,9 +51,10 @@ ends-line {files_failed} due stop status before now is failed (inr puts) =
     ends-put due (status_of NoMemory) status (last_line NoMemory) before now (memory-answer due files_failed) puts
 
 -- a file that the words name failed only if one failed
-pub failed-file : (names : Option FileNames) (files_failed : Type 0) → NamedFileFailed names files_failed → files_failed
+pub failed-file : (asked : Option Asked) (files_failed : Type 0) → NamedFileFailed asked files_failed → files_failed
 failed-file None files_failed failed = absurd failed
-failed-file (Some names) files_failed failed = failed
+failed-file (Some (ToCheck names)) files_failed failed = failed
+failed-file (Some (ToMake numbers)) files_failed failed = absurd failed
 
 -- a report that is due, where nothing failed
 answer-reports : (printed : Printed) (files_failed : Type 0) (status : ℕ) (text : List ℕ) → (files_failed → ⊥) → IsAnswer (Ok printed) files_failed status text
@@ -68,14 +69,12 @@ ends-reported printed files_failed sink_failed before now status fine taken (inl
     (text, answer-reports printed files_failed status text fine is, appends)
 ends-reported printed files_failed sink_failed before now status fine taken (inr cut) = absurd (taken cut.0)
 
--- the files that are told have no fault, and nothing failed
-pub reported : (told : Option Folder) (folder : Folder) (found : Found) (words : List (List ℕ)) (printed : Printed) (files_failed sink_failed : Type 0)
-    (before now : Option (List ℕ)) (status : ℕ) → told ≡ Some folder → due (found_in folder) words ≡ Ok printed → (files_failed → ⊥) → (sink_failed → ⊥)
-    → Ends (due (told_or told found) words) files_failed sink_failed before now status → IsReported printed before now status
-reported told folder found words printed files_failed sink_failed before now status is fine no_file no_sink ends =
+-- what is due is printed, and nothing failed
+pub reported : (due : Result Printed Stop) (printed : Printed) (files_failed sink_failed : Type 0) (before now : Option (List ℕ)) (status : ℕ)
+    → due ≡ Ok printed → (files_failed → ⊥) → (sink_failed → ⊥) → Ends due files_failed sink_failed before now status → IsReported printed before now status
+reported due printed files_failed sink_failed before now status fine no_file no_sink ends =
     ends-reported printed files_failed sink_failed before now status no_file no_sink
-    (subst (λ (due : Result Printed Stop). Ends due files_failed sink_failed before now status) fine
-    (subst (λ (folders : Option Folder). Ends (due (told_or folders found) words) files_failed sink_failed before now status) is ends))
+    (subst (λ (due : Result Printed Stop). Ends due files_failed sink_failed before now status) fine ends)
 
 pub gives-words : (outcome : Result Report Stop) → IsErrOf outcome Words → Gives printed_by (Err Words) outcome
 gives-words outcome is = subst (λ (o : Result Report Stop). Gives printed_by (Err Words) o) (sym is) refl

@@ -1,6 +1,7 @@
 pub mod Runs
 pub mod Reports
 pub mod Stops
+pub mod Commands
 pub mod Due
 pub mod Endings
 pub mod Given

@@ -1,5 +1,5 @@
 -- What is printed of the marks of a text.
-use Rattle.std.specs.Prelude.{ℕ, Bool, not, List, [], ◌∷◌, ◌++◌, length, map, encode_utf8_all, if◌then◌else◌}
+use Rattle.std.specs.Prelude.{ℕ, Bool, not, List, [], ◌∷◌, ◌++◌, length, map, codes, encode_utf8_all, if◌then◌else◌}
 use Rattle.std.specs.List.{flat_map}
 use Rattle.std.specs.Fmt.{decimal}
 use Rattle.std.specs.Str.{chars}
@@ -39,6 +39,20 @@ report_of lexicon paragraphs =
     let marks = marks_of lexicon paragraphs in
     let words = located_words lexicon.affixes.wordchars paragraphs in
     record { text = flat_map line_of marks ++ count_line (length marks) (length words); marks = length marks }
+
+-- a name and a number
+abbrev pub number_line : List ℕ → ℕ → List ℕ
+number_line name number = name ++ (codes " " ++ (decimal number ++ codes "\n"))
+
+-- of a dictionary with so many entries, and of a text: how many entries, words and marks there are
+abbrev pub summary_of : ℕ → Lexicon → List (List ℕ) → Printed
+summary_of entries lexicon paragraphs =
+    let marks = marks_of lexicon paragraphs in
+    let words = located_words lexicon.affixes.wordchars paragraphs in
+    record {
+      text = number_line (codes "entries") entries ++ (number_line (codes "words") (length words) ++ number_line (codes "marks") (length marks));
+      marks = length marks;
+    }
 
 -- the lines of the marks of one paragraph
 abbrev pub paragraph_lines : Lexicon → ℕ → List ℕ → List ℕ

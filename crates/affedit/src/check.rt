@@ -1,16 +1,15 @@
 //! What `check` is to print, as far as the files let it.
 
-ghost use Rattle.std.specs.Prelude.{◌≡◌, ◌<◌, ◌≤◌, ◌^◌, ℕ, List, Option, length, map, IfSome, OnOk, IsErrOf, IfOk};
-ghost use Rattle.std.specs.Option.{option_map};
-ghost use Rattle.std.specs.String.{string_bytes};
+ghost use Rattle.std.specs.Prelude.{◌≡◌, ◌<◌, ◌≤◌, ◌^◌, ℕ, List, Option, length, IfSome, IsErrOf, IfOk};
 ghost use Rattle.spell_types.specs.Sanity.{AreSaneAffixes, AreSaneEntries};
-ghost use Rattle.affedit.specs.Due.{Found, file_due, affixes_step, entries_step, document_due, check_due, names_in, found_in};
-ghost use Rattle.affedit.specs.Given.{printed_by, names_by};
-ghost use Rattle.affedit.specs.Reports.{report_of, paragraphs_of};
 ghost use Rattle.text_lines.specs.Lines.{good_lines};
+ghost use Rattle.affedit.specs.Due.{Found, file_due, affixes_step, entries_step, document_due, check_due, found_in};
+ghost use Rattle.affedit.specs.Given.{printed_by, printed_as, names_by};
+ghost use Rattle.affedit.specs.Reports.{paragraphs_of};
 ghost use Rattle.affedit.specs.Stops.{Gives};
 
-use crate::report::{Report, make_report};
+use crate::command::Names;
+use crate::report::{Output, Report, print};
 use crate::stop::Stop;
 use aff_lines::AffFault;
 use aff_reader::read_aff;
@@ -28,31 +27,9 @@ const DICTIONARY_LIMIT: u64 = 16_777_216;
 /// How large a document may be, in bytes.
 const DOCUMENT_LIMIT: u64 = 67_108_864;
 
-/// The files that the words `check AFF DIC FILE` name.
-#[derive(Clone, Copy)]
-pub struct Names<'a> {
-    pub aff: &'a str,
-    pub dic: &'a str,
-    pub document: &'a str,
-}
-
-/// The names, if the words are of the form.
-pub fn names_of(words: &[String]) -> Option<Names<'_>>
-    ensures { option_map names_by result ≡ names_in (map string_bytes words.now) }
-{
-    match words {
-        [command, aff, dic, document] if command.as_str() == "check" => Some(Names {
-            aff: aff.as_str(),
-            dic: dic.as_str(),
-            document: document.as_str(),
-        }),
-        _ => None,
-    }
-}
-
 /// The report on the document, or what stops it first: the files come in the order of the words, and of each
 /// file its bytes come before its lines.
-#[tactic(auto, unfolding(crate::specs::Due::check_due))]
+#[tactic(auto, unfolding(crate::specs::Due::checked_due))]
 pub fn check<F: Files>(alloc: Global, names: Names<'_>, files: &mut F) -> Result<Report, Stop>
     // It is what is due of some files, which are those that are told, where some are.
     ensures found { (found : Found) × Gives printed_by (check_due found) result }
@@ -67,7 +44,7 @@ pub fn check<F: Files>(alloc: Global, names: Names<'_>, files: &mut F) -> Result
     let dic = load(alloc, files, names.dic, DICTIONARY_LIMIT)?;
     let entries = read_entries(alloc, &affixes, &dic)?;
     let document = load(alloc, files, names.document, DOCUMENT_LIMIT)?;
-    check_document(alloc, affixes, entries, &document)
+    check_document(alloc, affixes, entries, Output::Marks, &document)
 }
 
 /// The bytes of the file.
@@ -92,7 +69,7 @@ fn load<F: Files>(alloc: Global, files: &mut F, name: &str, limit: u64) -> Resul
 }
 
 #[tactic(auto, unfolding(crate::specs::Due::affixes_step))]
-fn read_affixes(alloc: Global, bytes: &[u8]) -> Result<Affixes, Stop>
+pub fn read_affixes(alloc: Global, bytes: &[u8]) -> Result<Affixes, Stop>
     ensures due { Gives (λ affixes. affixes) (affixes_step bytes.now) result }
     ensures sane { IfOk result AreSaneAffixes }
     ensures files { ¬ (IsErrOf result Stop.Files) }
@@ -106,7 +83,7 @@ fn read_affixes(alloc: Global, bytes: &[u8]) -> Result<Affixes, Stop>
 }
 
 #[tactic(auto, unfolding(crate::specs::Due::entries_step))]
-fn read_entries(alloc: Global, affixes: &Affixes, bytes: &[u8]) -> Result<Entries, Stop>
+pub fn read_entries(alloc: Global, affixes: &Affixes, bytes: &[u8]) -> Result<Entries, Stop>
     ensures due { Gives (λ entries. entries) (entries_step affixes.now bytes.now) result }
     ensures sane { IfOk result AreSaneEntries }
     ensures files { ¬ (IsErrOf result Stop.Files) }
@@ -119,45 +96,45 @@ fn read_entries(alloc: Global, affixes: &Affixes, bytes: &[u8]) -> Result<Entrie
     }
 }
 
-/// The report on a document, by what the files of a dictionary say.
+/// What is to be printed of a document, by what the files of a dictionary say.
 #[tactic(auto, unfolding(crate::specs::Due::document_due))]
-fn check_document(
+pub fn check_document(
     alloc: Global,
     affixes: Affixes,
     entries: Entries,
+    output: Output,
     document: &[u8],
 ) -> Result<Report, Stop>
     requires small { length document.now < 2 ^ 32 }
     requires affixes { AreSaneAffixes affixes }
     requires entries { AreSaneEntries entries }
-    ensures due { Gives printed_by (document_due (record { affixes = affixes; entries = entries }) document.now) result }
+    ensures due { Gives printed_by (document_due (printed_as output) (record { affixes = affixes; entries = entries }) document.now) result }
     ensures files { ¬ (IsErrOf result Stop.Files) }
     ensures words { ¬ (IsErrOf result Stop.Words) }
 {
     if let Some(line) = bad_line(document) {
         return Err(Stop::Document { line });
     }
-    match report_by(alloc, affixes, entries, document) {
+    match print_by(alloc, affixes, entries, output, document) {
         Ok(report) => Ok(report),
         Err(NoMemory) => Err(Stop::NoMemory),
     }
 }
 
-/// The report on the lines of the document that are text.
-fn report_by(
+/// What is to be printed of the lines of a document, up to the first that is not UTF-8.
+fn print_by(
     alloc: Global,
     affixes: Affixes,
     entries: Entries,
+    output: Output,
     document: &[u8],
 ) -> Result<Report, NoMemory>
     requires small { length document.now < 2 ^ 32 }
     requires affixes { AreSaneAffixes affixes }
     requires entries { AreSaneEntries entries }
-    ensures text { IfOk result (λ report. string_bytes report.text
-        ≡ (report_of (record { affixes = affixes; entries = entries }) (paragraphs_of document.now (good_lines document.now))).text) }
-    ensures marks { IfOk result (λ report. report.marks
-        ≡ (report_of (record { affixes = affixes; entries = entries }) (paragraphs_of document.now (good_lines document.now))).marks) }
+    ensures { IfOk result (λ report. printed_by report
+        ≡ printed_as output (record { affixes = affixes; entries = entries }) (paragraphs_of document.now (good_lines document.now))) }
 {
     let speller = Speller::build(alloc, affixes, entries)?;
-    make_report(alloc, &speller, document)
+    print(alloc, &speller, output, document)
 }

@@ -2,7 +2,10 @@
 #![tactic(auto)]
 
 mod check;
+mod command;
 mod cutter;
+mod make;
+mod making;
 mod report;
 mod run;
 mod stop;

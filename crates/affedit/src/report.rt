@@ -7,7 +7,8 @@ ghost use Rattle.std.specs.String.{string_bytes};
 ghost use Rattle.mark_types.specs.Marks.{located_words, marks_of};
 ghost use Rattle.mark_types.specs.Words.{words_of};
 ghost use Rattle.text_lines.specs.Lines.{good_lines};
-ghost use Rattle.affedit.specs.Reports.{line_of, mark_line, word_line, is_marked, count_line, report_of, paragraph_lines, paragraphs_of};
+ghost use Rattle.affedit.specs.Given.{printed_by, printed_as};
+ghost use Rattle.affedit.specs.Reports.{line_of, mark_line, word_line, is_marked, count_line, number_line, report_of, summary_of, paragraph_lines, paragraphs_of};
 ghost use Rattle.affedit.specs.Runs.{found_word};
 
 use crate::cutter::{Found, Rest, next_word};
@@ -24,6 +25,31 @@ pub struct Report {
     pub words: u64,
 }
 
+/// What is to be printed of a document.
+#[derive(Clone, Copy)]
+pub enum Output {
+    /// A line for each mark, and how many of how many words are marked.
+    Marks,
+    /// How many entries the dictionary has, which is told, and how many words and marks there are.
+    Summary { entries: u32 },
+}
+
+/// What is to be printed of a document, up to its first line that is not UTF-8.
+pub fn print<J: Judge>(
+    alloc: Global,
+    judge: &J,
+    output: Output,
+    document: &[u8],
+) -> Result<Report, NoMemory>
+    requires small { length document.now < 2 ^ 32 }
+    ensures { IfOk result (λ report. printed_by report ≡ printed_as output (J.lexicon judge.now) (paragraphs_of document.now (good_lines document.now))) }
+{
+    match output {
+        Output::Marks => make_report(alloc, judge, document),
+        Output::Summary { entries } => make_summary(alloc, judge, entries, document),
+    }
+}
+
 /// The report on a document, up to its first line that is not UTF-8: a line `P S E WORD` for each mark, with its
 /// paragraph from 1 and its bytes in the paragraph from 0, and a last line `M of W`.
 pub fn make_report<J: Judge>(alloc: Global, judge: &J, document: &[u8]) -> Result<Report, NoMemory>
@@ -33,6 +59,27 @@ pub fn make_report<J: Judge>(alloc: Global, judge: &J, document: &[u8]) -> Resul
 {
     let mut report = report_of_paragraphs(alloc, judge, document)?;
     push_count_line(&mut report.text, report.marks, report.words)?;
+    Ok(report)
+}
+
+/// The summary of a document, up to its first line that is not UTF-8, where the dictionary has so many entries: the
+/// lines `entries E`, `words W` and `marks M`.
+pub fn make_summary<J: Judge>(
+    alloc: Global,
+    judge: &J,
+    entries: u32,
+    document: &[u8],
+) -> Result<Report, NoMemory>
+    requires small { length document.now < 2 ^ 32 }
+    ensures text { IfOk result (λ report. string_bytes report.text
+        ≡ (summary_of entries (J.lexicon judge.now) (paragraphs_of document.now (good_lines document.now))).text) }
+    ensures marks { IfOk result (λ report. report.marks ≡ (summary_of entries (J.lexicon judge.now) (paragraphs_of document.now (good_lines document.now))).marks) }
+{
+    let mut report = report_of_paragraphs(alloc, judge, document)?;
+    report.text.clear();
+    push_number_line(&mut report.text, "entries", u64::from(entries))?;
+    push_number_line(&mut report.text, "words", report.words)?;
+    push_number_line(&mut report.text, "marks", report.marks)?;
     Ok(report)
 }
 
@@ -149,4 +196,10 @@ fn push_count_line(text: &mut String, marks: u64, words: u64) -> Result<(), Allo
     ensures { OnOk result (string_bytes text.new ≡ string_bytes text.old ++ count_line marks words) }
 {
     write!(text, "{marks} of {words}\n")
+}
+
+fn push_number_line(text: &mut String, name: &str, number: u64) -> Result<(), AllocError>
+    ensures { OnOk result (string_bytes text.new ≡ string_bytes text.old ++ number_line name.now number) }
+{
+    write!(text, "{name} {number}\n")
 }

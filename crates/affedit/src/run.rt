@@ -2,16 +2,18 @@
 
 ghost use Rattle.std.specs.Prelude.{◌≡◌, ℕ, ◌<◌, ◌≤◌, ◌⊎◌, ◌↔◌, map, IsErrOf, Option, Some, None, Ok, Result};
 ghost use Rattle.std.specs.String.{string_bytes};
-ghost use Rattle.outside.specs.Files.{Folder};
 ghost use Rattle.outside.specs.Sink.{Appends};
-ghost use Rattle.affedit.specs.Due.{Found, FileNames, NamedFileFailed, due, found_in, told_or, names_in};
+ghost use Rattle.affedit.specs.Commands.{Asked, asked_in};
+ghost use Rattle.affedit.specs.Due.{Found, NamedFileFailed, due, told_or};
 ghost use Rattle.affedit.specs.Endings.{status_due, Puts, PutsLine, Ends, IsReported};
 ghost use Rattle.affedit.specs.Given.{printed_by};
 ghost use Rattle.affedit.specs.Reports.{Printed};
 ghost use Rattle.affedit.specs.Stops.{Gives, last_line};
 ghost use Rattle.affedit.specs.declared.stop.Stop.{Stop};
 
-use crate::check::{check, names_of};
+use crate::check::check;
+use crate::command::{Command, command_of};
+use crate::make::make;
 use crate::report::Report;
 use crate::stop::Stop;
 use outside::{Files, Gate, Sink, Source};
@@ -45,17 +47,17 @@ where
     G: Gate + Sync,
     // What was written and the status are those that are due of some files, which are those that are told, where some are.
     ensures due { (found : Found) × Ends (due (told_or (F.told files.old) found) (map string_bytes words.now))
-        (NamedFileFailed (names_in (map string_bytes words.now)) (F.Files.faults files.old < F.Files.faults files.new))
+        (NamedFileFailed (asked_in (map string_bytes words.now)) (F.Files.faults files.old < F.Files.faults files.new))
         (K.Sink.faults out.old < K.Sink.faults out.new) (K.written out.old) (K.written out.new) result.status }
 
-    // A dictionary and a document that are told and have no fault are reported, if nothing fails and memory is to be had.
-    ensures complete { (folder : Folder) (printed : Printed) → F.told files.old ≡ Some folder
-        → due (found_in folder) (map string_bytes words.now) ≡ Ok printed
+    // What is due, whatever there is of files that are not told, is printed, if nothing fails and memory is to be had: words
+    // of `make` name no files.
+    ensures complete { (printed : Printed) → ((found : Found) → due (told_or (F.told files.old) found) (map string_bytes words.now) ≡ Ok printed)
         → F.Files.faults files.new ≡ F.Files.faults files.old → K.Sink.faults out.new ≡ K.Sink.faults out.old
         → IsReported printed (K.written out.old) (K.written out.new) result.status }
 
     // What a reader may take from these alone, whatever is told.
-    ensures no_form { result.status ≡ 2 → names_in (map string_bytes words.now) ≡ None }
+    ensures no_form { result.status ≡ 2 → asked_in (map string_bytes words.now) ≡ None }
     ensures files { result.status ≡ 5 → (F.Files.faults files.old < F.Files.faults files.new)
         ⊎ Appends (K.written out.old) (K.written out.new) (last_line Stop.Missing) }
     ensures sink { result.status ≡ 6 → K.Sink.faults out.old < K.Sink.faults out.new }
@@ -72,7 +74,7 @@ where
     }
 }
 
-/// Does all of `check`, and answers 2 for other words. It always returns.
+/// Does all of `check` and `make`, and answers 2 for other words. It always returns.
 pub fn run_check<R, F, K>(
     _rt: &R,
     alloc: Global,
@@ -86,17 +88,17 @@ where
     K: Sink,
     // What was written and the status are those that are due of some files, which are those that are told, where some are.
     ensures due { (found : Found) × Ends (due (told_or (F.told files.old) found) (map string_bytes words.now))
-        (NamedFileFailed (names_in (map string_bytes words.now)) (F.faults files.old < F.faults files.new))
+        (NamedFileFailed (asked_in (map string_bytes words.now)) (F.faults files.old < F.faults files.new))
         (K.faults out.old < K.faults out.new) (K.written out.old) (K.written out.new) result }
 
-    // A dictionary and a document that are told and have no fault are reported, if nothing fails and memory is to be had.
-    ensures complete { (folder : Folder) (printed : Printed) → F.told files.old ≡ Some folder
-        → due (found_in folder) (map string_bytes words.now) ≡ Ok printed
+    // What is due, whatever there is of files that are not told, is printed, if nothing fails and memory is to be had: words
+    // of `make` name no files.
+    ensures complete { (printed : Printed) → ((found : Found) → due (told_or (F.told files.old) found) (map string_bytes words.now) ≡ Ok printed)
         → F.faults files.new ≡ F.faults files.old → K.faults out.new ≡ K.faults out.old
         → IsReported printed (K.written out.old) (K.written out.new) result }
 
     // What a reader may take from these alone, whatever is told.
-    ensures no_form { result ≡ 2 → names_in (map string_bytes words.now) ≡ None }
+    ensures no_form { result ≡ 2 → asked_in (map string_bytes words.now) ≡ None }
     ensures files { result ≡ 5 → (F.faults files.old < F.faults files.new)
         ⊎ Appends (K.written out.old) (K.written out.new) (last_line Stop.Missing) }
     ensures sink { result ≡ 6 → K.faults out.old < K.faults out.new }
@@ -113,23 +115,24 @@ where
 /// The report, or why there is none.
 fn outcome_of<F: Files>(alloc: Global, words: &[String], files: &mut F) -> Result<Report, Stop>
     ensures due { (found : Found) × Gives printed_by (due (told_or (F.told files.old) found) (map string_bytes words.now)) result }
-    ensures words { IsErrOf result Stop.Words ↔ (names_in (map string_bytes words.now) ≡ None) }
+    ensures words { IsErrOf result Stop.Words ↔ (asked_in (map string_bytes words.now) ≡ None) }
     ensures files { IsErrOf result Stop.Files
-        → NamedFileFailed (names_in (map string_bytes words.now)) (F.faults files.old < F.faults files.new) }
+        → NamedFileFailed (asked_in (map string_bytes words.now)) (F.faults files.old < F.faults files.new) }
     ensures same { F.told files.new ≡ F.told files.old }
     ensures count { F.faults files.old ≤ F.faults files.new }
 {
-    match names_of(words) {
-        Some(names) => check(alloc, names, files),
+    match command_of(words) {
+        Some(Command::Check(names)) => check(alloc, names, files),
+        Some(Command::Make(making)) => make(alloc, making),
         None => Err(Stop::Words),
     }
 }
 
 /// Writes the report, or the last line that is due in its place.
 fn answer<K: Sink>(alloc: Global, out: &mut K, outcome: Result<Report, Stop>) -> u8
-    ensures ends { (due : Result Printed Stop) (names : Option FileNames) (files_before files_after : ℕ) → Gives printed_by due outcome
-        → (IsErrOf outcome Stop.Files → NamedFileFailed names (files_before < files_after))
-        → Ends due (NamedFileFailed names (files_before < files_after)) (K.faults out.old < K.faults out.new)
+    ensures ends { (due : Result Printed Stop) (asked : Option Asked) (files_before files_after : ℕ) → Gives printed_by due outcome
+        → (IsErrOf outcome Stop.Files → NamedFileFailed asked (files_before < files_after))
+        → Ends due (NamedFileFailed asked (files_before < files_after)) (K.faults out.old < K.faults out.new)
         (K.written out.old) (K.written out.new) result }
     ensures no_form { result ≡ 2 → IsErrOf outcome Stop.Words }
     ensures files { result ≡ 5 → IsErrOf outcome Stop.Files ⊎ Appends (K.written out.old) (K.written out.new) (last_line Stop.Missing) }

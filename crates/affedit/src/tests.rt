@@ -5,6 +5,7 @@ mod case_tables;
 mod derivations;
 mod flag_tables;
 mod licence_tables;
+mod made;
 mod readers;
 mod real_files;
 mod refusals;
