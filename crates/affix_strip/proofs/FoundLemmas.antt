@@ -185,6 +185,11 @@ pub no-rules : (lexicon : Lexicon) (prefixes seconds : List (Option ℕ)) (peele
     → (d : Derivation) → FirstPeels lexicon prefixes seconds peeled d → ⊥
 no-rules lexicon prefixes seconds peeled entries are empty d some = none-of entries d.entry empty (entry-of lexicon peeled.0 entries are d some.is.1.at)
 
+-- a word that is no entry's comes without suffixes from none
+pub no-bare : (lexicon : Lexicon) (prefixes : List (Option ℕ)) (text : List ℕ) → AreEntriesOf lexicon.entries text []
+    → (d : Derivation) → Passes lexicon (λ d. Outside prefixes (None ∷ []) d × (d.first ≡ None)) (stem_of lexicon) text d → ⊥
+no-bare lexicon prefixes text are d passes = none-of [] d.entry refl (entry-of lexicon text [] are d passes.at)
+
 -- one affix, or none
 either : (lexicon : Lexicon) (named : Derivation → Option ℕ) (parts : Derivation → Type 0) (way : Derivation → Option (List ℕ)) (text : List ℕ) (d : Derivation)
     → (Passes lexicon (λ d. parts d × (named d ≡ None)) way text d ⊎ Passes lexicon (λ d. parts d × (is_some (named d) ≡ true)) way text d) ↔ Passes lexicon parts way text d

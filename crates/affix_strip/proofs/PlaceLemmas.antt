@@ -6,8 +6,9 @@ use Rattle.std.proofs.lemmas.List.Elements.{Contains-push, Contains-push_cases, 
 use Rattle.std.proofs.lemmas.Option.{slice_get_within}
 use Rattle.std.proofs.lemmas.Slice.Eq.{bytes_eq-Decides}
 use Rattle.spell_types.specs.declared.Entry.{Entry}
-use Rattle.affix_strip.specs.EntryTable.{has_word, passes_at, last_where, AreEntriesOf}
-use Rattle.affix_strip.proofs.EntryLemmas.{end_of, last_where-is, last_where-below, last_where-end, passes-entry}
+use Rattle.affix_strip.specs.Hashes.{hash_of}
+use Rattle.affix_strip.specs.EntryTable.{has_hash, has_word, passes_at, last_where, AreEntriesOf}
+use Rattle.affix_strip.proofs.EntryLemmas.{end_of, same-hash, last_where-fewer, last_where-is, last_where-below, last_where-end, passes-entry}
 
 -- the places from the end of the next one on are there, which is the last one of the word below a bound
 pub record PlacesBehind (entries : List Entry) (word : List ℕ) (next : Option ℕ) (places : List ℕ) : Type 0 where
@@ -74,3 +75,10 @@ places-last entries word places so = record { are = λ place. (λ inside. there 
 
 pub are-same : {entries : List Entry} {word places now : List ℕ} → now ≡ places → AreEntriesOf entries word places → AreEntriesOf entries word now
 are-same {entries} {word} same are = subst (AreEntriesOf entries word) (sym same) are
+
+-- a word whose hash no entry's word has is no entry's
+pub no-places : (entries : List Entry) (word : List ℕ) → last_where (has_hash (hash_of word)) entries (length entries) ≡ None → AreEntriesOf entries word []
+no-places entries word none =
+    places-last entries word []
+    (places-first entries word None
+    (sym (last_where-fewer (has_word word) (has_hash (hash_of word)) entries (same-hash word) (length entries) ∙ ap (λ found. last_where (has_word word) entries (end_of found)) none)))

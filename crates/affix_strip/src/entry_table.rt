@@ -1,7 +1,7 @@
 //! Entries by a hash of their words. A word is compared only with those of its hash, so no words are kept beside the
 //! entries, and most that are no entry's word are known by a filter of the hashes.
 
-ghost use Rattle.std.specs.Prelude.{◌≡◌, ◌++◌, [], ◌∷◌, ◌^◌, ◌<◌, ℕ, List, true, length, nat_eq, slice_get, OnOk, IfOk};
+ghost use Rattle.std.specs.Prelude.{◌≡◌, ◌++◌, [], ◌∷◌, ◌^◌, ◌<◌, ℕ, List, true, false, length, nat_eq, slice_get, OnOk, IfOk};
 ghost use Rattle.std.specs.Option.{option_flatten};
 ghost use Rattle.indexmap.specs.IndexMap.{get};
 ghost use Rattle.spell_types.specs.declared.Entry.{Entry};
@@ -62,6 +62,15 @@ impl EntryTable {
         let earlier = self.last.insert(hash, place)?;
         self.earlier.push(earlier)?;
         Ok(())
+    }
+
+    /// Whether `front` and `back` joined may be an entry's word. Where the answer is no, they are none.
+    pub(crate) fn may_have(&self, front: Hashed<'_>, back: &[char]) -> bool
+        requires { IsHashed front }
+        ensures { (entries : List Entry) → HasEntries entries self.now → result ≡ false
+            → AreEntriesOf entries (front.entry.text.now ++ back.now) [] }
+    {
+        self.hashes.may_have(fold(front.hash, back))
     }
 
     /// The places of the entries whose word is `front` and `back` joined, from the last one on.

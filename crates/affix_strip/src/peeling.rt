@@ -76,6 +76,7 @@ impl<'a> Peeled<'a> {
             return Ok(front);
         }
         joined.clear();
+        joined.reserve(front.len() + self.back.len())?;
         joined.extend_from_slice(front)?;
         joined.extend_from_slice(self.back)?;
         Ok(joined.as_slice())

@@ -283,7 +283,11 @@ impl Dictionary {
             (stem_of self.now.lexicon) word.now)
             (V.sees visitor.old) (V.sees visitor.new)) }
     {
-        let entries = self.entries_of(alloc, Hashed::new(word), &[])?;
+        let word = Hashed::new(word);
+        if !self.tables.by_word.may_have(word, &[]) {
+            return Ok(false);
+        }
+        let entries = self.entries_of(alloc, word, &[])?;
         visit_prefixes(
             &self.lexicon,
             prefixes,
@@ -335,6 +339,9 @@ impl Dictionary {
             (V.sees visitor.old) (V.sees visitor.new)) }
     {
         let (front, back) = ending.parts();
+        if !self.tables.by_word.may_have(front, back) {
+            return Ok(false);
+        }
         let entries = self.entries_of(alloc, front, back)?;
         let entries = entries.as_slice();
         if entries.is_empty() {
