@@ -6,6 +6,7 @@ mod derivations;
 mod flag_tables;
 mod licence_tables;
 mod made;
+mod pattern_tables;
 mod readers;
 mod real_files;
 mod refusals;

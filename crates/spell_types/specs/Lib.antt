@@ -9,5 +9,6 @@ pub mod Empty
 pub mod Flags
 pub mod Licences
 pub mod Numbers
+pub mod Patterns
 pub mod Sanity
 pub mod Yields

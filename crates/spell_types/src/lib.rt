@@ -11,6 +11,7 @@ mod conversions;
 mod derivations;
 mod flags;
 mod licences;
+mod patterns;
 mod rules;
 mod signs;
 mod texts;
@@ -24,6 +25,7 @@ pub use licences::{
     alone, alone_in_case, forbidden, has_affix_with, has_entry_with, licensed, sound,
 };
 use lists::{Copied, Items, NoMemory};
+pub use patterns::{Pattern, PatternStep, Times, patterns_match};
 pub use rules::{Condition, Piece, Rule, Side};
 pub use signs::{Options, Signs};
 use std::alloc::Global;

@@ -1,0 +1,4 @@
+mod ItemLemmas
+mod RuleLemmas
+mod StateLemmas
+mod TextLemmas

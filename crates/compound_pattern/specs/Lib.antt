@@ -1,0 +1,2 @@
+pub mod PatternTexts
+pub mod States
