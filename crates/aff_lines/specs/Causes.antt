@@ -1,5 +1,5 @@
 -- What is wrong with one line.
-use Rattle.std.specs.Prelude.{ℕ, ◌^◌, Bool, true, nat_lt, List, map, is_some, slice_get, Option, None, Some, option_and_then, codes, if◌then◌else◌}
+use Rattle.std.specs.Prelude.{ℕ, ◌^◌, Bool, true, ◌&&◌, nat_lt, List, map, is_some, slice_get, Option, None, Some, option_and_then, codes, if◌then◌else◌}
 use Rattle.std.specs.Char.{to_ascii_lowercase}
 use Rattle.std.specs.Str.{bytes_eq}
 use Rattle.text_lines.specs.Fields.{decimal_of}
@@ -8,10 +8,11 @@ use Rattle.spell_types.specs.declared.flags.FlagKind.{FlagKind}
 use Rattle.spell_types.specs.declared.flags.FlagKind.TheVariants.{Utf8, Long, Num}
 use Rattle.flag_sets.specs.FlagTexts.{listed_flags, one_flag}
 use Rattle.aff_lines.specs.declared.faults.AffWhy.{AffWhy}
-use Rattle.aff_lines.specs.declared.faults.AffWhy.TheVariants.{OtherEncoding, MissingField, BadNumber, OtherFlag, BadFlag}
+use Rattle.aff_lines.specs.declared.faults.AffWhy.TheVariants.{OtherEncoding, LeftOut, MissingField, BadNumber, OtherFlag, BadFlag}
 use Rattle.aff_lines.specs.declared.names.Form.{Form}
 use Rattle.aff_lines.specs.declared.names.Row.{Row}
 use Rattle.aff_lines.specs.declared.rows.DirectiveLine.{DirectiveLine}
+use Rattle.aff_lines.specs.FlaggedTexts.{is_flagged}
 use Rattle.aff_lines.specs.Rows.{value_of}
 
 -- whether a text is this word, which is in lower case, in any ASCII case
@@ -69,11 +70,23 @@ flags_why kind (Some value) = unless (is_some (listed_flags kind value)) BadFlag
 abbrev pub has_two_texts : DirectiveLine → Bool
 has_two_texts line = is_some (slice_get (fields line.text) 2)
 
+-- what is wrong with two texts that may have flags
+abbrev pub flagged_why : FlagKind → Option (List ℕ) → Option (List ℕ) → Option AffWhy
+flagged_why kind (Some first) (Some second) = unless (is_flagged kind first && is_flagged kind second) BadFlag
+flagged_why kind _ _ = Some MissingField
+
+-- what is wrong with a row of two texts that may have flags; a third text is not built
+abbrev pub joint_why : FlagKind → DirectiveLine → Option AffWhy
+joint_why kind line =
+    if is_some (slice_get (fields line.text) 3) then Some LeftOut
+    else flagged_why kind (slice_get (fields line.text) 1) (slice_get (fields line.text) 2)
+
 -- what is wrong with a row of a table
 abbrev pub row_why : FlagKind → Row → DirectiveLine → Option AffWhy
 row_why kind Row.FlagField line = flags_why kind (value_of line)
 row_why kind Row.OneText line = unless (is_some (value_of line)) MissingField
 row_why kind Row.TwoTexts line = unless (has_two_texts line) MissingField
+row_why kind Row.Joint line = joint_why kind line
 
 -- the number in the field behind a line's name
 abbrev pub number_at : DirectiveLine → Option ℕ

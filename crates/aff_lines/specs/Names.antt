@@ -42,28 +42,28 @@ all_directives =
     ∷ describes Directive.ForbiddenWord (codes "FORBIDDENWORD") None Form.Flag Pass.Fourth
     ∷ describes Directive.KeepCase (codes "KEEPCASE") None Form.Flag Pass.Fourth
     ∷ describes Directive.Warn (codes "WARN") None Form.Flag Pass.Fourth
-    ∷ describes Directive.CompoundFlag (codes "COMPOUNDFLAG") None Form.LeftOut Pass.Fourth
-    ∷ describes Directive.CompoundBegin (codes "COMPOUNDBEGIN") None Form.LeftOut Pass.Fourth
-    ∷ describes Directive.CompoundMiddle (codes "COMPOUNDMIDDLE") None Form.LeftOut Pass.Fourth
-    ∷ describes Directive.CompoundLast (codes "COMPOUNDLAST") (Some (codes "COMPOUNDEND")) Form.LeftOut Pass.Fourth
-    ∷ describes Directive.CompoundPermitFlag (codes "COMPOUNDPERMITFLAG") None Form.LeftOut Pass.Fourth
-    ∷ describes Directive.CompoundForbidFlag (codes "COMPOUNDFORBIDFLAG") None Form.LeftOut Pass.Fourth
+    ∷ describes Directive.CompoundFlag (codes "COMPOUNDFLAG") None Form.Flag Pass.Fourth
+    ∷ describes Directive.CompoundBegin (codes "COMPOUNDBEGIN") None Form.Flag Pass.Fourth
+    ∷ describes Directive.CompoundMiddle (codes "COMPOUNDMIDDLE") None Form.Flag Pass.Fourth
+    ∷ describes Directive.CompoundLast (codes "COMPOUNDLAST") (Some (codes "COMPOUNDEND")) Form.Flag Pass.Fourth
+    ∷ describes Directive.CompoundPermitFlag (codes "COMPOUNDPERMITFLAG") None Form.Flag Pass.Fourth
+    ∷ describes Directive.CompoundForbidFlag (codes "COMPOUNDFORBIDFLAG") None Form.Flag Pass.Fourth
     ∷ describes Directive.OnlyInCompound (codes "ONLYINCOMPOUND") None Form.Flag Pass.Fourth
-    ∷ describes Directive.ForceUpperCase (codes "FORCEUCASE") None Form.LeftOut Pass.Fourth
-    ∷ describes Directive.CompoundMinimum (codes "COMPOUNDMIN") None Form.LeftOut Pass.Fourth
-    ∷ describes Directive.CompoundWordMaximum (codes "COMPOUNDWORDMAX") None Form.LeftOut Pass.Fourth
+    ∷ describes Directive.ForceUpperCase (codes "FORCEUCASE") None Form.Flag Pass.Fourth
+    ∷ describes Directive.CompoundMinimum (codes "COMPOUNDMIN") None Form.Number Pass.Fourth
+    ∷ describes Directive.CompoundWordMaximum (codes "COMPOUNDWORDMAX") None Form.Number Pass.Fourth
     ∷ describes Directive.FullStrip (codes "FULLSTRIP") None Form.Switch Pass.Fourth
     ∷ describes Directive.ForbidWarn (codes "FORBIDWARN") None Form.Switch Pass.Fourth
-    ∷ describes Directive.CompoundMoreSuffixes (codes "COMPOUNDMORESUFFIXES") None Form.LeftOut Pass.Fourth
-    ∷ describes Directive.CheckCompoundDuplicates (codes "CHECKCOMPOUNDDUP") None Form.LeftOut Pass.Fourth
-    ∷ describes Directive.CheckCompoundCase (codes "CHECKCOMPOUNDCASE") None Form.LeftOut Pass.Fourth
-    ∷ describes Directive.CheckCompoundTriple (codes "CHECKCOMPOUNDTRIPLE") None Form.LeftOut Pass.Fourth
-    ∷ describes Directive.CheckCompoundReplacements (codes "CHECKCOMPOUNDREP") None Form.LeftOut Pass.Fourth
+    ∷ describes Directive.CompoundMoreSuffixes (codes "COMPOUNDMORESUFFIXES") None Form.Switch Pass.Fourth
+    ∷ describes Directive.CheckCompoundDuplicates (codes "CHECKCOMPOUNDDUP") None Form.Switch Pass.Fourth
+    ∷ describes Directive.CheckCompoundCase (codes "CHECKCOMPOUNDCASE") None Form.Switch Pass.Fourth
+    ∷ describes Directive.CheckCompoundTriple (codes "CHECKCOMPOUNDTRIPLE") None Form.Switch Pass.Fourth
+    ∷ describes Directive.CheckCompoundReplacements (codes "CHECKCOMPOUNDREP") None Form.Switch Pass.Fourth
     ∷ describes Directive.InputConversion (codes "ICONV") None (Form.Table Row.TwoTexts) Pass.Fourth
     ∷ describes Directive.Replacement (codes "REP") None (Form.Table Row.TwoTexts) Pass.Fourth
     ∷ describes Directive.Break (codes "BREAK") None (Form.Table Row.OneText) Pass.Fourth
-    ∷ describes Directive.CompoundRule (codes "COMPOUNDRULE") None Form.LeftOut Pass.Fourth
-    ∷ describes Directive.CheckCompoundPattern (codes "CHECKCOMPOUNDPATTERN") None Form.LeftOut Pass.Fourth
+    ∷ describes Directive.CompoundRule (codes "COMPOUNDRULE") None (Form.Table Row.OneText) Pass.Fourth
+    ∷ describes Directive.CheckCompoundPattern (codes "CHECKCOMPOUNDPATTERN") None (Form.Table Row.Joint) Pass.Fourth
     ∷ describes Directive.Prefix (codes "PFX") None Form.Class Pass.Fourth
     ∷ describes Directive.Suffix (codes "SFX") None Form.Class Pass.Fourth
     ∷ describes Directive.ComplexPrefixes (codes "COMPLEXPREFIXES") None Form.LeftOut Pass.Fourth

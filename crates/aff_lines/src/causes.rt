@@ -1,10 +1,11 @@
 //! What is wrong with one line.
 
-ghost use Rattle.std.specs.Prelude.{◌≡◌, option_and_then};
+ghost use Rattle.std.specs.Prelude.{◌≡◌, ◌<◌, ◌^◌, IfSome, option_and_then};
 ghost use Rattle.std.specs.Option.{option_copied};
-ghost use Rattle.aff_lines.specs.Causes.{is_utf8_name, kind_named, number_in, fits, misfit, unless, value_why, line_why, flags_why, has_two_texts, row_why, number_at};
+ghost use Rattle.aff_lines.specs.Causes.{is_utf8_name, kind_named, number_in, fits, misfit, unless, value_why, line_why, flags_why, has_two_texts, flagged_why, joint_why, row_why, number_at};
 
 use crate::faults::AffWhy;
+use crate::flagged_texts::is_flagged;
 use crate::names::{Form, Row};
 use crate::rows::{DirectiveLine, value_of};
 use flag_sets::{lists_flags, read_one_flag};
@@ -73,6 +74,7 @@ pub(crate) fn row_why(kind: FlagKind, row: Row, line: &DirectiveLine) -> Option<
         Row::FlagField => flags_why(kind, value_of(line)),
         Row::OneText => unless(value_of(line).is_some(), AffWhy::MissingField),
         Row::TwoTexts => unless(has_two_texts(line), AffWhy::MissingField),
+        Row::Joint => joint_why(kind, line),
     }
 }
 
@@ -81,6 +83,29 @@ fn has_two_texts(line: &DirectiveLine) -> bool
     ensures { result ≡ has_two_texts line.now }
 {
     field(line.text.as_str(), 2).is_some()
+}
+
+/// What is wrong with a row of two texts that may have flags.
+fn joint_why(kind: FlagKind, line: &DirectiveLine) -> Option<AffWhy>
+    ensures { result ≡ joint_why kind line.now }
+{
+    let text = line.text.as_str();
+    if field(text, 3).is_some() {
+        return Some(AffWhy::LeftOut);
+    }
+    flagged_why(kind, field(text, 1), field(text, 2))
+}
+
+fn flagged_why(kind: FlagKind, first: Option<&str>, second: Option<&str>) -> Option<AffWhy>
+    ensures { result ≡ flagged_why kind (option_copied first.entry) (option_copied second.entry) }
+{
+    match (first, second) {
+        (Some(first), Some(second)) => {
+            let right = is_flagged(kind, first) && is_flagged(kind, second);
+            unless(right, AffWhy::BadFlag)
+        }
+        _ => Some(AffWhy::MissingField),
+    }
 }
 
 fn flags_why(kind: FlagKind, value: Option<&str>) -> Option<AffWhy>
@@ -115,7 +140,8 @@ pub(crate) fn kind_named(text: &str) -> Option<FlagKind>
 
 /// The number that a text writes, if it is below 2^32.
 pub fn number_in(text: &str) -> Option<u64>
-    ensures { result ≡ number_in text.now }
+    ensures number { result ≡ number_in text.now }
+    ensures below { IfSome result (λ number. number < 2 ^ 32) }
 {
     decimal(text).filter(|number| *number < NUMBERS)
 }

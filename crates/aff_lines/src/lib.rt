@@ -22,6 +22,7 @@ use text_lines::lines;
 
 mod causes;
 mod faults;
+mod flagged_texts;
 mod names;
 mod passes;
 mod rows;
@@ -29,6 +30,7 @@ mod values;
 
 pub use causes::{line_why, number_at, number_in, unless};
 pub use faults::{AffFault, AffWhy, Fault, sooner};
+pub use flagged_texts::{bare_text, flag_behind};
 pub use names::{
     Directive, Form, Pass, Row, directive_named, every_directive_has_one_row, no_name_stands_twice,
 };

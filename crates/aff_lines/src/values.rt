@@ -33,10 +33,11 @@ pub fn flag_said(kind: FlagKind, directive: Directive, rows: &[DirectiveLine]) -
 }
 
 /// The number of a directive.
-pub fn number_said(directive: Directive, rows: &[DirectiveLine]) -> Option<u64>
+pub fn number_said(directive: Directive, rows: &[DirectiveLine]) -> Option<u32>
     ensures { result ≡ number_said (lines_of directive rows.now) }
 {
-    number_in(value_said(directive, rows)?)
+    let number = number_in(value_said(directive, rows)?)?;
+    Some(number as u32)
 }
 
 /// Whether a switch is there.

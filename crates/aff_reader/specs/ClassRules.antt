@@ -1,5 +1,5 @@
 -- The rule that a line says.
-use Rattle.std.specs.Prelude.{ℕ, List, [], ◌∷◌, nat_eq, unwrap_or, Option, None, Some, Result, Ok, Err, if◌then◌else◌}
+use Rattle.std.specs.Prelude.{ℕ, Bool, List, [], ◌∷◌, nat_eq, unwrap_or, Option, None, Some, Result, Ok, Err, if◌then◌else◌}
 use Rattle.std.specs.Cmp.Lexicographic.{pointwise}
 use Rattle.std.specs.Str.{chars}
 use Rattle.spell_types.specs.declared.flags.FlagKind.{FlagKind}
@@ -19,9 +19,13 @@ use Rattle.aff_reader.specs.declared.class_lines.Class.{Class}
 use Rattle.aff_reader.specs.declared.class_lines.Crossing.{Crossing}
 use Rattle.aff_reader.specs.ClassLines.{field_of, is_allowed}
 
+-- whether a text is `0`
+abbrev pub is_zero : List ℕ → Bool
+is_zero characters = pointwise nat_eq characters (48 ∷ [])
+
 -- the characters that a text stands for: `0` is nothing
 abbrev pub unless_zero : List ℕ → List ℕ
-unless_zero characters = if pointwise nat_eq characters (48 ∷ []) then [] else characters
+unless_zero characters = if is_zero characters then [] else characters
 
 -- what a rule strips off
 abbrev pub strip_of : List ℕ → List ℕ

@@ -1,5 +1,5 @@
 -- The grammar of the .aff file: the faults of its four passes, and what it says.
-use Rattle.std.specs.Prelude.{◌≡◌, ℕ, List, [], ◌∷◌, ◌++◌, map, Option, None, Some, Result, Ok, Err, unwrap_or}
+use Rattle.std.specs.Prelude.{◌≡◌, ℕ, List, [], ◌∷◌, ◌++◌, map, max, Option, None, Some, Result, Ok, Err, unwrap_or}
 use Rattle.std.specs.Str.{chars}
 use Rattle.spell_types.specs.declared.Affixes.{Affixes}
 use Rattle.spell_types.specs.declared.flags.Flag.{Flag}
@@ -13,10 +13,12 @@ use Rattle.aff_lines.specs.declared.names.Directive.TheVariants as Directive
 use Rattle.aff_lines.specs.declared.names.Pass.TheVariants as Pass
 use Rattle.aff_lines.specs.declared.rows.DirectiveLine.{DirectiveLine}
 use Rattle.aff_lines.specs.Faults.{first_fault, IsFault, Refuses}
-use Rattle.aff_lines.specs.Passes.{early_passes, pass_faults, kind_said, aliases_said, flag_said, is_said, value_said}
+use Rattle.aff_lines.specs.Passes.{early_passes, pass_faults, kind_said, aliases_said, flag_said, number_said, is_said, value_said}
 use Rattle.aff_lines.specs.Rows.{rows_of, lines_of}
 use Rattle.aff_reader.specs.ClassRules.{rule_without}
 use Rattle.aff_reader.specs.Classes.{class_faults, rules_said}
+use Rattle.aff_reader.specs.CompoundRules.{pattern_faults, patterns_said}
+use Rattle.aff_reader.specs.CompoundTables.{reps_said, joints_said}
 use Rattle.aff_reader.specs.Tables.{conversions_said, breaks_said}
 
 -- the type of flags of a file
@@ -27,9 +29,10 @@ kind_of bytes = kind_said (lines_of Directive.FlagType (rows_of bytes))
 abbrev pub aliases_of : List ℕ → Option (List (List Flag))
 aliases_of bytes = aliases_said (kind_of bytes) (lines_of Directive.FlagAliases (rows_of bytes))
 
--- the faults of the fourth pass: those of each option, and those of affix classes
+-- the faults of the fourth pass: those of each option, those of compound rules, and those of affix classes
 abbrev pub late_faults : FlagKind → Option (List (List Flag)) → List DirectiveLine → List Fault
-late_faults kind aliases rows = pass_faults kind rows Pass.Fourth ++ class_faults kind aliases rows
+late_faults kind aliases rows =
+    pass_faults kind rows Pass.Fourth ++ (pattern_faults kind (lines_of Directive.CompoundRule rows) ++ class_faults kind aliases rows)
 
 -- the faults of a file, pass by pass
 abbrev pub aff_passes : List ℕ → List (List Fault)
@@ -43,14 +46,32 @@ signs_said kind rows = record {
   forbidden = flag_said kind (lines_of Directive.ForbiddenWord rows);
   keep_case = flag_said kind (lines_of Directive.KeepCase rows);
   warn = flag_said kind (lines_of Directive.Warn rows);
+  compound = flag_said kind (lines_of Directive.CompoundFlag rows);
+  begin = flag_said kind (lines_of Directive.CompoundBegin rows);
+  middle = flag_said kind (lines_of Directive.CompoundMiddle rows);
+  last = flag_said kind (lines_of Directive.CompoundLast rows);
+  permit = flag_said kind (lines_of Directive.CompoundPermitFlag rows);
+  forbid = flag_said kind (lines_of Directive.CompoundForbidFlag rows);
   only_inside = flag_said kind (lines_of Directive.OnlyInCompound rows);
+  force_upper = flag_said kind (lines_of Directive.ForceUpperCase rows);
 }
 
--- the switches
+-- how many characters a part of a compound has at least: three if the file doesn't say, and never none
+abbrev pub compound_min_said : Option ℕ → ℕ
+compound_min_said number = max 1 (unwrap_or number 3)
+
+-- the switches and the numbers
 abbrev pub options_said : List DirectiveLine → Options
 options_said rows = record {
   full_strip = is_said (lines_of Directive.FullStrip rows);
   forbid_warn = is_said (lines_of Directive.ForbidWarn rows);
+  more_suffixes = is_said (lines_of Directive.CompoundMoreSuffixes rows);
+  check_dup = is_said (lines_of Directive.CheckCompoundDuplicates rows);
+  check_case = is_said (lines_of Directive.CheckCompoundCase rows);
+  check_triple = is_said (lines_of Directive.CheckCompoundTriple rows);
+  check_rep = is_said (lines_of Directive.CheckCompoundReplacements rows);
+  compound_min = compound_min_said (number_said (lines_of Directive.CompoundMinimum rows));
+  word_max = number_said (lines_of Directive.CompoundWordMaximum rows);
 }
 
 -- the characters of a text that may be there
@@ -72,7 +93,10 @@ affixes_said kind aliases rows = record {
   ignore = ignored_said rows;
   wordchars = characters_said (value_said (lines_of Directive.WordCharacters rows));
   iconv = conversions_said (lines_of Directive.InputConversion rows);
+  reps = reps_said (lines_of Directive.Replacement rows);
   breaks = breaks_said (lines_of Directive.Break rows);
+  joints = joints_said kind (lines_of Directive.CheckCompoundPattern rows);
+  patterns = patterns_said kind (lines_of Directive.CompoundRule rows);
 }
 
 -- what a file without faults says

@@ -3,5 +3,7 @@ pub mod ClassLines
 pub mod ClassMembers
 pub mod ClassRules
 pub mod Classes
+pub mod CompoundRules
+pub mod CompoundTables
 pub mod Grammar
 pub mod Tables

@@ -4,7 +4,7 @@ ghost use Rattle.std.specs.Prelude.{◌≡◌, All, IfOk, IfSome};
 ghost use Rattle.std.specs.Option.{option_copied};
 ghost use Rattle.spell_types.specs.Flags.{IsOrdinary, AreOrdinary};
 ghost use Rattle.spell_types.specs.Sanity.{IsOrdinaryRule};
-ghost use Rattle.aff_reader.specs.ClassRules.{unless_zero, carried_of, asked_of, rule_of, rule_without};
+ghost use Rattle.aff_reader.specs.ClassRules.{is_zero, unless_zero, carried_of, asked_of, rule_of, rule_without};
 
 use crate::class_lines::{Class, Crossing, field_of};
 use aff_lines::{AffWhy, DirectiveLine};
@@ -63,11 +63,18 @@ pub(crate) fn without_ignored(alloc: Global, ignore: &[char], rule: Rule) -> Res
     })
 }
 
+/// Whether a text is `0`.
+pub(crate) fn is_zero(characters: &[char]) -> bool
+    ensures { result ≡ is_zero characters.now }
+{
+    characters == ['0'].as_slice()
+}
+
 /// The characters that a text stands for: `0` is nothing.
-fn unless_zero(alloc: Global, characters: Chars) -> Chars
+pub(crate) fn unless_zero(alloc: Global, characters: Chars) -> Chars
     ensures { result ≡ unless_zero characters }
 {
-    if characters.as_slice() == ['0'].as_slice() {
+    if is_zero(&characters) {
         Items::new(alloc)
     } else {
         characters

@@ -1,20 +1,22 @@
 //! Reads the .aff file of a dictionary: its options, by the rules of hunspell(5), or its first fault.
 #![tactic(auto)]
 
-ghost use Rattle.std.specs.Prelude.{◌≡◌, ◌≤◌, All, None, length, IfOk, IfErr, IfSome};
+ghost use Rattle.std.specs.Prelude.{◌≡◌, ◌≤◌, ◌<◌, All, None, length, IfOk, IfErr, IfSome};
 ghost use Rattle.std.specs.Option.{option_copied};
 ghost use Rattle.spell_types.specs.Flags.{AreOrdinary};
 ghost use Rattle.spell_types.specs.Sanity.{AreSaneAffixes, AreOrdinarySigns, HasOrdinaryFlags};
 ghost use Rattle.aff_lines.specs.Faults.{least_of};
 ghost use Rattle.aff_reader.specs.Classes.{rule_limit, class_faults};
-ghost use Rattle.aff_reader.specs.Grammar.{AffReads, AffRefuses, IsRead, aff_read, late_faults, affixes_said, signs_said, options_said, characters_said};
+ghost use Rattle.aff_reader.specs.Grammar.{AffReads, AffRefuses, IsRead, aff_read, late_faults, affixes_said, signs_said, compound_min_said, options_said, characters_said};
 
 use aff_lines::{
     AffFault, Directive, DirectiveLine, Directives, Fault, Pass, earliest_faults, find_fault,
-    first_faults_are_least, flag_said, is_said, read_directives, sooner, value_said,
+    first_faults_are_least, flag_said, is_said, number_said, read_directives, sooner, value_said,
 };
 pub use classes::classes_have_their_rules;
 use classes::{class_fault, read_rules};
+use compound_rules::{pattern_fault, read_patterns};
+use compound_tables::{read_joints, read_reps};
 use lists::{Items, NoMemory};
 use spell_types::{Affixes, Chars, FlagKind, FlagSet, Options, Signs, alias_sets, chars_of};
 use std::alloc::Global;
@@ -24,7 +26,12 @@ mod anchored_texts;
 mod class_lines;
 mod class_rules;
 mod classes;
+mod compound_rules;
+mod compound_tables;
 mod tables;
+
+/// How many characters a part of a compound has at least where the file doesn't say.
+const PART_LENGTH: u32 = 3;
 
 /// Reads the file, or tells its first fault. Faults are looked for in four passes: the encoding, with lines
 /// that are not UTF-8; the type of flags; the flag aliases; all other options. The first pass that has a fault
@@ -76,8 +83,10 @@ fn late_fault(
     ensures classes { IfOk result (λ fault. fault ≡ None → least_of (class_faults kind (option_copied aliases.entry) rows.now) ≡ None) }
 {
     earliest_faults();
-    let fault = class_fault(alloc, kind, aliases, rows)?;
-    Ok(sooner(find_fault(kind, rows, Pass::Fourth), fault))
+    let rules = pattern_fault(alloc, kind, rows)?;
+    let classes = class_fault(alloc, kind, aliases, rows)?;
+    let options = find_fault(kind, rows, Pass::Fourth);
+    Ok(sooner(options, sooner(rules, classes)))
 }
 
 /// What rows without faults say.
@@ -104,7 +113,10 @@ fn read_affixes(
         ignore,
         wordchars: characters_of(alloc, value_said(Directive::WordCharacters, rows))?,
         iconv: read_conversions(alloc, rows)?,
+        reps: read_reps(alloc, rows)?,
         breaks: read_breaks(alloc, rows)?,
+        joints: read_joints(alloc, kind, rows)?,
+        patterns: read_patterns(alloc, kind, rows)?,
     })
 }
 
@@ -119,18 +131,42 @@ fn signs_of(kind: FlagKind, rows: &[DirectiveLine]) -> Signs
         forbidden: flag_said(kind, Directive::ForbiddenWord, rows),
         keep_case: flag_said(kind, Directive::KeepCase, rows),
         warn: flag_said(kind, Directive::Warn, rows),
+        compound: flag_said(kind, Directive::CompoundFlag, rows),
+        begin: flag_said(kind, Directive::CompoundBegin, rows),
+        middle: flag_said(kind, Directive::CompoundMiddle, rows),
+        last: flag_said(kind, Directive::CompoundLast, rows),
+        permit: flag_said(kind, Directive::CompoundPermitFlag, rows),
+        forbid: flag_said(kind, Directive::CompoundForbidFlag, rows),
         only_inside: flag_said(kind, Directive::OnlyInCompound, rows),
+        force_upper: flag_said(kind, Directive::ForceUpperCase, rows),
     }
 }
 
-/// The switches.
+/// The switches and the numbers.
 fn options_of(rows: &[DirectiveLine]) -> Options
-    ensures { result ≡ options_said rows.now }
+    ensures options { result ≡ options_said rows.now }
+    ensures some { 0 < result.compound_min }
 {
     Options {
         full_strip: is_said(Directive::FullStrip, rows),
         forbid_warn: is_said(Directive::ForbidWarn, rows),
+        more_suffixes: is_said(Directive::CompoundMoreSuffixes, rows),
+        check_dup: is_said(Directive::CheckCompoundDuplicates, rows),
+        check_case: is_said(Directive::CheckCompoundCase, rows),
+        check_triple: is_said(Directive::CheckCompoundTriple, rows),
+        check_rep: is_said(Directive::CheckCompoundReplacements, rows),
+        compound_min: compound_min_of(number_said(Directive::CompoundMinimum, rows)),
+        word_max: number_said(Directive::CompoundWordMaximum, rows),
     }
+}
+
+/// How many characters a part of a compound has at least, by the number that the file has: three if it has none,
+/// and never none.
+fn compound_min_of(number: Option<u32>) -> u32
+    ensures number { result ≡ compound_min_said number }
+    ensures some { 0 < result }
+{
+    number.unwrap_or(PART_LENGTH).max(1)
 }
 
 /// The characters of a text that may be there.

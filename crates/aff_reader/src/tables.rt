@@ -113,7 +113,11 @@ fn default_breaks(alloc: Global) -> Result<Items<Anchored>, NoMemory>
 }
 
 /// The characters of a field of a row, if it is there. A field is never empty.
-fn text_at(alloc: Global, row: &DirectiveLine, k: usize) -> Result<Option<Chars>, NoMemory>
+pub(crate) fn text_at(
+    alloc: Global,
+    row: &DirectiveLine,
+    k: usize,
+) -> Result<Option<Chars>, NoMemory>
     ensures value { IfOk result (λ text. text ≡ text_at row.now k) }
     ensures some { IfOk result (λ text. (own : List ℕ) → text ≡ Some own → 0 < length own) }
 {

@@ -224,7 +224,7 @@ fn stops_in_order(rt: HostRuntime) -> Result<(), Fail> {
         &rt,
         alloc,
         &words,
-        &[("a", b"COMPOUNDFLAG K\n")],
+        &[("a", b"SIMPLIFIEDTRIPLE\n")],
         "aff 1 LeftOut\n",
         3,
     )?;

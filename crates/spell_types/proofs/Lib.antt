@@ -1,2 +1,4 @@
+pub mod CompoundLemmas
 pub mod FlagLemmas
 pub mod PatternLemmas
+pub mod ReplacementLemmas

@@ -99,6 +99,18 @@ has_entry_with flag lexicon d = holds_of (λ n. has n.entry.flags flag) (named l
 unfoldable pub has_affix_with : Option Flag → Lexicon → Derivation → Bool
 has_affix_with flag lexicon d = holds_of (some_affix_carries flag) (named lexicon d)
 
+-- whether the entry or an affix of the derivation carries the flag
+unfoldable pub has_some_with : Option Flag → Lexicon → Derivation → Bool
+has_some_with flag lexicon d = holds_of (some_carry flag) (named lexicon d)
+
+-- whether the derivation has a prefix that does not carry the flag
+unfoldable pub has_prefix_without : Option Flag → Lexicon → Derivation → Bool
+has_prefix_without flag lexicon d = holds_of (λ n. is_affix_without flag n.prefix) (named lexicon d)
+
+-- whether it has a suffix that does not
+unfoldable pub has_suffix_without : Option Flag → Lexicon → Derivation → Bool
+has_suffix_without flag lexicon d = holds_of (λ n. is_affix_without flag n.first || is_affix_without flag n.second) (named lexicon d)
+
 -- who allows which affix
 unfoldable pub is_licensed : Lexicon → Derivation → Bool
 is_licensed lexicon d = holds_of is_allowed (named lexicon d)

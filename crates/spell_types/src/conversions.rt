@@ -1,5 +1,5 @@
-//! What a dictionary converts in its input.
-use crate::Chars;
+//! What a dictionary converts in its input, and what it takes for misspelled.
+use crate::{Anchored, Chars};
 use lists::{Copied, NoMemory};
 use std::alloc::Global;
 
@@ -11,9 +11,25 @@ pub struct Conversion {
     pub to: Chars,
 }
 
+/// A common misspelling, `from`, of `to`: a row of the option REP of hunspell(5).
+#[derive(Debug, Drop)]
+pub struct Rep {
+    pub from: Anchored,
+    pub to: Chars,
+}
+
 impl Copied for Conversion {
     fn copy(&self, alloc: Global) -> Result<Conversion, NoMemory> {
         Ok(Conversion {
+            from: self.from.copy(alloc)?,
+            to: self.to.copy(alloc)?,
+        })
+    }
+}
+
+impl Copied for Rep {
+    fn copy(&self, alloc: Global) -> Result<Rep, NoMemory> {
+        Ok(Rep {
             from: self.from.copy(alloc)?,
             to: self.to.copy(alloc)?,
         })

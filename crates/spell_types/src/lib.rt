@@ -3,14 +3,15 @@
 
 ghost use Rattle.std.specs.Prelude.{◌≡◌};
 ghost use Rattle.std.specs.Option.{option_copied};
-ghost use Rattle.spell_types.specs.Empty.{SaysNothing};
 
 mod attaching;
 mod breaks;
 mod conversions;
 mod derivations;
 mod flags;
+mod joints;
 mod licences;
+mod parts;
 mod patterns;
 mod rules;
 mod signs;
@@ -18,13 +19,16 @@ mod texts;
 
 pub use attaching::{attach, joined, matches_back, matches_front};
 pub use breaks::Anchored;
-pub use conversions::Conversion;
+pub use conversions::{Conversion, Rep};
 pub use derivations::{Derivation, form};
 pub use flags::{Flag, FlagKind, FlagSet, has, sets_have_their_flags};
+pub use joints::JointPattern;
 pub use licences::{
-    alone, alone_in_case, forbidden, has_affix_with, has_entry_with, licensed, sound,
+    alone, alone_in_case, entry_flags, forbidden, has_affix_with, has_entry_with,
+    has_prefix_without, has_some_with, has_suffix_without, is_entry_word, licensed, sound,
 };
 use lists::{Copied, Items, NoMemory};
+pub use parts::{Part, Place, compounds_have_parts};
 pub use patterns::{Pattern, PatternStep, Times, patterns_match};
 pub use rules::{Condition, Piece, Rule, Side};
 pub use signs::{Options, Signs};
@@ -63,28 +67,14 @@ pub struct Affixes {
     pub wordchars: Chars,
     /// The conversions of input: the option ICONV of hunspell(5).
     pub iconv: Items<Conversion>,
+    /// Common misspellings: the option REP of hunspell(5).
+    pub reps: Items<Rep>,
     /// Where words may be broken: the option BREAK of hunspell(5).
     pub breaks: Items<Anchored>,
-}
-
-impl Affixes {
-    /// No rule, no sign, no option and no table, where flags are written so. The .aff file that says nothing has break
-    /// points beside.
-    pub fn none(alloc: Global, kind: FlagKind) -> Affixes
-        ensures { SaysNothing kind result }
-    {
-        Affixes {
-            kind,
-            aliases: None,
-            rules: Items::new(alloc),
-            signs: Signs::default(),
-            options: Options::default(),
-            ignore: Items::new(alloc),
-            wordchars: Items::new(alloc),
-            iconv: Items::new(alloc),
-            breaks: Items::new(alloc),
-        }
-    }
+    /// The parts of compounds that may not meet: the option CHECKCOMPOUNDPATTERN of hunspell(5).
+    pub joints: Items<JointPattern>,
+    /// The compound rules: the option COMPOUNDRULE of hunspell(5).
+    pub patterns: Items<Pattern>,
 }
 
 /// The sets that ordinals stand for, if a file has aliases.

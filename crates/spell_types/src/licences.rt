@@ -1,10 +1,11 @@
 //! Which derivations are licensed, sound, words that stand alone, and forbidden.
 
-ghost use Rattle.std.specs.Prelude.{◌≡◌};
-ghost use Rattle.std.specs.Option.{option_map};
+ghost use Rattle.std.specs.Prelude.{◌≡◌, []};
+ghost use Rattle.std.specs.Option.{option_map, option_map_or};
 ghost use Rattle.spell_types.specs.Bases.{is_alone_in_case};
+ghost use Rattle.spell_types.specs.EntriesOf.{entry_flags, is_entry_word};
 ghost use Rattle.spell_types.specs.Flags.{has};
-ghost use Rattle.spell_types.specs.Licences.{carried_by, allows, crosses, is_affix_without, has_affix, meets_need, meets_circumfix, some_affix_carries, some_carry, has_entry_with, has_affix_with, is_first_allowed, is_second_allowed, is_prefix_allowed, is_crossing_right, is_allowed, meets_signs, may_stand_alone, is_licensed, is_sound, is_alone, is_forbidden};
+ghost use Rattle.spell_types.specs.Licences.{has_some_with, has_prefix_without, has_suffix_without, carried_by, allows, crosses, is_affix_without, has_affix, meets_need, meets_circumfix, some_affix_carries, some_carry, has_entry_with, has_affix_with, is_first_allowed, is_second_allowed, is_prefix_allowed, is_crossing_right, is_allowed, meets_signs, may_stand_alone, is_licensed, is_sound, is_alone, is_forbidden};
 
 use crate::derivations::{Named, named_by};
 use crate::{Affixes, Derivation, Flag, FlagSet, Lexicon, Rule, Signs, has};
@@ -72,6 +73,57 @@ pub fn has_affix_with(flag: Option<Flag>, lexicon: &Lexicon, d: &Derivation) -> 
     match named_by(lexicon, d) {
         None => false,
         Some(n) => some_affix_carries(flag, &n),
+    }
+}
+
+/// Whether a derivation's entry or an affix of it carries the flag, if it is given.
+#[tactic(auto, unfolding(crate::specs::Licences::has_some_with))]
+pub fn has_some_with(flag: Option<Flag>, lexicon: &Lexicon, d: &Derivation) -> bool
+    ensures { result ≡ has_some_with flag lexicon.now d.now }
+{
+    match named_by(lexicon, d) {
+        None => false,
+        Some(n) => some_carry(flag, &n),
+    }
+}
+
+/// Whether a derivation has a prefix that does not carry the flag. A flag that is not given is carried by none.
+#[tactic(auto, unfolding(crate::specs::Licences::has_prefix_without))]
+pub fn has_prefix_without(flag: Option<Flag>, lexicon: &Lexicon, d: &Derivation) -> bool
+    ensures { result ≡ has_prefix_without flag lexicon.now d.now }
+{
+    match named_by(lexicon, d) {
+        None => false,
+        Some(n) => is_affix_without(flag, n.prefix),
+    }
+}
+
+/// Whether a derivation has a suffix that does not carry the flag. A flag that is not given is carried by none.
+#[tactic(auto, unfolding(crate::specs::Licences::has_suffix_without))]
+pub fn has_suffix_without(flag: Option<Flag>, lexicon: &Lexicon, d: &Derivation) -> bool
+    ensures { result ≡ has_suffix_without flag lexicon.now d.now }
+{
+    match named_by(lexicon, d) {
+        None => false,
+        Some(n) => is_affix_without(flag, n.first) || is_affix_without(flag, n.second),
+    }
+}
+
+/// The flags of a derivation's entry. None where the derivation names no entry.
+pub fn entry_flags<'a>(lexicon: &'a Lexicon, d: &Derivation) -> Option<&'a FlagSet>
+    ensures { option_map_or (λ set. set.now) result [] ≡ entry_flags lexicon.now d.now }
+{
+    let entry = lexicon.entries.get(d.entry as usize)?;
+    Some(&entry.flags)
+}
+
+/// Whether a text is the word of a derivation's entry, as it is.
+pub fn is_entry_word(lexicon: &Lexicon, text: &[char], d: &Derivation) -> bool
+    ensures { result ≡ is_entry_word lexicon.now text.now d.now }
+{
+    match lexicon.entries.get(d.entry as usize) {
+        None => false,
+        Some(entry) => entry.word.as_slice() == text,
     }
 }
 

@@ -171,6 +171,192 @@ fn reads_options_and_tables(rt: HostRuntime) -> Result<(), Fail> {
     Ok(())
 }
 
+/// Flags, numbers and switches of compounds.
+const COMPOUNDING: &str = "# Flags of parts, under both names of the last one.
+aff COMPOUNDFLAG X
+dic 3|foo/X|bar/X|baz
+text foobar barfoo foofoobar foobaz
+1 1 24 30 foobaz|1 of 4
+
+aff COMPOUNDBEGIN B|COMPOUNDMIDDLE M|COMPOUNDLAST L
+dic 3|foo/B|bar/M|baz/L
+text foobaz foobarbaz foobar barbaz bazfoo
+1 1 17 23 foobar|1 24 30 barbaz|1 31 37 bazfoo|3 of 5
+aff FLAG num|COMPOUNDEND 65000|COMPOUNDMIDDLE 2|COMPOUNDBEGIN 1
+dic 3|foo/1|bar/2|baz/65000
+1 1 17 23 foobar|1 24 30 barbaz|1 31 37 bazfoo|3 of 5
+
+# Flags of affixes.
+aff COMPOUNDFLAG X|COMPOUNDPERMITFLAG P|SFX S Y 1|SFX S 0 s/P
+dic 2|foo/XS|bar/X
+text foosbar barfoos
+0 0 of 2
+aff COMPOUNDFLAG X|SFX S Y 1|SFX S 0 s/P
+1 1 0 7 foosbar|1 of 2
+aff COMPOUNDFLAG X|COMPOUNDFORBIDFLAG P|SFX S Y 1|SFX S 0 s/P
+1 1 0 7 foosbar|1 8 15 barfoos|2 of 2
+
+aff FORCEUCASE U|COMPOUNDFLAG X
+dic 2|foo/X|straat/XU
+text foostraat Foostraat
+1 1 0 9 foostraat|1 of 2
+
+# The least length of a part: three, or a number, and never none.
+aff COMPOUNDFLAG X
+dic 3|a/X|ab/X|abc/X
+text aa abab abcabc
+1 1 0 2 aa|1 3 7 abab|2 of 3
+aff COMPOUNDFLAG X|COMPOUNDMIN 2
+1 1 0 2 aa|1 of 3
+aff COMPOUNDFLAG X|COMPOUNDMIN 001 more
+0 0 of 3
+aff COMPOUNDFLAG X|COMPOUNDMIN 0
+0 0 of 3
+aff COMPOUNDFLAG X|COMPOUNDMIN 4
+1 1 0 2 aa|1 3 7 abab|1 8 14 abcabc|3 of 3
+aff COMPOUNDFLAG X|COMPOUNDMIN 4294967295
+1 1 0 2 aa|1 3 7 abab|1 8 14 abcabc|3 of 3
+
+# How many parts there may be.
+aff COMPOUNDFLAG X|COMPOUNDWORDMAX 2
+dic 2|foo/X|bar/X
+text foobar foobarfoo
+1 1 7 16 foobarfoo|1 of 2
+aff COMPOUNDFLAG X|COMPOUNDWORDMAX 3
+0 0 of 2
+aff COMPOUNDFLAG X|COMPOUNDWORDMAX 4294967295
+0 0 of 2
+aff COMPOUNDFLAG X|COMPOUNDWORDMAX 0
+1 1 0 6 foobar|1 7 16 foobarfoo|2 of 2
+
+# Switches, each with and without it.
+aff COMPOUNDMORESUFFIXES|COMPOUNDFLAG X|COMPOUNDPERMITFLAG P|SFX S Y 1|SFX S 0 s/PT|SFX T Y 1|SFX T 0 t/P
+dic 2|foo/XS|bar/X
+text foostbar barfoost
+0 0 of 2
+aff COMPOUNDFLAG X|COMPOUNDPERMITFLAG P|SFX S Y 1|SFX S 0 s/PT|SFX T Y 1|SFX T 0 t/P
+1 1 0 8 foostbar|1 of 2
+
+aff CHECKCOMPOUNDDUP|COMPOUNDFLAG X
+dic 4|foo/X|bar/X|Baz/X|oxen/X
+text foofoo barfoo fooBaz foooxen
+1 1 0 6 foofoo|1 of 4
+aff CHECKCOMPOUNDCASE x|COMPOUNDFLAG X
+1 1 14 20 fooBaz|1 of 4
+aff CHECKCOMPOUNDTRIPLE|COMPOUNDFLAG X|CHECKCOMPOUNDTRIPLE
+1 1 21 28 foooxen|1 of 4
+aff COMPOUNDFLAG X
+0 0 of 4";
+
+/// The tables of compounds.
+const COMPOUND_TABLES: &str =
+    "# REP, which is looked at for compounds if a switch says so: anchors, and an underscore that is a space.
+aff COMPOUNDFLAG X|CHECKCOMPOUNDREP|REP 2|REP ^foo fu|REP bar$ ber
+dic 5|foo/X|bar/X|qux/X|fubar|barfu
+text foobar barfoo quxbar
+1 1 0 6 foobar|1 of 3
+aff COMPOUNDFLAG X|REP 2|REP ^foo fu|REP bar$ ber
+0 0 of 3
+
+aff COMPOUNDFLAG X|CHECKCOMPOUNDREP|REP 1|REP oo u_ more
+dic 3|foo/X|bar/X|fu bar
+text foobar
+1 1 0 6 foobar|1 of 1
+
+aff WORDCHARS _|COMPOUNDFLAG X|CHECKCOMPOUNDREP|REP 2|REP _ x|REP _$ x
+dic 4|foo_/X|bar_/X|fooxbar_|foo_barx
+text foo_bar_
+0 0 of 1
+
+# Nothing is ignored in it.
+aff IGNORE -|COMPOUNDFLAG X|CHECKCOMPOUNDREP|REP 1|REP -o u
+dic 3|foo/X|bar/X|foubar
+text foobar
+0 0 of 1
+
+# Parts that may not meet, by their texts.
+aff COMPOUNDFLAG X|CHECKCOMPOUNDPATTERN 1|REP 1|CHECKCOMPOUNDPATTERN oo ba|REP a b
+dic 3|foo/X|bar/X|qux/X
+text foobar barfoo fooqux quxbar
+1 1 0 6 foobar|1 of 4
+
+# By their flags, of which one may be wanting.
+aff COMPOUNDFLAG X|CHECKCOMPOUNDPATTERN 1|CHECKCOMPOUNDPATTERN oo/A ba/B
+dic 4|foo/XA|bar/XB|bat/X|boo/X
+text foobar foobat boobar boobat
+1 1 0 6 foobar|1 of 4
+aff COMPOUNDFLAG X|CHECKCOMPOUNDPATTERN 1|CHECKCOMPOUNDPATTERN oo ba/B
+1 1 0 6 foobar|1 14 20 boobar|2 of 4
+aff COMPOUNDFLAG X|CHECKCOMPOUNDPATTERN 2|CHECKCOMPOUNDPATTERN /A ba|CHECKCOMPOUNDPATTERN boo /B
+1 1 0 6 foobar|1 7 13 foobat|1 14 20 boobar|3 of 4
+aff COMPOUNDFLAG X|CHECKCOMPOUNDPATTERN 1|CHECKCOMPOUNDPATTERN /A /B
+1 1 0 6 foobar|1 of 4
+
+aff FLAG num|COMPOUNDFLAG 1|CHECKCOMPOUNDPATTERN 1|CHECKCOMPOUNDPATTERN oo/65000 ba/20
+dic 3|foo/1,65000|bar/1,20|bat/1,2
+text foobar foobat
+1 1 0 6 foobar|1 of 2
+
+aff AF 2|AF XA|AF X|COMPOUNDFLAG X|CHECKCOMPOUNDPATTERN 1|CHECKCOMPOUNDPATTERN oo/A ba
+dic 3|foo/1|bar/2|boo/2
+text foobar boobar
+1 1 0 6 foobar|1 of 2
+
+# A zero on the left is the entry's word as it is, and on the right a zero.
+aff COMPOUNDFLAG X|COMPOUNDPERMITFLAG P|SFX S Y 1|SFX S 0 s/P|CHECKCOMPOUNDPATTERN 1|CHECKCOMPOUNDPATTERN 0 ba
+dic 3|foo/XS|bar/X|qux/X
+text foobar foosbar fooqux
+1 1 0 6 foobar|1 of 3
+
+aff COMPOUNDFLAG X|CHECKCOMPOUNDPATTERN 1|CHECKCOMPOUNDPATTERN 0/A ba
+dic 3|foo/XA|qux/X|bar/X
+text foobar quxbar
+1 1 0 6 foobar|1 of 2
+
+aff WORDCHARS 0|COMPOUNDFLAG X|CHECKCOMPOUNDPATTERN 2|CHECKCOMPOUNDPATTERN oo 0|CHECKCOMPOUNDPATTERN 00 ba
+dic 4|foo/X|0ab/X|bar/X|ab0/X
+text foo0ab foobar ab0bar
+1 1 0 6 foo0ab|1 of 3
+
+# The first slash parts a text, whatever stands before it.
+aff WORDCHARS \\|COMPOUNDFLAG X|CHECKCOMPOUNDPATTERN 1|CHECKCOMPOUNDPATTERN oo \\/B
+dic 3|foo/X|\\ab/XB|bar/XB
+text foo\\ab foobar
+1 1 0 6 foo\\ab|1 of 2
+
+# Compound rules, between other lines.
+aff COMPOUNDRULE 2|COMPOUNDRULE ab*c?|TRY x|COMPOUNDRULE (d)(d) # two
+dic 4|foo/a|bar/b|baz/c|qux/d
+text foobar foobarbar foobaz foobarbaz barfoo quxqux quxquxqux
+1 1 34 40 barfoo|1 48 57 quxquxqux|2 of 7
+
+aff FLAG long|COMPOUNDRULE 1|COMPOUNDRULE (aa)(bb)*
+dic 2|foo/aa|bar/bb
+text foobar foobarbar barfoo
+1 1 17 23 barfoo|1 of 3
+
+aff FLAG num|COMPOUNDRULE 1|COMPOUNDRULE (1001)(7)?(5)
+dic 3|foo/1001|bar/7|baz/5
+text foobaz foobarbaz foobarbarbaz
+1 1 17 29 foobarbarbaz|1 of 3
+
+aff AF 1|AF ab|COMPOUNDRULE 1|COMPOUNDRULE a(1)
+dic 2|foo/1|bar/1
+text foobar
+1 1 0 6 foobar|1 of 1
+
+aff COMPOUNDRULE 0
+dic 2|foo/a|bar/b
+text foobar
+1 1 0 6 foobar|1 of 1";
+
+#[test]
+fn reads_options_and_tables_of_compounds(rt: HostRuntime) -> Result<(), Fail> {
+    assert_table(&rt, rt.alloc(), COMPOUNDING, 23)?;
+    assert_table(&rt, rt.alloc(), COMPOUND_TABLES, 21)?;
+    Ok(())
+}
+
 /// The lines of affix classes.
 const CLASSES: &str = "# A class without rules.
 aff PFX A Y 0

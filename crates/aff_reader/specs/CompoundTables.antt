@@ -1,0 +1,56 @@
+-- What the tables of an .aff file say of compounds.
+use Rattle.std.specs.Prelude.{ℕ, ◌==◌, List, [], map, unwrap_or, Option, None, Some, if◌then◌else◌}
+use Rattle.std.specs.List.{filter_map}
+use Rattle.std.specs.Str.{chars}
+use Rattle.spell_types.specs.declared.conversions.Rep.{Rep}
+use Rattle.spell_types.specs.declared.flags.FlagKind.{FlagKind}
+use Rattle.spell_types.specs.declared.joints.JointPattern.{JointPattern}
+use Rattle.aff_lines.specs.declared.rows.DirectiveLine.{DirectiveLine}
+use Rattle.aff_lines.specs.FlaggedTexts.{bare_text, flag_behind}
+use Rattle.aff_lines.specs.Passes.{table_rows}
+use Rattle.aff_reader.specs.AnchoredTexts.{anchored_of}
+use Rattle.aff_reader.specs.ClassLines.{field_of}
+use Rattle.aff_reader.specs.ClassRules.{is_zero, unless_zero}
+use Rattle.aff_reader.specs.Tables.{text_at}
+
+-- what a character of a text of REP stands for: an underscore is a space there
+abbrev pub meant_by : ℕ → ℕ
+meant_by c = if c == 95 then 32 else c
+
+abbrev pub spaced : List ℕ → List ℕ
+spaced text = map meant_by text
+
+abbrev pub rep_of : Option (List ℕ) → Option (List ℕ) → Option Rep
+rep_of (Some from) (Some to) = Some (record { from = anchored_of (spaced from); to = spaced to })
+rep_of _ _ = None
+
+-- the misspelling that a row of REP says
+abbrev pub rep_in : DirectiveLine → Option Rep
+rep_in row = rep_of (text_at row 1) (text_at row 2)
+
+-- the misspellings that the lines of REP list, in their order
+abbrev pub reps_said : List DirectiveLine → List Rep
+reps_said own = filter_map rep_in (unwrap_or (table_rows own) [])
+
+-- Two parts that may not meet, by what is written for the left and for the right one. Only of the left one `0` is the word as
+-- it is.
+abbrev pub joint_with : FlagKind → List ℕ → List ℕ → JointPattern
+joint_with kind left right = record {
+  end = unless_zero (chars (bare_text left));
+  unmodified = is_zero (chars (bare_text left));
+  end_flag = flag_behind kind left;
+  begin = chars (bare_text right);
+  begin_flag = flag_behind kind right;
+}
+
+abbrev pub joint_of : FlagKind → Option (List ℕ) → Option (List ℕ) → Option JointPattern
+joint_of kind (Some left) (Some right) = Some (joint_with kind left right)
+joint_of kind _ _ = None
+
+-- the two parts that a row of CHECKCOMPOUNDPATTERN says
+abbrev pub joint_in : FlagKind → DirectiveLine → Option JointPattern
+joint_in kind row = joint_of kind (field_of row 1) (field_of row 2)
+
+-- those that the lines of CHECKCOMPOUNDPATTERN list, in their order
+abbrev pub joints_said : FlagKind → List DirectiveLine → List JointPattern
+joints_said kind own = filter_map (joint_in kind) (unwrap_or (table_rows own) [])
