@@ -1,5 +1,5 @@
 -- Characters that are ignored, in any order, and words without them.
-use Rattle.std.proofs.Common.{◌≡◌, ◌∙◌, ◌⊎◌, inl, inr, refl, sym, ap, ℕ, zero, suc, ◌<◌, ◌≤◌, Bool, true, false, cond, not, ◌&&◌, ◌||◌, ◌==◌, List, [], ◌∷◌, length, filter, get_or, nat_eq, IsPermutation, Result, Ok, Err, arith}
+use Rattle.std.proofs.Common.{◌≡◌, ◌∙◌, ◌⊎◌, inl, inr, refl, sym, ap, ℕ, zero, suc, ◌<◌, ◌≤◌, Bool, true, false, cond, not, ◌&&◌, ◌||◌, ◌==◌, List, [], ◌∷◌, length, get_or, IsPermutation, Result, Ok, Err, arith}
 use Rattle.std.specs.List.{list_all, list_any}
 use Rattle.std.specs.Result.{MatchResult, is_err}
 use Rattle.std.proofs.lemmas.Bool.{and_parts, cases_lt}

@@ -3,3 +3,4 @@ pub mod Best
 pub mod Patterns
 pub mod Rows
 pub mod Ignoring
+pub mod Variants

@@ -1,7 +1,6 @@
 -- The row of the best pattern is the best fitting row of the table.
-use Rattle.std.proofs.Common.{◌≡◌, ◌∙◌, ◌⊎◌, inl, inr, refl, sym, ap, subst, ℕ, zero, suc, ◌+◌, ◌<◌, ◌≤◌, true, ◌&&◌, List, [], ◌∷◌, ◌++◌, length, take, map, nat_eq, nat_lt, slice_get, get_or, Contains, MatchOption, IsTrue, Bor, Option, None, Some, length-append, arith}
-use Rattle.std.specs.Cmp.Lexicographic.{pointwise}
-use Rattle.std.specs.List.{All, AllByRecursion, HoldsAt}
+use Rattle.std.proofs.Common.{◌≡◌, ◌∙◌, ◌⊎◌, inl, inr, refl, sym, ap, subst, ℕ, zero, suc, ◌<◌, ◌≤◌, true, List, [], ◌∷◌, ◌++◌, length, take, map, nat_lt, slice_get, Contains, MatchOption, IsTrue, Bor, Option, None, Some, arith}
+use Rattle.std.specs.List.{AllByRecursion, HoldsAt}
 use Rattle.std.specs.Option.{option_copied, option_map}
 use Rattle.std.proofs.lemmas.Bool.{and_parts, and_from, cases_order, lt-ltb, ltb-true}
 use Rattle.std.proofs.lemmas.List.{length-take}
@@ -9,7 +8,7 @@ use Rattle.std.proofs.lemmas.List.Elements.{All-contains}
 use Rattle.std.proofs.lemmas.Option.{slice_get-map, slice_get-get_or, slice_get_past, slice_get_read, slice_get_within, get_or_from_slice_get}
 use Rattle.std.proofs.lemmas.Slice.Eq.{bytes_eq-Decides}
 use Rattle.spell_types.specs.declared.conversions.Conversion.{Conversion}
-use Rattle.spell_types.specs.Conversions.{fits, best_fit, IsBestFit, NoneFits}
+use Rattle.spell_types.specs.Conversions.{fits, best_fit, IsBestFit}
 use Rattle.conversions.specs.Patterns.{Pattern, IsPatternOf, ArePatternsOf, FitsUpTo, IsBestUpTo, BestUpTo}
 use Rattle.conversions.proofs.Best.{best_fit-is, best_fit-none}
 

@@ -1,4 +1,4 @@
-//! How a written word is converted before it is looked up.
+//! How a written word is converted before it is looked up, and what a common misspelling may stand for.
 #![tactic(auto)]
 
 ghost use Rattle.std.specs.Prelude.{◌≡◌, ℕ, List, [], ◌∷◌, ◌++◌, length, drop, Some, None, IfOk};
@@ -6,10 +6,12 @@ ghost use Rattle.spell_types.specs.Conversions.{best_fit, converted, is_kept, wi
 ghost use Rattle.spell_types.specs.declared.conversions.Conversion.{Conversion};
 
 mod ignored;
+mod replacements;
 mod table;
 
 pub use ignored::Ignored;
 use lists::{Items, NoMemory};
+pub use replacements::{rep_variants, stands_anchored, variant_at};
 use spell_types::{Chars, Conversion};
 use std::alloc::Global;
 pub use table::Conversions;

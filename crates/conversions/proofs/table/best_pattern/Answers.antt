@@ -1,5 +1,5 @@
 -- One character more is looked at.
-use Rattle.std.proofs.Common.{◌∙◌, ◌≡◌, ◌+◌, ◌<◌, ◌≤◌, sym, ap, subst, take, length, eqb-true, arith}
+use Rattle.std.proofs.Common.{◌∙◌, ◌≡◌, ◌+◌, ◌<◌, ◌≤◌, sym, subst, take, length, eqb-true, arith}
 use Rattle.std.specs.Option.{option_copied}
 use Rattle.lists.specs.TextOrder.{beginning}
 use Rattle.conversions.specs.Patterns.{BestUpTo}

@@ -1,5 +1,5 @@
 -- The row that was found fits, and what was read is its pattern.
-use Rattle.std.proofs.Common.{◌++◌, ◌∙◌, refl, sym, ap, drop, length, arith}
+use Rattle.std.proofs.Common.{◌++◌, ◌∙◌, refl, sym, ap, drop, arith}
 use Rattle.spell_types.specs.Conversions.{converted}
 use Rattle.conversions.proofs.Steps.{best_fit-reads, front_replaced, front_kept}
 use Rattle.conversions.proofs.table.convert_front.Goals as goal
