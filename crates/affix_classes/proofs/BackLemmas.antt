@@ -12,7 +12,7 @@ use Rattle.spell_types.specs.declared.rules.Side.TheVariants.{Prefix, Suffix}
 use Rattle.spell_types.specs.declared.rules.Rule.{Rule}
 use Rattle.spell_types.specs.Conditions.{fits_front, fits_back}
 use Rattle.spell_types.specs.Attaching.{may_strip, attached_suffix, attached_prefix, attached_on, attached, IsUndone}
-use Rattle.affix_classes.specs.Undoing.{undone_suffix, undone_prefix}
+use Rattle.affix_classes.specs.Undoing.{undone_suffix, undone_prefix, undone_on}
 
 -- where the old part stands at this end of a word, the new part stands there after the change, and changing back gives the word
 record IsReversible (has : List ℕ → List ℕ → Bool) (change : List ℕ → List ℕ → List ℕ → List ℕ) : Type 0 where
@@ -98,6 +98,14 @@ undone_prefix-undone full_strip rule word found side is stem =
       (λ have. by_side ∙ same.0 (sym is ∙ have)),
       (λ have. is ∙ same.1 (sym by_side ∙ have)),
     )
+
+-- and so for a rule of either side
+pub undone-leads_back : (full_strip : Bool) (rule : Rule) (word : List ℕ) → IsUndone (attached full_strip rule) word (undone_on rule.side full_strip rule word)
+undone-leads_back full_strip rule word = at rule.side refl
+  where
+    at : (side : Side) → rule.side ≡ side → IsUndone (attached full_strip rule) word (undone_on side full_strip rule word)
+    at Prefix is = undone_prefix-undone full_strip rule word (undone_prefix full_strip rule word) is refl
+    at Suffix is = undone_suffix-undone full_strip rule word (undone_suffix full_strip rule word) is refl
 
 one_found : {X : Type 0} (found : Option X) (x y : X) → found ≡ Some x → found ≡ Some y → x ≡ y
 one_found found x y one two = cc

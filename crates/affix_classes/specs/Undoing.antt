@@ -2,6 +2,8 @@
 use Rattle.std.specs.Prelude.{ℕ, ◌-◌, Bool, ◌&&◌, List, ◌++◌, length, take, drop, nat_eq, Option, None, Some, if◌then◌else◌}
 use Rattle.std.specs.List.{starts_with, ends_with}
 use Rattle.spell_types.specs.declared.rules.Rule.{Rule}
+use Rattle.spell_types.specs.declared.rules.Side.{Side}
+use Rattle.spell_types.specs.declared.rules.Side.TheVariants.{Prefix, Suffix}
 use Rattle.spell_types.specs.Conditions.{fits_front, fits_back}
 use Rattle.spell_types.specs.Attaching.{may_strip}
 
@@ -24,3 +26,8 @@ abbrev pub undone_prefix : Bool → Rule → List ℕ → Option (List ℕ)
 undone_prefix full_strip rule word =
     let stem = prefix_put_back rule word in
     if starts_with nat_eq word rule.add && (may_strip full_strip rule stem && fits_front rule.condition stem) then Some stem else None
+
+-- the word that becomes this one when the rule is attached to it, on a side
+abbrev pub undone_on : Side → Bool → Rule → List ℕ → Option (List ℕ)
+undone_on Prefix full_strip rule word = undone_prefix full_strip rule word
+undone_on Suffix full_strip rule word = undone_suffix full_strip rule word

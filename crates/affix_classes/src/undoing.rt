@@ -4,7 +4,7 @@ ghost use Rattle.std.specs.Prelude.{◌≡◌, ℕ, Bool, List, Some, IfOk};
 ghost use Rattle.spell_types.specs.declared.rules.Rule.{Rule};
 ghost use Rattle.spell_types.specs.declared.rules.Side.{Side};
 ghost use Rattle.spell_types.specs.Attaching.{attached, IsUndone};
-ghost use Rattle.affix_classes.specs.Undoing.{undone_suffix, undone_prefix};
+ghost use Rattle.affix_classes.specs.Undoing.{undone_suffix, undone_prefix, undone_on};
 
 use lists::NoMemory;
 use spell_types::{Chars, Rule, Side, joined, matches_back, matches_front};
@@ -37,6 +37,13 @@ pub fn undo_prefix(
 {
     prefix_stem(alloc, rule, full_strip, word)
 }
+
+/// What is undone on the rule's side is the one word that becomes this one when the rule is attached to it, and there is
+/// such a word exactly where one is undone.
+pub fn undoing_leads_back()
+    ensures { (full_strip : Bool) (rule : Rule) (word : List ℕ) →
+        IsUndone (attached full_strip rule) word (undone_on rule.side full_strip rule word) }
+{}
 
 /// A rule and a word leave at most one word that the rule may have been attached to.
 pub fn undoing_is_unique()

@@ -25,6 +25,7 @@ use Rattle.affix_strip.proofs.InverseLemmas.{rule_on-side}
 use Rattle.affix_strip.proofs.LicenceLemmas.{licensed-order, form-parts, IsCarrier, carrier}
 use Rattle.affix_strip.proofs.StepLemmas.{IsAffix, none-put, step-none, step-peeled}
 use Rattle.affix_strip.proofs.TableLemmas.{on-rule}
+use Rattle.affix_strip.proofs.UndoneWords.{LeadsBack}
 
 the_first : (lexicon : Lexicon) → IsAffix lexicon Suffix (λ d. d.first)
 the_first lexicon = record { right = λ d is. (licensed-order lexicon d is).first }
@@ -215,10 +216,10 @@ other-parts lexicon parts others way text same d = (
 abbrev WithFirst : List (Option ℕ) → List (Option ℕ) → Derivation → Type 0
 WithFirst prefixes seconds d = Outside prefixes seconds d × (is_some d.first ≡ true)
 
-pub firsts-passing : (lexicon : Lexicon) (prefixes seconds : List (Option ℕ)) (text : List ℕ) (endings : List Peeled) → ArePeeled lexicon.affixes.rules Suffix text endings
+pub firsts-passing : LeadsBack → (lexicon : Lexicon) (prefixes seconds : List (Option ℕ)) (text : List ℕ) (endings : List Peeled) → ArePeeled lexicon.affixes.rules Suffix text endings
     → (d : Derivation) → AtSome (FirstPeels lexicon prefixes seconds) endings d ↔ Passes lexicon (WithFirst prefixes seconds) (with_first lexicon) text d
-firsts-passing lexicon prefixes seconds text endings are =
-    step-peeled lexicon Suffix (λ d. d.first) (the_first lexicon) (stem_of lexicon) (Outside prefixes seconds) text endings are
+firsts-passing leads_back lexicon prefixes seconds text endings are =
+    step-peeled lexicon Suffix (λ d. d.first) (the_first lexicon) (stem_of lexicon) leads_back (Outside prefixes seconds) text endings are
 
 pub no-seconds : (lexicon : Lexicon) (prefixes seconds : List (Option ℕ)) (text : List ℕ) → length seconds ≡ 0 → (d : Derivation) → Passes lexicon (WithFirst prefixes seconds) (with_first lexicon) text d → ⊥
 no-seconds lexicon prefixes seconds text empty d passes = none-of seconds d.second empty passes.has.0.1
@@ -310,24 +311,24 @@ abbrev Behind : List (Option ℕ) → Derivation → Type 0
 Behind prefixes d = Contains prefixes d.prefix
 
 -- no suffix, or a first one
-pub inside-passing : (lexicon : Lexicon) (prefixes : List (Option ℕ)) (text : List ℕ) (endings : List Peeled) → ArePeeled lexicon.affixes.rules Suffix text endings
+pub inside-passing : LeadsBack → (lexicon : Lexicon) (prefixes : List (Option ℕ)) (text : List ℕ) (endings : List Peeled) → ArePeeled lexicon.affixes.rules Suffix text endings
     → (d : Derivation) → (Passes lexicon (Around prefixes None (None ∷ [])) (stem_of lexicon) text d ⊎ AtSome (FirstPeels lexicon prefixes (None ∷ [])) endings d) ↔ Passes lexicon (Outside prefixes (None ∷ [])) (with_first lexicon) text d
-inside-passing lexicon prefixes text endings are =
+inside-passing leads_back lexicon prefixes text endings are =
     one-or-other (step-none lexicon Suffix (λ d. d.first) (the_first lexicon) (stem_of lexicon) (Around prefixes None (None ∷ [])) (λ d has. has.1) text)
-    (firsts-passing lexicon prefixes (None ∷ []) text endings are)
+    (firsts-passing leads_back lexicon prefixes (None ∷ []) text endings are)
     (either lexicon (λ d. d.first) (Outside prefixes (None ∷ [])) (with_first lexicon) text)
 
 -- no second suffix, or one
-pub behind-passing : (lexicon : Lexicon) (prefixes : List (Option ℕ)) (text : List ℕ) (endings : List Peeled) → ArePeeled lexicon.affixes.rules Suffix text endings
+pub behind-passing : LeadsBack → (lexicon : Lexicon) (prefixes : List (Option ℕ)) (text : List ℕ) (endings : List Peeled) → ArePeeled lexicon.affixes.rules Suffix text endings
     → (d : Derivation) → (Passes lexicon (Outside prefixes (None ∷ [])) (with_first lexicon) text d ⊎ AtSome (OuterPeels lexicon prefixes) endings d) ↔ Passes lexicon (Behind prefixes) (with_suffixes lexicon) text d
-behind-passing lexicon prefixes text endings are =
+behind-passing leads_back lexicon prefixes text endings are =
     one-or-other
     (both-ways (other-parts lexicon (Outside prefixes (None ∷ [])) (λ d. Behind prefixes d × (d.second ≡ None)) (with_first lexicon) text (λ d. (
       λ has. (has.0, (only-none d.second).0 has.1),
       λ has. (has.0, (only-none d.second).1 has.1),
     )))
     (step-none lexicon Suffix (λ d. d.second) (the_second lexicon) (with_first lexicon) (λ d. Behind prefixes d × (d.second ≡ None)) (λ d has. has.1) text))
-    (step-peeled lexicon Suffix (λ d. d.second) (the_second lexicon) (with_first lexicon) (Behind prefixes) text endings are)
+    (step-peeled lexicon Suffix (λ d. d.second) (the_second lexicon) (with_first lexicon) leads_back (Behind prefixes) text endings are)
     (either lexicon (λ d. d.second) (Behind prefixes) (with_suffixes lexicon) text)
 
 -- without suffixes it is one of them
@@ -386,9 +387,9 @@ gives-passes lexicon text d = (
   λ gives. record { licensed = gives.0; has = tt; at = sym (form-parts lexicon d gives.0) ∙ gives.1 },
 )
 
-pub all-passing : (lexicon : Lexicon) (text : List ℕ) (fronts : List Peeled) → ArePeeled lexicon.affixes.rules Prefix text fronts
+pub all-passing : LeadsBack → (lexicon : Lexicon) (text : List ℕ) (fronts : List Peeled) → ArePeeled lexicon.affixes.rules Prefix text fronts
     → (d : Derivation) → (Passes lexicon (Behind (None ∷ [])) (with_suffixes lexicon) text d ⊎ AtSome (FrontPeels lexicon) fronts d) ↔ Gives lexicon text d
-all-passing lexicon text fronts are =
+all-passing leads_back lexicon text fronts are =
     both-ways
     (one-or-other
     (both-ways (other-parts lexicon (Behind (None ∷ [])) (λ d. Any d × (d.prefix ≡ None)) (with_suffixes lexicon) text (λ d. (
@@ -396,7 +397,7 @@ all-passing lexicon text fronts are =
       λ has. (only-none d.prefix).1 has.1,
     )))
     (step-none lexicon Prefix (λ d. d.prefix) (the_prefix lexicon) (with_suffixes lexicon) (λ d. Any d × (d.prefix ≡ None)) (λ d has. has.1) text))
-    (step-peeled lexicon Prefix (λ d. d.prefix) (the_prefix lexicon) (with_suffixes lexicon) Any text fronts are)
+    (step-peeled lexicon Prefix (λ d. d.prefix) (the_prefix lexicon) (with_suffixes lexicon) leads_back Any text fronts are)
     (either lexicon (λ d. d.prefix) Any (with_all lexicon) text))
     (gives-passes lexicon text)
 

@@ -1,5 +1,5 @@
 -- Undoing affixes is the inverse of attaching them.
-use Rattle.std.proofs.Common.{◌≡◌, ◌∙◌, ◌↔◌, refl, sym, ap, ℕ, Ok, Bool, true, List, slice_get, Option, None, Some, is_some, option_and_then, if◌then◌else◌}
+use Rattle.std.proofs.Common.{◌≡◌, ◌∙◌, ◌↔◌, refl, sym, ap, subst, ℕ, Bool, true, List, slice_get, Option, None, Some, is_some, option_and_then, if◌then◌else◌}
 use Rattle.std.proofs.lemmas.Option.{option_and_then_some, cond_some, same_Some}
 use Rattle.std.proofs.lemmas.Slice.Eq.{bytes_eq-Decides}
 use Rattle.spell_types.specs.declared.Affixes.{Affixes}
@@ -9,9 +9,8 @@ use Rattle.spell_types.specs.declared.rules.Side.TheVariants.{Prefix, Suffix}
 use Rattle.spell_types.specs.Attaching.{attached}
 use Rattle.spell_types.specs.Derivations.{is_same_side, rule_on, affix_on, is_right, with_affix}
 use Rattle.spell_types.specs.Licences.{is_word}
-use Rattle.affix_classes.specs.Undoing.{undone_suffix, undone_prefix}
-use Rattle.affix_classes.proofs.BackLemmas.{prefix-undone, suffix-undone}
-use Rattle.affix_strip.proofs.UndoneWords.{undone_by, undone_at}
+use Rattle.affix_classes.specs.Undoing.{undone_on}
+use Rattle.affix_strip.proofs.UndoneWords.{LeadsBack, undone_at}
 
 -- the second function leads back from each word that the first one gives, and from no other
 pub record IsInverse (forward back : List ℕ → Option (List ℕ)) : Type 0 where
@@ -29,22 +28,18 @@ rule_on-side rules side place rule on =
     let parts = cond_some (is_same_side side r.side) r rule is in
     ap (λ (x : Rule). x.side) (sym parts.1) ∙ same_side side r.side parts.0)
 
-undone_by-inverse : (full_strip : Bool) (side : Side) (rule : Rule) → rule.side ≡ side → IsInverse (attached full_strip rule) (undone_by side full_strip rule)
-undone_by-inverse full_strip Prefix rule is = record {
-  is = λ stem word. prefix-undone {E = ℕ} full_strip rule word (Ok (undone_prefix full_strip rule word)) is refl stem;
-}
-undone_by-inverse full_strip Suffix rule is = record {
-  is = λ stem word. suffix-undone {E = ℕ} full_strip rule word (Ok (undone_suffix full_strip rule word)) is refl stem;
-}
+undone_on-inverse : LeadsBack → (full_strip : Bool) (side : Side) (rule : Rule) → rule.side ≡ side → IsInverse (attached full_strip rule) (undone_on side full_strip rule)
+undone_on-inverse leads_back full_strip side rule is =
+    subst (λ s. IsInverse (attached full_strip rule) (undone_on s full_strip rule)) is (record { is = λ stem word. leads_back full_strip rule word stem })
 
-on_rule : (full_strip : Bool) (side : Side) (found : Option Rule) → is_some found ≡ true → ((rule : Rule) → found ≡ Some rule → rule.side ≡ side) → IsInverse (with_affix full_strip found) (λ word. option_and_then (λ rule. undone_by side full_strip rule word) found)
-on_rule full_strip side None some sided = absurd (cc)
-on_rule full_strip side (Some rule) some sided = record { is = (undone_by-inverse full_strip side rule (sided rule refl)).is }
+on_rule : LeadsBack → (full_strip : Bool) (side : Side) (found : Option Rule) → is_some found ≡ true → ((rule : Rule) → found ≡ Some rule → rule.side ≡ side) → IsInverse (with_affix full_strip found) (λ word. option_and_then (λ rule. undone_on side full_strip rule word) found)
+on_rule leads_back full_strip side None some sided = absurd (cc)
+on_rule leads_back full_strip side (Some rule) some sided = record { is = (undone_on-inverse leads_back full_strip side rule (sided rule refl)).is }
 
 -- what the rule with a place undoes is what it was attached to
-pub undone_at-inverse : (affixes : Affixes) (side : Side) (place : ℕ) → is_right affixes.rules side (Some place) ≡ true → IsInverse (with_affix affixes.options.full_strip (affix_on affixes.rules side (Some place))) (undone_at affixes side place)
-undone_at-inverse affixes side place right =
-    let on = on_rule affixes.options.full_strip side (rule_on affixes.rules side place) right (rule_on-side affixes.rules side place) in
+pub undone_at-inverse : LeadsBack → (affixes : Affixes) (side : Side) (place : ℕ) → is_right affixes.rules side (Some place) ≡ true → IsInverse (with_affix affixes.options.full_strip (affix_on affixes.rules side (Some place))) (undone_at affixes side place)
+undone_at-inverse leads_back affixes side place right =
+    let on = on_rule leads_back affixes.options.full_strip side (rule_on affixes.rules side place) right (rule_on-side affixes.rules side place) in
     record { is = on.is }
 
 -- a word tested

@@ -1,5 +1,6 @@
 pub mod ShowLemmas
 pub mod BarringLemmas
+pub mod DerivedLemmas
 pub mod EntryLemmas
 pub mod FoundLemmas
 pub mod InverseLemmas

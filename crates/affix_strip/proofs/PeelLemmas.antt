@@ -15,10 +15,10 @@ use Rattle.spell_types.specs.declared.rules.Side.TheVariants.{Prefix, Suffix}
 use Rattle.spell_types.specs.Attaching.{may_strip}
 use Rattle.spell_types.specs.Conditions.{fits_front, fits_back}
 use Rattle.spell_types.specs.Derivations.{is_same_side, rule_on}
-use Rattle.affix_classes.specs.Undoing.{suffix_put_back, prefix_put_back}
+use Rattle.affix_classes.specs.Undoing.{suffix_put_back, prefix_put_back, undone_on}
 use Rattle.affix_tables.specs.Groups.{Group, strip_in, places_in, HasPlace, AreGroups}
 use Rattle.affix_strip.specs.Peeling.{IsOn, join, has_at, cut_off, kept_of, IsCut, Peeled, peeled_by, Leaves, IsPeeled, ArePeeled, may_undo, may_undo_at}
-use Rattle.affix_strip.proofs.UndoneWords.{undone_by, undone_at}
+use Rattle.affix_strip.proofs.UndoneWords.{undone_at}
 use Rattle.affix_strip.proofs.InverseLemmas.{rule_on-side}
 use Rattle.affix_strip.proofs.TableLemmas.{on-rule}
 
@@ -135,12 +135,12 @@ peeled-all rules side word reach count found bound past below = record {
 }
 
 -- ---- what is undone
-undone_by-leaves : (full_strip : Bool) (side : Side) (rule : Rule) (word rest : List ℕ) → has_at side word rule.add ≡ true → join side (kept_of side word (length rule.add)) rule.strip ≡ rest
-    → undone_by side full_strip rule word ≡ (if may_undo full_strip side rest rule then Some rest else None)
-undone_by-leaves full_strip Prefix rule word rest has is =
+undone_on-leaves : (full_strip : Bool) (side : Side) (rule : Rule) (word rest : List ℕ) → has_at side word rule.add ≡ true → join side (kept_of side word (length rule.add)) rule.strip ≡ rest
+    → undone_on side full_strip rule word ≡ (if may_undo full_strip side rest rule then Some rest else None)
+undone_on-leaves full_strip Prefix rule word rest has is =
     ap (λ b. if b && (may_strip full_strip rule (prefix_put_back rule word) && fits_front rule.condition (prefix_put_back rule word)) then Some (prefix_put_back rule word) else None) has
     ∙ ap (λ r. if may_undo full_strip Prefix r rule then Some r else None) is
-undone_by-leaves full_strip Suffix rule word rest has is =
+undone_on-leaves full_strip Suffix rule word rest has is =
     ap (λ b. if b && (may_strip full_strip rule (suffix_put_back rule word) && fits_back rule.condition (suffix_put_back rule word)) then Some (suffix_put_back rule word) else None) has
     ∙ ap (λ r. if may_undo full_strip Suffix r rule then Some r else None) is
 
@@ -156,8 +156,8 @@ rule_on-at rules side place rule (at, on) =
 pub leaves-undone : (affixes : Affixes) (side : Side) (word : List ℕ) (place : ℕ) (rest : List ℕ) → Leaves affixes.rules side word place rest
     → undone_at affixes side place word ≡ (if may_undo_at affixes side rest place then Some rest else None)
 leaves-undone affixes side word place rest leaves =
-    ap (option_and_then (λ (rule : Rule). undone_by side affixes.options.full_strip rule word)) (rule_on-at affixes.rules side place leaves.rule leaves.on)
-    ∙ undone_by-leaves affixes.options.full_strip side leaves.rule word rest leaves.fits leaves.is
+    ap (option_and_then (λ (rule : Rule). undone_on side affixes.options.full_strip rule word)) (rule_on-at affixes.rules side place leaves.rule leaves.on)
+    ∙ undone_on-leaves affixes.options.full_strip side leaves.rule word rest leaves.fits leaves.is
     ∙ ap (λ b. if b then Some rest else None) (sym (ap (λ found. option_map_or (may_undo affixes.options.full_strip side rest) found false) leaves.on.0))
 
 -- a rule that is undone is one whose text the word has
@@ -166,18 +166,18 @@ pub record IsHad (affixes : Affixes) (side : Side) (word : List ℕ) (place : �
   pub on : IsOn affixes.rules side place rule
   pub has : has_at side word rule.add ≡ true
 
-undone_by-has : (full_strip : Bool) (side : Side) (rule : Rule) (word inner : List ℕ) → undone_by side full_strip rule word ≡ Some inner → has_at side word rule.add ≡ true
-undone_by-has full_strip Prefix rule word inner is =
+undone_on-has : (full_strip : Bool) (side : Side) (rule : Rule) (word inner : List ℕ) → undone_on side full_strip rule word ≡ Some inner → has_at side word rule.add ≡ true
+undone_on-has full_strip Prefix rule word inner is =
     (and_parts (starts_with nat_eq word rule.add) (may_strip full_strip rule (prefix_put_back rule word) && fits_front rule.condition (prefix_put_back rule word))
     (cond_some _ (prefix_put_back rule word) inner is).0).0
-undone_by-has full_strip Suffix rule word inner is =
+undone_on-has full_strip Suffix rule word inner is =
     (and_parts (ends_with nat_eq word rule.add) (may_strip full_strip rule (suffix_put_back rule word) && fits_back rule.condition (suffix_put_back rule word))
     (cond_some _ (suffix_put_back rule word) inner is).0).0
 
 pub undone-had : (affixes : Affixes) (side : Side) (place : ℕ) (word inner : List ℕ) → undone_at affixes side place word ≡ Some inner → IsHad affixes side word place
 undone-had affixes side place word inner is =
-    option_and_then_some (λ (rule : Rule). undone_by side affixes.options.full_strip rule word) (rule_on affixes.rules side place) inner is (λ rule on undone. record {
+    option_and_then_some (λ (rule : Rule). undone_on side affixes.options.full_strip rule word) (rule_on affixes.rules side place) inner is (λ rule on undone. record {
       rule = rule;
       on = (on-rule affixes.rules side place rule on, rule_on-side affixes.rules side place rule on);
-      has = undone_by-has affixes.options.full_strip side rule word inner undone;
+      has = undone_on-has affixes.options.full_strip side rule word inner undone;
     })

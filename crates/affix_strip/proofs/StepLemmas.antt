@@ -8,7 +8,7 @@ use Rattle.spell_types.specs.Derivations.{affix_on, is_right, with_affix}
 use Rattle.spell_types.specs.Licences.{is_licensed}
 use Rattle.affix_strip.specs.Parts.{put_on, Passes, AtSome, Peels}
 use Rattle.affix_strip.specs.Peeling.{IsPeeled, ArePeeled, may_undo_at}
-use Rattle.affix_strip.proofs.UndoneWords.{undone_at}
+use Rattle.affix_strip.proofs.UndoneWords.{LeadsBack, undone_at}
 use Rattle.affix_strip.proofs.InverseLemmas.{undone_at-inverse}
 use Rattle.affix_strip.proofs.PeelLemmas.{leaves-undone, undone-had}
 
@@ -43,34 +43,34 @@ module _ (lexicon : Lexicon) (side : Side) (named : Derivation → Option ℕ) (
   right-at : (place : ℕ) (d : Derivation) → is_licensed lexicon d ≡ true → named d ≡ Some place → is_right lexicon.affixes.rules side (Some place) ≡ true
   right-at place d licensed is = ap (is_right lexicon.affixes.rules side) (sym is) ∙ affix.right d licensed
 
-  peel : (place : ℕ) (text : List ℕ) (d : Derivation) → is_licensed lexicon d ≡ true → named d ≡ Some place → after d ≡ Some text → Peeled place text d
-  peel place text d licensed is made =
+  peel : LeadsBack → (place : ℕ) (text : List ℕ) (d : Derivation) → is_licensed lexicon d ≡ true → named d ≡ Some place → after d ≡ Some text → Peeled place text d
+  peel leads_back place text d licensed is made =
       option_and_then_some (with_affix lexicon.affixes.options.full_strip (affix_on lexicon.affixes.rules side (Some place))) (before d) text
       (ap (λ n. put_on lexicon side n (before d)) (sym is) ∙ made) (λ inner left put. record {
         inner = inner;
-        undone = ((undone_at-inverse lexicon.affixes side place (right-at place d licensed is)).is inner text).1 put;
+        undone = ((undone_at-inverse leads_back lexicon.affixes side place (right-at place d licensed is)).is inner text).1 put;
         left = left;
       })
 
-  put-back : (place : ℕ) (text inner : List ℕ) (d : Derivation) → is_licensed lexicon d ≡ true → named d ≡ Some place → undone_at lexicon.affixes side place text ≡ Some inner → before d ≡ Some inner → after d ≡ Some text
-  put-back place text inner d licensed is undone left =
+  put-back : LeadsBack → (place : ℕ) (text inner : List ℕ) (d : Derivation) → is_licensed lexicon d ≡ true → named d ≡ Some place → undone_at lexicon.affixes side place text ≡ Some inner → before d ≡ Some inner → after d ≡ Some text
+  put-back leads_back place text inner d licensed is undone left =
       ap (λ n. put_on lexicon side n (before d)) is
       ∙ ap (put_on lexicon side (Some place)) left
-      ∙ ((undone_at-inverse lexicon.affixes side place (right-at place d licensed is)).is inner text).0 undone
+      ∙ ((undone_at-inverse leads_back lexicon.affixes side place (right-at place d licensed is)).is inner text).0 undone
 
-  pub step-some : (parts : Derivation → Type 0) (place : ℕ) → ((d : Derivation) → parts d → named d ≡ Some place) → (text inner : List ℕ) → undone_at lexicon.affixes side place text ≡ Some inner → (d : Derivation) → Passes lexicon parts before inner d ↔ Passes lexicon parts after text d
-  step-some parts place some text inner undone d = (
-    λ passes. record { licensed = passes.licensed; has = passes.has; at = put-back place text inner d passes.licensed (some d passes.has) undone passes.at },
-    λ passes. record { licensed = passes.licensed; has = passes.has; at = left passes (peel place text d passes.licensed (some d passes.has) passes.at) },
+  pub step-some : LeadsBack → (parts : Derivation → Type 0) (place : ℕ) → ((d : Derivation) → parts d → named d ≡ Some place) → (text inner : List ℕ) → undone_at lexicon.affixes side place text ≡ Some inner → (d : Derivation) → Passes lexicon parts before inner d ↔ Passes lexicon parts after text d
+  step-some leads_back parts place some text inner undone d = (
+    λ passes. record { licensed = passes.licensed; has = passes.has; at = put-back leads_back place text inner d passes.licensed (some d passes.has) undone passes.at },
+    λ passes. record { licensed = passes.licensed; has = passes.has; at = left passes (peel leads_back place text d passes.licensed (some d passes.has) passes.at) },
   )
     where
       left : Passes lexicon parts after text d → Peeled place text d → before d ≡ Some inner
       left passes peeled = peeled.left ∙ sym peeled.undone ∙ undone
 
   -- the derivations on this way whose affix is one of the rules that may have made the word are all that have one
-  pub step-peeled : (parts : Derivation → Type 0) (text : List ℕ) (found : List (List ℕ × List ℕ)) → ArePeeled lexicon.affixes.rules side text found
+  pub step-peeled : LeadsBack → (parts : Derivation → Type 0) (text : List ℕ) (found : List (List ℕ × List ℕ)) → ArePeeled lexicon.affixes.rules side text found
       → (d : Derivation) → AtSome (Peels lexicon side named parts before) found d ↔ Passes lexicon (λ d. parts d × (is_some (named d) ≡ true)) after text d
-  step-peeled parts text found are d = (λ some. there some, λ passes. back passes (named d) refl)
+  step-peeled leads_back parts text found are d = (λ some. there some, λ passes. back passes (named d) refl)
     where
       own : (place : ℕ) → ((e : Derivation) → parts e × (named e ≡ Some place) → named e ≡ Some place)
       own place e has = has.1
@@ -80,7 +80,7 @@ module _ (lexicon : Lexicon) (side : Side) (named : Derivation → Option ℕ) (
           let at = some.is in
           let undone = leaves-undone lexicon.affixes side text at.item some.item.0 (are.sound some.item at.item some.among at.among)
           ∙ ap (λ b. if b then Some some.item.0 else None) at.is.0 in
-          let passes = (step-some (λ e. parts e × (named e ≡ Some at.item)) at.item (own at.item) text some.item.0 undone d).0 at.is.1 in
+          let passes = (step-some leads_back (λ e. parts e × (named e ≡ Some at.item)) at.item (own at.item) text some.item.0 undone d).0 at.is.1 in
           record { licensed = passes.licensed; has = (passes.has.0, ap is_some passes.has.1); at = passes.at }
 
       -- what is left of the word is that of a group which has the rule
@@ -106,5 +106,5 @@ module _ (lexicon : Lexicon) (side : Side) (named : Derivation → Option ℕ) (
       back : Passes lexicon (λ d. parts d × (is_some (named d) ≡ true)) after text d → (n : Option ℕ) → named d ≡ n → AtSome (Peels lexicon side named parts before) found d
       back passes None is = absurd (true≢false (sym passes.has.1 ∙ ap is_some is))
       back passes (Some place) is =
-          let left = peel place text d passes.licensed is passes.at in
+          let left = peel leads_back place text d passes.licensed is passes.at in
           inside place passes is left (had place left)

@@ -2,12 +2,11 @@
 #![tactic(auto)]
 
 ghost use Rattle.std.specs.Prelude.{◌≡◌, ◌↔◌, ℕ, List, Some, true, Contains, IfOk};
-ghost use Rattle.std.specs.List.{list_any};
 ghost use Rattle.spell_types.specs.declared.Lexicon.{Lexicon};
 ghost use Rattle.spell_types.specs.declared.derivations.Derivation.{Derivation};
 ghost use Rattle.spell_types.specs.Derivations.{form_of};
 ghost use Rattle.spell_types.specs.Bases.{is_alone_in_case};
-ghost use Rattle.spell_types.specs.Licences.{is_licensed, is_forbidden};
+ghost use Rattle.spell_types.specs.Licences.{is_licensed, is_derived, is_barred};
 ghost use Rattle.spell_types.specs.Sanity.{IsSane};
 ghost use Rattle.affix_strip.specs.Found.{derivations_of, derivation_cmp, AreInOrder};
 
@@ -58,7 +57,8 @@ impl Stems {
 
     /// The dictionary.
     pub fn lexicon(&self) -> &Lexicon
-        ensures { result.now ≡ self.now }
+        ensures same { result.now ≡ self.now }
+        ensures sane { IsSane self.now }
     {
         &self.dictionary.lexicon
     }
@@ -76,23 +76,24 @@ impl Stems {
     }
 
     /// Whether a word is forbidden: one of its derivations is that of a forbidden word.
+    #[tactic(auto, using(crate::proofs::DerivedLemmas::barred_found))]
     pub fn is_barred(&self, alloc: Global, word: &[char]) -> Result<bool, NoMemory>
-        ensures { IfOk result (λ answer.
-            answer ≡ list_any (is_forbidden self.now) (derivations_of self.now word.now)) }
+        ensures { IfOk result (λ answer. answer ≡ is_barred self.now word.now) }
     {
         self.dictionary.is_barred(alloc, word)
     }
 
     /// Whether one of the derivations of a spelling stands as a word where a word is written so. It is looked for among entries
     /// first, then with one suffix, with two, and last with a prefix, and no further than to the first.
+    #[tactic(auto, using(crate::proofs::DerivedLemmas::alone_found))]
     pub fn is_alone(
         &self,
         alloc: Global,
         written: &[char],
         spelling: &[char],
     ) -> Result<bool, NoMemory>
-        ensures { IfOk result (λ answer. answer
-            ≡ list_any (is_alone_in_case written.now spelling.now self.now) (derivations_of self.now spelling.now)) }
+        ensures { IfOk result (λ answer.
+            answer ≡ is_derived (is_alone_in_case written.now spelling.now) self.now spelling.now) }
     {
         let test = Alone {
             written,

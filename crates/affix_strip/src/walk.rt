@@ -18,7 +18,7 @@ use crate::hashed::Hashed;
 use crate::peeling::{Peeled, peel};
 use crate::rule_flags::second_suffixes;
 use crate::visiting::{Forbidden, Question, Test, Visitor};
-use affix_classes::{matches_back, matches_front};
+use affix_classes::{matches_back, matches_front, undoing_leads_back};
 use affix_tables::AffixTables;
 use lists::NoMemory;
 use spell_types::{Derivation, Lexicon, Rule, Side, licensed};
@@ -131,6 +131,7 @@ impl Dictionary {
             return Ok(true);
         }
         let fronts = peel(alloc, &self.tables.rules, Side::Prefix, word)?;
+        undoing_leads_back();
         self.visit_fronts(alloc, fronts.as_slice(), visitor)
     }
 
@@ -193,6 +194,7 @@ impl Dictionary {
         }
         let endings = peel(alloc, &self.tables.rules, Side::Suffix, rest)?;
         let endings = endings.as_slice();
+        undoing_leads_back();
         if self.visit_firsts(alloc, prefixes, &[None], endings, visitor)? {
             return Ok(true);
         }
@@ -266,6 +268,7 @@ impl Dictionary {
             return Ok(false);
         }
         let endings = peel(alloc, &self.tables.rules, Side::Suffix, inner)?;
+        undoing_leads_back();
         self.visit_firsts(alloc, prefixes, seconds, endings.as_slice(), visitor)
     }
 

@@ -10,5 +10,5 @@ returns-then-branch g c = shows-end (none-gives c.args.self.now.lexicon c.args.w
 pub returns : goal.returns
 returns g c =
     answer-then _ c.visit_fronts.result
-    (all-passing c.args.self.now.lexicon c.args.word.now c.as_slice.result.now (search rules))
+    (all-passing c.undoing_leads_back.ensures c.args.self.now.lexicon c.args.word.now c.as_slice.result.now (search rules))
     c.in_ok-visit_behind.ensures c.if-branch.false c.visit_fronts.ensures

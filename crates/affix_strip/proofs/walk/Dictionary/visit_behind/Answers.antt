@@ -16,8 +16,8 @@ returns-then-branch-2 g c =
     let text = c.args.rest.now in
     let prefixes = c.args.prefixes.now in
     let endings = c.as_slice-endings.result.now in
-    shows-end (λ d inside. (behind-passing lexicon prefixes text endings (search rules) d).0 (inl inside))
-    (shows-then (inside-passing lexicon prefixes text endings (search rules)) c.in_ok-visit_bare.ensures c.if-branch.false c.in_ok-visit_firsts.ensures) c.if-branch-2.true
+    shows-end (λ d inside. (behind-passing c.undoing_leads_back.ensures lexicon prefixes text endings (search rules) d).0 (inl inside))
+    (shows-then (inside-passing c.undoing_leads_back.ensures lexicon prefixes text endings (search rules)) c.in_ok-visit_bare.ensures c.if-branch.false c.in_ok-visit_firsts.ensures) c.if-branch-2.true
 
 pub returns : goal.returns
 returns g c =
@@ -25,6 +25,6 @@ returns g c =
     let text = c.args.rest.now in
     let prefixes = c.args.prefixes.now in
     let endings = c.as_slice-endings.result.now in
-    answer-then _ c.visit_outers.result (behind-passing lexicon prefixes text endings (search rules))
-    (shows-then (inside-passing lexicon prefixes text endings (search rules)) c.in_ok-visit_bare.ensures c.if-branch.false c.in_ok-visit_firsts.ensures)
+    answer-then _ c.visit_outers.result (behind-passing c.undoing_leads_back.ensures lexicon prefixes text endings (search rules))
+    (shows-then (inside-passing c.undoing_leads_back.ensures lexicon prefixes text endings (search rules)) c.in_ok-visit_bare.ensures c.if-branch.false c.in_ok-visit_firsts.ensures)
     c.if-branch-2.false c.visit_outers.ensures

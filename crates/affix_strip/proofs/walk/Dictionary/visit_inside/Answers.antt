@@ -10,5 +10,5 @@ returns-then-is_empty g c = shows-none (no-seconds c.args.self.now.lexicon c.arg
 pub returns : goal.returns
 returns g c =
     answer-same _ _ c.visit_firsts.result
-    (firsts-passing c.args.self.now.lexicon c.args.prefixes.now c.args.seconds.now c.args.inner.now c.as_slice.result.now (search rules))
+    (firsts-passing c.undoing_leads_back.ensures c.args.self.now.lexicon c.args.prefixes.now c.args.seconds.now c.args.inner.now c.as_slice.result.now (search rules))
     c.visit_firsts.ensures
