@@ -1,0 +1,11 @@
+pub mod CountLemmas
+pub mod PartLemmas
+pub mod StepLemmas
+pub mod NumberLemmas
+pub mod RestLemmas
+pub mod LeadLemmas
+pub mod AddLemmas
+pub mod RowLemmas
+pub mod MadeLemmas
+pub mod ReplacementLemmas
+pub mod RuleLemmas
