@@ -2,8 +2,10 @@
 
 mod break_tables;
 mod case_tables;
+mod compound_tables;
 mod derivations;
 mod flag_tables;
+mod joint_tables;
 mod licence_tables;
 mod made;
 mod pattern_tables;

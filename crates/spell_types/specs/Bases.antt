@@ -3,7 +3,8 @@ use Rattle.std.specs.Prelude.{ℕ, Bool, not, ◌&&◌, ◌||◌, List, IsTrue}
 use Rattle.std.specs.List.{list_any}
 use Rattle.spell_types.specs.declared.Lexicon.{Lexicon}
 use Rattle.spell_types.specs.declared.derivations.Derivation.{Derivation}
-use Rattle.spell_types.specs.Cases.{is_same_word, covered_by}
+use Rattle.spell_types.specs.Cases.{begins_upper, is_same_word, covered_by}
+use Rattle.spell_types.specs.Compounds.{Asked, is_compound}
 use Rattle.spell_types.specs.Licences.{has_entry_with, is_alone, is_derived, is_barred}
 
 -- A derivation that stands as a word, where a word is written so and this spelling is the derivation's form: an entry with
@@ -12,11 +13,20 @@ unfoldable pub is_alone_in_case : List ℕ → List ℕ → Lexicon → Derivati
 is_alone_in_case written spelling lexicon d =
     is_alone lexicon d && (is_same_word spelling written || not (has_entry_with lexicon.affixes.signs.keep_case lexicon d))
 
+-- of what a spelling is asked as a compound where a word is written so
+abbrev pub asked_for : Lexicon → List ℕ → List ℕ → Asked
+asked_for lexicon written spelling = record {
+  lexicon = lexicon;
+  by_case = not (is_same_word spelling written);
+  capital = begins_upper written;
+}
+
 -- whether a spelling of the dictionary is right for a word that is written so: it is no forbidden word, and a derivation
--- that stands as a word has it as its form
+-- that stands as a word has it as its form, or it is a compound
 unfoldable pub is_right_spelling : Lexicon → List ℕ → List ℕ → Bool
 is_right_spelling lexicon written spelling =
-    not (is_barred lexicon spelling) && is_derived (is_alone_in_case written spelling) lexicon spelling
+    not (is_barred lexicon spelling)
+    && (is_derived (is_alone_in_case written spelling) lexicon spelling || is_compound (asked_for lexicon written spelling) spelling)
 
 -- A word is accepted as it is written if it is no forbidden word and covers a right spelling.
 unfoldable pub is_base : Lexicon → List ℕ → Bool

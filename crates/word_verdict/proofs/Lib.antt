@@ -1,3 +1,2 @@
 pub mod AcceptLemmas
-pub mod VerdictLemmas
 pub mod NumberLemmas

@@ -1,10 +1,11 @@
 -- What is said of a piece of a word, and how it is found.
-use Rattle.std.specs.Prelude.{ℕ, Bool, List, [], ◌∷◌, if◌then◌else◌}
+use Rattle.std.specs.Prelude.{ℕ, Bool, ◌||◌, List, [], ◌∷◌, if◌then◌else◌}
 use Rattle.std.specs.List.{list_any}
 use Rattle.spell_types.specs.declared.Lexicon.{Lexicon}
-use Rattle.spell_types.specs.Bases.{is_base, is_right_spelling}
+use Rattle.spell_types.specs.Bases.{is_alone_in_case, asked_for, is_base, is_right_spelling}
 use Rattle.spell_types.specs.Cases.{covered_by}
-use Rattle.spell_types.specs.Licences.{is_barred}
+use Rattle.spell_types.specs.Compounds.{is_compound}
+use Rattle.spell_types.specs.Licences.{is_derived, is_barred}
 use Rattle.break_points.specs.declared.Judged.{Judged}
 use Rattle.break_points.specs.declared.Judged.TheVariants.{Barred, Base, Other}
 
@@ -15,6 +16,11 @@ judged_by barred base = if barred then Barred else (if base then Base else Other
 -- a piece is a forbidden word, or accepted as it is written, or neither
 unfoldable pub judged : Lexicon → List ℕ → Judged
 judged lexicon piece = judged_by (is_barred lexicon piece) (is_base lexicon piece)
+
+-- whether a spelling stands by itself for a word that is written so, or is a compound
+abbrev pub is_alone_or_compound : Lexicon → List ℕ → List ℕ → Bool
+is_alone_or_compound lexicon written spelling =
+    is_derived (is_alone_in_case written spelling) lexicon spelling || is_compound (asked_for lexicon written spelling) spelling
 
 -- the spellings but the first one, which is the word as it is written
 abbrev pub behind_first : List (List ℕ) → List (List ℕ)

@@ -11,9 +11,11 @@ mod words;
 
 use affix_strip::Stems;
 use break_points::Breaks;
+use compound_words::Compounds;
 use conversions::{Conversions, Ignored};
 use lists::NoMemory;
 use mark_types::Judge;
+use pieces::Dictionary;
 use spell_types::{Affixes, Chars, Entries, Lexicon};
 use std::alloc::Global;
 use std::marker::Model;
@@ -23,6 +25,7 @@ use words::accepts;
 #[derive(Drop)]
 pub struct Speller {
     stems: Stems,
+    compounds: Compounds,
     conversions: Conversions,
     ignored: Ignored,
     breaks: Breaks,
@@ -36,7 +39,7 @@ impl Model for Speller {
 
     ghost view = { λ inside. inside.stems };
 
-    ghost invariant = { λ inside. ArePrepared inside.stems inside.conversions inside.ignored inside.breaks };
+    ghost invariant = { λ inside. ArePrepared inside.stems inside.compounds inside.conversions inside.ignored inside.breaks };
 }
 
 impl Speller {
@@ -48,9 +51,12 @@ impl Speller {
         let conversions = Conversions::new(alloc, &affixes.iconv)?;
         let ignored = Ignored::new(alloc, &affixes.ignore)?;
         let breaks = Breaks::new(alloc, &affixes.breaks)?;
-        let stems = Stems::new(alloc, Lexicon { affixes, entries })?;
+        let lexicon = Lexicon { affixes, entries };
+        let compounds = Compounds::new(alloc, &lexicon)?;
+        let stems = Stems::new(alloc, lexicon)?;
         Ok(Speller {
             stems,
+            compounds,
             conversions,
             ignored,
             breaks,
@@ -66,7 +72,11 @@ impl Judge for Speller {
         let made = self.conversions.convert(alloc, written)?;
         let converted = made_or(&made, written);
         let left = self.ignored.drop_from(alloc, converted)?;
-        accepts(alloc, &self.stems, &self.breaks, made_or(&left, converted))
+        let dictionary = Dictionary {
+            stems: &self.stems,
+            compounds: &self.compounds,
+        };
+        accepts(alloc, &dictionary, &self.breaks, made_or(&left, converted))
     }
 
     fn wordchars(&self) -> &[char] {

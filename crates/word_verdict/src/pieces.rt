@@ -2,45 +2,66 @@
 
 ghost use Rattle.std.specs.Prelude.{◌≡◌, ◌||◌, not, true, IfOk};
 ghost use Rattle.std.specs.List.{list_any};
-ghost use Rattle.spell_types.specs.Bases.{is_alone_in_case, is_right_spelling};
+ghost use Rattle.compound_words.specs.Prepared.{AreCompoundsOf};
+ghost use Rattle.spell_types.specs.Bases.{asked_for, is_right_spelling};
 ghost use Rattle.spell_types.specs.Cases.{begins_upper, has_lower};
-ghost use Rattle.spell_types.specs.Licences.{is_barred, is_derived};
-ghost use Rattle.word_verdict.specs.Judging.{judged, covers_right_spelling};
+ghost use Rattle.spell_types.specs.Compounds.{is_compound};
+ghost use Rattle.word_verdict.specs.Judging.{judged, is_alone_or_compound, covers_right_spelling};
 
 use affix_strip::Stems;
 use break_points::Judged;
+use compound_words::Compounds;
 use letter_case::{begins_upper, covered, has_lower};
 use lists::NoMemory;
 use spell_types::Chars;
 use std::alloc::Global;
 
+/// A dictionary, and what was prepared of it for its compounds.
+#[derive(Clone, Copy)]
+pub(crate) struct Dictionary<'a> {
+    pub(crate) stems: &'a Stems,
+    pub(crate) compounds: &'a Compounds,
+}
+
 /// What a piece of a word is by itself. It is looked at as it is written first, since most words need no other spelling.
-pub(crate) fn judge_piece(alloc: Global, stems: &Stems, piece: &[char]) -> Result<Judged, NoMemory>
-    ensures { IfOk result (λ answer. answer ≡ judged stems.now piece.now) }
+#[tactic(auto, unfolding(crate::specs::Judging::judged, crate::specs::Judging::covers_right_spelling, spell_types::specs::Bases::is_base, spell_types::specs::Bases::is_right_spelling, spell_types::specs::Cases::covered_by))]
+pub(crate) fn judge_piece(
+    alloc: Global,
+    dictionary: &Dictionary,
+    piece: &[char],
+) -> Result<Judged, NoMemory>
+    requires { AreCompoundsOf dictionary.now.stems.now dictionary.now.compounds.now }
+    ensures { IfOk result (λ answer. answer ≡ judged dictionary.now.stems.now piece.now) }
 {
-    if is_barred(alloc, stems, piece)? {
+    if dictionary.stems.is_barred(alloc, piece)? {
         return Ok(Judged::Barred);
     }
-    if is_alone(alloc, stems, piece, piece)? {
+    if is_alone_or_compound(alloc, dictionary, piece, piece)? {
         return Ok(Judged::Base);
     }
-    if covers_right_spelling(alloc, stems, piece)? {
+    if covers_right_spelling(alloc, dictionary, piece)? {
         return Ok(Judged::Base);
     }
     Ok(Judged::Other)
 }
 
 /// Whether a word covers a right spelling other than the written one.
-#[tactic(auto, unfolding(crate::specs::Judging::covers_right_spelling))]
-fn covers_right_spelling(alloc: Global, stems: &Stems, word: &[char]) -> Result<bool, NoMemory>
-    ensures { IfOk result (λ answer. answer ≡ covers_right_spelling stems.now word.now) }
+#[tactic(auto, unfolding(crate::specs::Judging::covers_right_spelling, spell_types::specs::Cases::covered_by))]
+fn covers_right_spelling(
+    alloc: Global,
+    dictionary: &Dictionary,
+    word: &[char],
+) -> Result<bool, NoMemory>
+    requires { AreCompoundsOf dictionary.now.stems.now dictionary.now.compounds.now }
+    ensures { IfOk result (λ answer.
+        answer ≡ covers_right_spelling dictionary.now.stems.now word.now) }
 {
     if !may_cover_others(word) {
         return Ok(false);
     }
     let spellings = covered(alloc, word)?;
     match spellings.as_slice() {
-        [_, others @ ..] => one_is_right(alloc, stems, word, others),
+        [_, others @ ..] => one_is_right(alloc, dictionary, word, others),
         [] => Ok(false),
     }
 }
@@ -55,15 +76,16 @@ fn may_cover_others(word: &[char]) -> bool
 /// Whether one of these spellings is right for the word that is written so.
 fn one_is_right(
     alloc: Global,
-    stems: &Stems,
+    dictionary: &Dictionary,
     written: &[char],
     spellings: &[Chars],
 ) -> Result<bool, NoMemory>
+    requires { AreCompoundsOf dictionary.now.stems.now dictionary.now.compounds.now }
     ensures { IfOk result (λ answer.
-        answer ≡ list_any (is_right_spelling stems.now written.now) spellings.now) }
+        answer ≡ list_any (is_right_spelling dictionary.now.stems.now written.now) spellings.now) }
 {
     for spelling in spellings {
-        if is_right(alloc, stems, written, spelling)? {
+        if is_right(alloc, dictionary, written, spelling)? {
             return Ok(true);
         }
     }
@@ -74,31 +96,52 @@ fn one_is_right(
 #[tactic(auto, unfolding(spell_types::specs::Bases::is_right_spelling))]
 fn is_right(
     alloc: Global,
-    stems: &Stems,
+    dictionary: &Dictionary,
     written: &[char],
     spelling: &[char],
 ) -> Result<bool, NoMemory>
-    ensures { IfOk result (λ answer. answer ≡ is_right_spelling stems.now written.now spelling.now) }
-{
-    Ok(!is_barred(alloc, stems, spelling)? && is_alone(alloc, stems, written, spelling)?)
-}
-
-/// Whether a word is forbidden.
-fn is_barred(alloc: Global, stems: &Stems, word: &[char]) -> Result<bool, NoMemory>
-    ensures { IfOk result (λ answer. answer ≡ is_barred stems.now word.now) }
-{
-    stems.is_barred(alloc, word)
-}
-
-/// Whether a derivation whose form is the spelling stands as a word that is written so.
-fn is_alone(
-    alloc: Global,
-    stems: &Stems,
-    written: &[char],
-    spelling: &[char],
-) -> Result<bool, NoMemory>
+    requires { AreCompoundsOf dictionary.now.stems.now dictionary.now.compounds.now }
     ensures { IfOk result (λ answer.
-        answer ≡ is_derived (is_alone_in_case written.now spelling.now) stems.now spelling.now) }
+        answer ≡ is_right_spelling dictionary.now.stems.now written.now spelling.now) }
 {
-    stems.is_alone(alloc, written, spelling)
+    if dictionary.stems.is_barred(alloc, spelling)? {
+        return Ok(false);
+    }
+    is_alone_or_compound(alloc, dictionary, written, spelling)
+}
+
+/// Whether a spelling stands by itself for the word that is written so, or is a compound. That is asked last, since it takes
+/// longest.
+fn is_alone_or_compound(
+    alloc: Global,
+    dictionary: &Dictionary,
+    written: &[char],
+    spelling: &[char],
+) -> Result<bool, NoMemory>
+    requires { AreCompoundsOf dictionary.now.stems.now dictionary.now.compounds.now }
+    ensures { IfOk result (λ answer.
+        answer ≡ is_alone_or_compound dictionary.now.stems.now written.now spelling.now) }
+{
+    if dictionary.stems.is_alone(alloc, written, spelling)? {
+        return Ok(true);
+    }
+    is_compound(alloc, dictionary, written, spelling)
+}
+
+/// Whether a spelling is a compound where a word is written so.
+fn is_compound(
+    alloc: Global,
+    dictionary: &Dictionary,
+    written: &[char],
+    spelling: &[char],
+) -> Result<bool, NoMemory>
+    requires { AreCompoundsOf dictionary.now.stems.now dictionary.now.compounds.now }
+    ensures { IfOk result (λ answer.
+        answer ≡ is_compound (asked_for dictionary.now.stems.now written.now spelling.now) spelling.now) }
+{
+    let by_case = spelling != written;
+    let capital = begins_upper(written);
+    dictionary
+        .compounds
+        .is_compound(alloc, dictionary.stems, spelling, by_case, capital)
 }

@@ -5,11 +5,11 @@ ghost use Rattle.spell_types.specs.Conditions.{is_one_of};
 ghost use Rattle.spell_types.specs.Numbers.{is_number};
 ghost use Rattle.spell_types.specs.Yields.{is_broken_by, accepts};
 ghost use Rattle.break_points.specs.Patterns.{BreakAlike};
+ghost use Rattle.compound_words.specs.Prepared.{AreCompoundsOf};
 ghost use Rattle.word_verdict.specs.Accepting.{is_accepted_short, is_accepted_before_dots};
 
 use crate::numbers::{is_number, undotted};
-use crate::pieces::judge_piece;
-use affix_strip::Stems;
+use crate::pieces::{Dictionary, judge_piece};
 use break_points::Breaks;
 use lists::NoMemory;
 use spell_types::Lexicon;
@@ -21,12 +21,13 @@ const MOST_CHARACTERS: usize = 100;
 /// Whether a dictionary accepts a word that is looked up.
 pub(crate) fn accepts(
     alloc: Global,
-    stems: &Stems,
+    dictionary: &Dictionary,
     breaks: &Breaks,
     word: &[char],
 ) -> Result<bool, NoMemory>
-    requires { BreakAlike breaks.now stems.now.affixes.breaks }
-    ensures { IfOk result (λ answer. answer ≡ accepts stems.now word.now) }
+    requires breaks { BreakAlike breaks.now dictionary.now.stems.now.affixes.breaks }
+    requires compounds { AreCompoundsOf dictionary.now.stems.now dictionary.now.compounds.now }
+    ensures { IfOk result (λ answer. answer ≡ accepts dictionary.now.stems.now word.now) }
 {
     if word.is_empty() || is_number(word) {
         return Ok(true);
@@ -34,7 +35,7 @@ pub(crate) fn accepts(
     if word.len() > MOST_CHARACTERS {
         return Ok(false);
     }
-    accepts_short(alloc, stems, breaks, word)
+    accepts_short(alloc, dictionary, breaks, word)
 }
 
 /// Whether a word that is no number and not too long is accepted, as it is or without the dots at its end. Where there
@@ -42,49 +43,57 @@ pub(crate) fn accepts(
 #[tactic(auto, using(crate::proofs::AcceptLemmas::refuses_undotted, crate::proofs::AcceptLemmas::accepts_undotted))]
 fn accepts_short(
     alloc: Global,
-    stems: &Stems,
+    dictionary: &Dictionary,
     breaks: &Breaks,
     word: &[char],
 ) -> Result<bool, NoMemory>
-    requires breaks { BreakAlike breaks.now stems.now.affixes.breaks }
+    requires breaks { BreakAlike breaks.now dictionary.now.stems.now.affixes.breaks }
+    requires compounds { AreCompoundsOf dictionary.now.stems.now dictionary.now.compounds.now }
     requires number { is_number word.now ≡ false }
-    ensures { IfOk result (λ answer. answer ≡ is_accepted_short stems.now word.now) }
+    ensures { IfOk result (λ answer. answer ≡ is_accepted_short dictionary.now.stems.now word.now) }
 {
-    if is_broken(alloc, stems, breaks, word)? {
+    if is_broken(alloc, dictionary, breaks, word)? {
         return Ok(true);
     }
     let rest = undotted(word);
     if rest.len() == word.len() {
         return Ok(false);
     }
-    accepts_before_dots(alloc, stems, breaks, rest)
+    accepts_before_dots(alloc, dictionary, breaks, rest)
 }
 
 /// Whether what stands before the dots at the end of a word is accepted, where dots are word characters.
 fn accepts_before_dots(
     alloc: Global,
-    stems: &Stems,
+    dictionary: &Dictionary,
     breaks: &Breaks,
     rest: &[char],
 ) -> Result<bool, NoMemory>
-    requires { BreakAlike breaks.now stems.now.affixes.breaks }
-    ensures { IfOk result (λ answer. answer ≡ is_accepted_before_dots stems.now rest.now) }
+    requires breaks { BreakAlike breaks.now dictionary.now.stems.now.affixes.breaks }
+    requires compounds { AreCompoundsOf dictionary.now.stems.now dictionary.now.compounds.now }
+    ensures { IfOk result (λ answer. answer ≡ is_accepted_before_dots dictionary.now.stems.now rest.now) }
 {
-    if rest.is_empty() || !are_dots_inside(stems.lexicon()) {
+    if rest.is_empty() || !are_dots_inside(dictionary.stems.lexicon()) {
         return Ok(false);
     }
     if is_number(rest) {
         return Ok(true);
     }
-    is_broken(alloc, stems, breaks, rest)
+    is_broken(alloc, dictionary, breaks, rest)
 }
 
 /// Whether a word is accepted, perhaps in pieces.
-fn is_broken(alloc: Global, stems: &Stems, breaks: &Breaks, word: &[char]) -> Result<bool, NoMemory>
-    requires { BreakAlike breaks.now stems.now.affixes.breaks }
-    ensures { IfOk result (λ answer. answer ≡ is_broken_by stems.now word.now) }
+fn is_broken(
+    alloc: Global,
+    dictionary: &Dictionary,
+    breaks: &Breaks,
+    word: &[char],
+) -> Result<bool, NoMemory>
+    requires breaks { BreakAlike breaks.now dictionary.now.stems.now.affixes.breaks }
+    requires compounds { AreCompoundsOf dictionary.now.stems.now dictionary.now.compounds.now }
+    ensures { IfOk result (λ answer. answer ≡ is_broken_by dictionary.now.stems.now word.now) }
 {
-    let judge = |piece: &[char]| judge_piece(alloc, stems, piece);
+    let judge = |piece: &[char]| judge_piece(alloc, dictionary, piece);
     breaks.broken(alloc, word, &judge)
 }
 

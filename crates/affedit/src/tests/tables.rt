@@ -220,6 +220,21 @@ aff SFX S Y 2|SFX S 0 s .|SFX S 0 t .|SFX S 0 u .
 aff SFX S X 0
 3 aff 1 BadCross
 
+aff COMPOUNDRULE 1|COMPOUNDRULE *a
+3 aff 2 BadPattern
+
+aff CHECKCOMPOUNDPATTERN 1|CHECKCOMPOUNDPATTERN oo/ab ba
+3 aff 2 BadFlag
+
+aff CHECKCOMPOUNDPATTERN 1|CHECKCOMPOUNDPATTERN oo ba oba
+3 aff 2 LeftOut
+
+aff COMPOUNDLAST A|COMPOUNDEND A
+3 aff 2 Twice
+
+aff COMPOUNDMIN x
+3 aff 1 BadNumber
+
 aff AF 2|AF B|AF AB|SFX B Y 0
 dic 3|hello|try/1|work/3
 3 dic 4 BadAlias
@@ -268,7 +283,7 @@ dic |1
 
 #[test]
 fn refuses_dictionaries_with_the_first_fault(rt: HostRuntime) -> Result<(), Fail> {
-    assert_table(&rt, rt.alloc(), FAULTS, 34)?;
+    assert_table(&rt, rt.alloc(), FAULTS, 39)?;
     Ok(())
 }
 

@@ -7,16 +7,16 @@ use Rattle.word_verdict.proofs.words.accepts.Goals.{then-is_empty-via-then-is_em
 pub returns-then-is_empty : goal.returns-then-is_empty
 returns-then-is_empty c =
     elim c.then-is_empty.branch [
-      | then-is_empty-via-then-is_empty w ↦ accepts_empty c.args.stems.now c.args.word.now (search rules)
-      | then-is_empty-via-else-is_empty+then-is_number w ↦ accepts_number c.args.stems.now c.args.word.now (search rules)
+      | then-is_empty-via-then-is_empty w ↦ accepts_empty c.args.dictionary.now.stems.now c.args.word.now (search rules)
+      | then-is_empty-via-else-is_empty+then-is_number w ↦ accepts_number c.args.dictionary.now.stems.now c.args.word.now (search rules)
     ]
 
 pub returns-then-word-gt-MOST_CHARACTERS : goal.returns-then-word-gt-MOST_CHARACTERS
 returns-then-word-gt-MOST_CHARACTERS c =
-    refuses_long c.args.stems.now c.args.word.now (search rules) (search rules)
+    refuses_long c.args.dictionary.now.stems.now c.args.word.now (search rules) (search rules)
 
 pub returns : goal.returns
 returns c =
     subst (λ b. IfOk c.accepts_short.result (λ answer. answer ≡ b))
-    (accepts_short_ones c.args.stems.now c.args.word.now (search rules) (search rules) (search rules))
+    (accepts_short_ones c.args.dictionary.now.stems.now c.args.word.now (search rules) (search rules) (search rules))
     c.accepts_short.ensures
