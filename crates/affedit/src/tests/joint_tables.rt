@@ -104,11 +104,14 @@ aff COMPOUNDFLAG X|CHECKCOMPOUNDPATTERN 2|CHECKCOMPOUNDPATTERN oo bar|CHECKCOMPO
 dic 4|foo/X|bar/X|bat/X|qux/X
 text foobar foobat barfoo foobarfoo barfoobar quxqux quxfoo fooqux barquxqux FOOBAR
 1 1 0 6 foobar|1 21 30 foobarfoo|1 31 40 barfoobar|1 41 47 quxqux|1 62 71 barquxqux|1 72 78 FOOBAR|6 of 10
-# A text as long as the part, and a longer one.
+# A text as long as the part, and a longer one; and texts inside the parts.
 aff COMPOUNDFLAG X|CHECKCOMPOUNDPATTERN 4|CHECKCOMPOUNDPATTERN foo bar|CHECKCOMPOUNDPATTERN xfoo bat|\
     CHECKCOMPOUNDPATTERN ar fooq|CHECKCOMPOUNDPATTERN ux bart
-text foobar foobat barfoo barfooqux quxbar quxbart
-1 1 0 6 foobar|1 38 45 quxbart|2 of 6
+text foobar foobat barfoo barfooqux quxbar
+1 1 0 6 foobar|1 of 5
+aff COMPOUNDFLAG X|CHECKCOMPOUNDPATTERN 3|CHECKCOMPOUNDPATTERN fo ba|CHECKCOMPOUNDPATTERN oo a|\
+    CHECKCOMPOUNDPATTERN u ba
+0 0 of 5
 # Another way to part the word.
 aff COMPOUNDFLAG X|COMPOUNDMIN 2|CHECKCOMPOUNDPATTERN 1|CHECKCOMPOUNDPATTERN oo ba
 dic 4|foo/X|bar/X|foob/X|ar/X
@@ -174,7 +177,7 @@ aff CHECKCOMPOUNDPATTERN 1|CHECKCOMPOUNDPATTERN oo ba oba
 #[test]
 fn lets_parts_meet(rt: HostRuntime) -> Result<(), Fail> {
     assert_table(&rt, rt.alloc(), JOINTS, 23)?;
-    assert_table(&rt, rt.alloc(), PATTERNS, 20)?;
+    assert_table(&rt, rt.alloc(), PATTERNS, 21)?;
     Ok(())
 }
 
@@ -184,6 +187,8 @@ aff COMPOUNDFLAG X|COMPOUNDMIN 2|CHECKCOMPOUNDREP|REP 2|REP y i|REP d$ t
 dic 6|ser/X|vyz/X|serviz|ba/X|nd/X|bant
 text servyz vyzser band ndba
 1 1 0 6 servyz|1 14 18 band|2 of 4
+aff COMPOUNDFLAG X|COMPOUNDMIN 2|REP 2|REP y i|REP d$ t
+0 0 of 4
 
 # Both anchors, one and none.
 aff COMPOUNDFLAG X|CHECKCOMPOUNDREP|REP 1|REP ^foobar$ fubar
@@ -319,8 +324,9 @@ text foostraatt Foostraatt foobars straat straatt Straat FOOSTRAATT fOOSTRAAT
 # An entry in capitals, and another entry of the word that asks for none.
 aff COMPOUNDFLAG X|FORCEUCASE U
 dic 6|Foo/X|\u{c4}bc/X|bar/X|straat/XU|weg/XU|weg/X
-text Foostraat foostraat FOOSTRAAT barweg Barweg Barstraat barstraat \u{c4}bcstraat \u{e4}bcstraat barstraatweg
-1 1 10 19 foostraat|1 54 63 barstraat|1 75 85 \u{e4}bcstraat|3 of 10
+text Foostraat foostraat FOOSTRAAT barweg Barweg Barstraat barstraat \u{c4}bcstraat \u{e4}bcstraat barstraatweg \
+    barFoostraat
+1 1 10 19 foostraat|1 54 63 barstraat|1 75 85 \u{e4}bcstraat|1 99 111 barFoostraat|4 of 11
 # Beside an entry that keeps its case.
 aff COMPOUNDFLAG X|FORCEUCASE U|KEEPCASE K
 dic 3|foo/X|straat/XUK|Bar/X
@@ -335,7 +341,7 @@ text foostraat Foostraat foobar foobar-foostraat foobar-Foostraat Foobar-foostra
 
 #[test]
 fn refuses_misspelled_compounds_and_those_past_a_limit(rt: HostRuntime) -> Result<(), Fail> {
-    assert_table(&rt, rt.alloc(), MISSPELLINGS, 20)?;
+    assert_table(&rt, rt.alloc(), MISSPELLINGS, 21)?;
     assert_table(&rt, rt.alloc(), LIMITS, 18)?;
     Ok(())
 }
