@@ -1,8 +1,8 @@
 #!/usr/bin/env bash
 # Makes each allocation of `check` fail in turn, until a run has none that fails: on the sample's dictionary, on one with
-# aliases, classes and a twofold suffix, on one with ICONV, IGNORE and BREAK, and on one that is refused in its last line.
-# Prints what the runs ended with and how often, and ends with status 1 if one of them ended otherwise than with `memory`
-# alone and status 7 or as the run without a failing allocation. Needs gcc.
+# aliases, classes and a twofold suffix, on one with ICONV, IGNORE and BREAK, on one with compounds by flags and by rules, and
+# on one that is refused in its last line. Prints what the runs ended with and how often, and ends with status 1 if one of them
+# ended otherwise than with `memory` alone and status 7 or as the run without a failing allocation. Needs gcc.
 set -euo pipefail
 top=$(cd "$(dirname "$0")/.." && pwd)
 work=$(mktemp -d)
@@ -56,7 +56,7 @@ int posix_memalign(void **out, size_t align, size_t size) {
 C
 gcc -shared -fPIC -O1 -o "$work/fail.so" "$work/fail.c" -ldl 2>/dev/null
 # The folders have the files a.aff, a.dic and text.
-mkdir "$work/sample" "$work/affixes" "$work/conversions" "$work/refused"
+mkdir "$work/sample" "$work/affixes" "$work/conversions" "$work/compounds" "$work/refused"
 cp "$top/crates/affedit/data/a.aff" "$top/crates/affedit/data/a.dic" "$work/sample"
 printf 'hello 2nd wrld' > "$work/sample/text"
 
@@ -87,6 +87,20 @@ AFF
 printf "3\ndon't\nco-op\nbar\n" > "$work/conversions/a.dic"
 printf 'don’t co-op coop/bar bar/foo' > "$work/conversions/text"
 
+cat > "$work/compounds/a.aff" <<'AFF'
+SET UTF-8
+COMPOUNDFLAG X
+COMPOUNDRULE 1
+COMPOUNDRULE ab?
+CHECKCOMPOUNDPATTERN 1
+CHECKCOMPOUNDPATTERN oo ba
+CHECKCOMPOUNDREP
+REP 1
+REP y i
+AFF
+printf '6\nfoo/X\nbar/X\nser/X\nvyz/X\nserviz\nten/ab\n' > "$work/compounds/a.dic"
+printf 'barfoo foobar servyz tenten barbarfoo' > "$work/compounds/text"
+
 cat > "$work/refused/a.aff" <<'AFF'
 SET UTF-8
 SFX S Y 1
@@ -109,7 +123,7 @@ ending() {
 }
 
 wrong=0
-for name in sample affixes conversions refused; do
+for name in sample affixes conversions compounds refused; do
     : > "$work/seen"
     whole=$(FAIL_ALLOCATION=0 ending "$work/$name")
     for which in $(seq 1 100000); do
