@@ -1,7 +1,7 @@
 #!/usr/bin/env bash
 # Times `check` on compounds. By a dictionary of 20,000 entries of six letters, all with COMPOUNDFLAG: 1,000 words of three parts, and
-# 1,000 of 100 characters that are none, since their first or their last two letters are no part's. By a dictionary of
-# `a` and `aa`: 100 words of 30, 50 and 100 characters that are none, which could be cut in the most ways. By 20,000 entries and
+# 1,000 of 100 characters that are none, since their first or their last four letters are no part's. By a dictionary of
+# `a` and `aa`: 1,000 words of 30, 50 and 100 characters that are none, which could be cut in the most ways. By 20,000 entries and
 # 65,000 compound rules: none has a flag of an entry; and by rules that all have one.
 # Prints seconds and the most memory that was used. Ends with status 1 if a number of marks is another one than is known here.
 set -euo pipefail
@@ -19,7 +19,7 @@ awk "$stems"' function many(k, made, j) { for (j = 0; j < 16; j++) made = made s
 printf 'SET UTF-8\nCOMPOUNDFLAG X\nCOMPOUNDMIN 1\n' > short.aff
 printf '2\na/X\naa/X\n' > short.dic
 for length in 30 50 100; do
-    awk -v length_of=$length 'BEGIN { word = "b"; while (length(word) < length_of) word = word "a"; for (k = 0; k < 100; k++) print word }' > "short-$length.text"
+    awk -v length_of=$length 'BEGIN { word = "b"; while (length(word) < length_of) word = word "a"; for (k = 0; k < 1000; k++) print word }' > "short-$length.text"
 done
 awk 'BEGIN { print "FLAG num"; print "COMPOUNDRULE 65000"; for (i = 0; i < 65000; i++) printf "COMPOUNDRULE (%d)(%d)*(%d)\n", i % 60000 + 2, i % 50000 + 3, i % 40000 + 4 }' > dead.aff
 awk 'BEGIN { print "FLAG num"; print "COMPOUNDRULE 65000"; for (i = 0; i < 65000; i++) printf "COMPOUNDRULE (1)(%d)*(%d)\n", i % 50000 + 3, i % 40000 + 4 }' > live.aff
@@ -41,7 +41,7 @@ measure '1,000 words of three parts' '0 of 1000' flags.aff flags.dic parts.text
 measure '1,000 words of 100, none by their front' '1000 of 1000' flags.aff flags.dic front.text
 measure '1,000 words of 100, none by their end' '1000 of 1000' flags.aff flags.dic end.text
 for length in 30 50 100; do
-    measure "100 words of $length that may be cut anywhere" '100 of 100' short.aff short.dic "short-$length.text"
+    measure "1,000 words of $length that may be cut anywhere" '1000 of 1000' short.aff short.dic "short-$length.text"
 done
 measure '1,000 words of three parts, no rule' '1000 of 1000' none.aff rules.dic parts.text
 measure 'the same, 65,000 rules of no entry' '1000 of 1000' dead.aff rules.dic parts.text
