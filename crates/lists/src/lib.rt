@@ -8,8 +8,10 @@ ghost use Rattle.std.specs.Hash.{items_Alike};
 ghost use Rattle.std.specs.Iterator.Runs.{EveryRun, ItemsMapTo};
 ghost use Rattle.std.specs.Slice.Iter.{iter_rest, iter_steps};
 
+mod shared_items;
 pub mod text_order;
 
+pub use shared_items::{SharedItems, Walk};
 use std::alloc::{AllocError, AllocFailed, Global};
 use std::default::MadeWith;
 use std::hash::{Hash, Hasher};
