@@ -1,0 +1,331 @@
+//! Edits of a list of paragraphs, and why one is refused.
+
+ghost use Rattle.std.specs.Prelude.{◌≡◌, ◌==◌, ◌+◌, ◌≤◌, ◌<◌, List, ℕ, length, position, Some, None, MatchOption, IfOk, IfErr, OnOk};
+ghost use Rattle.std.specs.Arc.{arc_value};
+ghost use Rattle.std.specs.List.{AllByRecursion};
+ghost use Rattle.paragraph_text.specs.Paragraphs.{AreValid, HasNoBreak, Paragraph, numbered_from};
+ghost use Rattle.paragraph_text.specs.Edits.{Applies, Inserts, IsDecided, IsFoundAt, IsGap, IsSpliced, IsTold, Removes, Replaces, behind, break_in, entry_refusal, first_refusal, gone_before, gone_or, is_edge, is_span, next_id_after, splice_refusal, too_long, with_id};
+ghost use Rattle.paragraph_text.specs.declared.edits.Edit.{Edit};
+ghost use Rattle.paragraph_text.specs.declared.edits.Edit.TheVariants.{Insert, Remove, Replace};
+ghost use Rattle.paragraph_text.specs.declared.edits.EditRefusal.TheVariants.{NoMemory as OutOfMemory};
+
+use crate::list::{Para, Paragraphs};
+use lists::NoMemory;
+use std::alloc::{AllocError, Global};
+use std::sync::Arc;
+use text_lines::Text;
+
+/// How many bytes a paragraph has at most.
+const MOST_BYTES: usize = 65_536;
+
+/// How many paragraphs there are at most.
+const MOST_PARAGRAPHS: usize = 20_000;
+
+/// What a writer asks for. A paragraph is named by its id, and where its text is meant by its rev too. Places are bytes of the
+/// text, from 0 on.
+#[derive(Debug, Drop)]
+pub enum Edit {
+    /// The bytes from `from` up to `to` of a paragraph become a text. Both lie between characters.
+    Replace {
+        id: u64,
+        rev: u64,
+        from: u32,
+        to: u32,
+        text: Text,
+    },
+    /// A paragraph is put before another one, or at the end.
+    Insert {
+        before: Option<u64>,
+        text: Text,
+    },
+    /// A paragraph is taken out.
+    Remove {
+        id: u64,
+        rev: u64,
+    },
+}
+
+/// Why an edit is refused, in this order.
+#[derive(Clone, Copy, Debug, PartialEq, Eq)]
+pub enum EditRefusal {
+    /// The paragraph that is named is not there.
+    Gone { id: u64 },
+    /// The paragraph has this rev, and not the one that was given.
+    Behind { rev: u64 },
+    /// The bytes are not whole characters of the paragraph, which has so many bytes.
+    BadSpan { length: u64 },
+    /// The text that is put has a line feed, the first at this byte.
+    HasBreak { at: u64 },
+    /// The paragraph would have so many bytes, more than 65,536.
+    TooLong { would: u64 },
+    /// There are so many paragraphs that none may be put in: 20,000.
+    Full { count: u64 },
+    /// Memory for the answer could not be had.
+    NoMemory,
+}
+
+impl From<NoMemory> for EditRefusal {
+    ghost from_gives = { λ _ refusal. refusal ≡ OutOfMemory };
+
+    fn from(_wanting: NoMemory) -> EditRefusal {
+        EditRefusal::NoMemory
+    }
+}
+
+impl From<AllocError> for EditRefusal {
+    ghost from_gives = { λ _ refusal. refusal ≡ OutOfMemory };
+
+    fn from(_wanting: AllocError) -> EditRefusal {
+        EditRefusal::NoMemory
+    }
+}
+
+/// The list that an edit makes, where `version` is the next version and `next_id` the next id. The list before it stays
+/// as it is. The touched paragraph has rev `version`, one that is put in has id `next_id`.
+pub fn apply(
+    alloc: Global,
+    paragraphs: &Paragraphs,
+    version: u64,
+    next_id: u64,
+    edit: &Edit,
+) -> Result<Paragraphs, EditRefusal>
+    ensures applied { IfOk result (Applies version next_id paragraphs.now edit.now) }
+    ensures refused { IfErr result (IsTold (first_refusal paragraphs.now edit.now)) }
+    ensures kept { AreValid version next_id paragraphs.now → IfOk result (AreValid (version + 1) (next_id_after next_id edit.now)) }
+{
+    match edit {
+        Edit::Replace {
+            id,
+            rev,
+            from,
+            to,
+            text,
+        } => {
+            let span = Span {
+                from: *from as usize,
+                to: *to as usize,
+            };
+            replace(alloc, paragraphs, version, *id, *rev, span, text.as_str())
+        }
+        Edit::Insert { before, text } => {
+            let text = text.as_str();
+            insert(alloc, paragraphs, version, next_id, *before, text)
+        }
+        Edit::Remove { id, rev } => remove(alloc, paragraphs, *id, *rev),
+    }
+}
+
+/// The bytes of a text from one place up to another.
+#[derive(Clone, Copy, Debug)]
+struct Span {
+    from: usize,
+    to: usize,
+}
+
+/// The list in which a part of a paragraph's text is replaced.
+fn replace(
+    alloc: Global,
+    paragraphs: &Paragraphs,
+    version: u64,
+    id: u64,
+    rev: u64,
+    span: Span,
+    put: &str,
+) -> Result<Paragraphs, EditRefusal>
+    ensures applied { IfOk result (Replaces version paragraphs.now id rev span.from span.to put.now) }
+    ensures refused { IfErr result (IsTold (first_refusal paragraphs.now (Replace id rev span.from span.to put.now))) }
+{
+    let (place, old) = current(paragraphs, id, rev)?;
+    let text = splice(alloc, old.text.as_str(), span, put)?;
+    let para = Para {
+        id,
+        rev: version,
+        text,
+    };
+    Ok(paragraphs.replaced(alloc, place, para)?)
+}
+
+/// The list into which a paragraph is put.
+fn insert(
+    alloc: Global,
+    paragraphs: &Paragraphs,
+    version: u64,
+    next_id: u64,
+    before: Option<u64>,
+    put: &str,
+) -> Result<Paragraphs, EditRefusal>
+    ensures applied { IfOk result (Inserts version next_id paragraphs.now before put.now) }
+    ensures refused { IfErr result (IsTold (first_refusal paragraphs.now (Insert before put.now))) }
+{
+    let place = gap(paragraphs, before)?;
+    check_entry(paragraphs, put)?;
+    let para = Para {
+        id: next_id,
+        rev: version,
+        text: shared(alloc, put)?,
+    };
+    Ok(paragraphs.inserted(alloc, place, para)?)
+}
+
+/// The list from which a paragraph is taken out.
+fn remove(
+    alloc: Global,
+    paragraphs: &Paragraphs,
+    id: u64,
+    rev: u64,
+) -> Result<Paragraphs, EditRefusal>
+    ensures applied { IfOk result (Removes paragraphs.now id rev) }
+    ensures refused { IfErr result (IsTold (first_refusal paragraphs.now (Remove id rev))) }
+{
+    let (place, _) = current(paragraphs, id, rev)?;
+    Ok(paragraphs.removed(alloc, place)?)
+}
+
+/// The paragraph with an id and a rev, and its place.
+fn current(paragraphs: &Paragraphs, id: u64, rev: u64) -> Result<(usize, &Para), EditRefusal>
+    ensures found { IfOk result (λ found. IsFoundAt paragraphs.now id found.0 found.1.now × (found.1.now.rev ≡ rev)) }
+    ensures refused { IfErr result (λ refusal. gone_or id paragraphs.now (λ touched. behind touched rev) ≡ Some refusal) }
+{
+    match found(paragraphs, id) {
+        None => Err(EditRefusal::Gone { id }),
+        Some((place, para)) if para.rev == rev => Ok((place, para)),
+        Some((_, para)) => Err(EditRefusal::Behind { rev: para.rev }),
+    }
+}
+
+/// The paragraph with an id, and its place.
+fn found(paragraphs: &Paragraphs, id: u64) -> Option<(usize, &Para)>
+    ensures { MatchOption result (with_id id paragraphs.now ≡ None) (λ found. IsFoundAt paragraphs.now id found.0 found.1.now) }
+{
+    match paragraphs.place_of(id) {
+        None => None,
+        Some(place) => match paragraphs.get(place) {
+            None => None,
+            Some(para) => Some((place, para)),
+        },
+    }
+}
+
+/// The place before which a paragraph is put, where one is named or none.
+fn gap(paragraphs: &Paragraphs, before: Option<u64>) -> Result<usize, EditRefusal>
+    ensures found { IfOk result (IsGap paragraphs.now before) }
+    ensures passed { OnOk result (gone_before paragraphs.now before ≡ None) }
+    ensures refused { IfErr result (λ refusal. gone_before paragraphs.now before ≡ Some refusal) }
+{
+    match before {
+        None => Ok(paragraphs.len()),
+        Some(id) => match paragraphs.place_of(id) {
+            None => Err(EditRefusal::Gone { id }),
+            Some(place) => Ok(place),
+        },
+    }
+}
+
+/// Whether a text may be a paragraph of its own.
+fn check_entry(paragraphs: &Paragraphs, put: &str) -> Result<(), EditRefusal>
+    ensures whole { OnOk result (HasNoBreak put.now) }
+    ensures short { OnOk result (length put.now ≤ 65536) }
+    ensures room { OnOk result (length paragraphs.now < 20000) }
+    ensures passed { OnOk result (entry_refusal paragraphs.now put.now ≡ None) }
+    ensures refused { IfErr result (λ refusal. entry_refusal paragraphs.now put.now ≡ Some refusal) }
+{
+    check_break(put)?;
+    check_length(put.len())?;
+    let count = paragraphs.len();
+    if count < MOST_PARAGRAPHS {
+        Ok(())
+    } else {
+        Err(EditRefusal::Full {
+            count: count as u64,
+        })
+    }
+}
+
+/// Whether a text has no line feed.
+fn check_break(put: &str) -> Result<(), EditRefusal>
+    ensures whole { OnOk result (HasNoBreak put.now) }
+    ensures passed { OnOk result (break_in put.now ≡ None) }
+    ensures refused { IfErr result (λ refusal. break_in put.now ≡ Some refusal) }
+{
+    match first_break(put) {
+        None => Ok(()),
+        Some(at) => Err(EditRefusal::HasBreak { at: at as u64 }),
+    }
+}
+
+/// The place of a text's first line feed.
+fn first_break(put: &str) -> Option<usize>
+    ensures { result ≡ position (λ byte. byte == 10) put.now }
+{
+    put.as_bytes().iter().position(|byte| *byte == b'\n')
+}
+
+/// Whether a paragraph may have so many bytes.
+fn check_length(size: usize) -> Result<(), EditRefusal>
+    ensures short { OnOk result (size ≤ 65536) }
+    ensures passed { OnOk result (too_long size ≡ None) }
+    ensures refused { IfErr result (λ refusal. too_long size ≡ Some refusal) }
+{
+    if size <= MOST_BYTES {
+        Ok(())
+    } else {
+        Err(EditRefusal::TooLong { would: size as u64 })
+    }
+}
+
+/// A text with a part of it replaced.
+fn splice(alloc: Global, old: &str, span: Span, put: &str) -> Result<Arc<Text>, EditRefusal>
+    ensures made { IfOk result (λ made. IsSpliced old.now span.from span.to put.now (arc_value made)) }
+    ensures refused { IfErr result (IsTold (splice_refusal old.now span.from span.to put.now)) }
+{
+    if !is_span(old, span) {
+        return Err(EditRefusal::BadSpan {
+            length: old.len() as u64,
+        });
+    }
+    check_break(put)?;
+    let (front, back) = (&old[..span.from], &old[span.to..]);
+    let size = front.len() + put.len() + back.len();
+    check_length(size)?;
+    let mut made = String::with_capacity(alloc, size)?;
+    made.push_str(front)?;
+    made.push_str(put)?;
+    made.push_str(back)?;
+    Ok(shared(alloc, made.as_str())?)
+}
+
+/// Whether a part of a text is whole characters.
+fn is_span(text: &str, span: Span) -> bool
+    ensures { result ≡ is_span text.now span.from span.to }
+{
+    span.from <= span.to && is_edge(text, span.from) && is_edge(text, span.to)
+}
+
+/// Whether a character of a text ends or begins at a place.
+fn is_edge(text: &str, place: usize) -> bool
+    ensures { result ≡ is_edge text.now place }
+{
+    text.is_char_boundary(place)
+}
+
+/// A text of its own that may be shared.
+fn shared(alloc: Global, text: &str) -> Result<Arc<Text>, NoMemory>
+    ensures { IfOk result (λ made. arc_value made ≡ text.now) }
+{
+    Ok(Arc::new(alloc, Text::from_str(alloc, text)?)?)
+}
+
+/// Where a list meets what is asked of it, each edit makes exactly one list, or has exactly one refusal, and never both; and the
+/// list that it makes meets the same with the next version and the next id.
+pub fn edits_are_decided()
+    ensures decided { (version next_id : ℕ) (paragraphs : List Paragraph) (edit : Edit) → AreValid version next_id paragraphs
+        → IsDecided version next_id paragraphs edit }
+    ensures kept { (version next_id : ℕ) (paragraphs after : List Paragraph) (edit : Edit) → AreValid version next_id paragraphs
+        → Applies version next_id paragraphs edit after → AreValid (version + 1) (next_id_after next_id edit) after }
+{}
+
+/// The paragraphs of at most 20,000 texts meet what is asked of a list, if each text has at most 65,536 bytes and no line feed.
+pub fn openings_are_valid()
+    ensures { (texts : List (List ℕ)) → length texts ≤ 20000 → AllByRecursion (λ text. (length text ≤ 65536) × HasNoBreak text) texts
+        → AreValid 1 (length texts) (numbered_from 0 texts) }
+{}

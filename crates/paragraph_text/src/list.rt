@@ -1,0 +1,160 @@
+//! Paragraphs, and lists of them whose versions share what an edit does not touch.
+
+ghost use Rattle.std.specs.Prelude.{◌≡◌, ◌<◌, ◌≤◌, ◌==◌, length, position, slice_get, slice_set, IfOk};
+ghost use Rattle.std.specs.List.{insert, remove};
+ghost use Rattle.std.specs.Option.{option_copied};
+ghost use Rattle.paragraph_text.specs.Paragraphs.{numbered_from};
+
+use lists::{Copied, NoMemory, SharedItems, Walk};
+use std::alloc::Global;
+use std::marker::Model;
+use std::sync::Arc;
+use text_lines::Text;
+
+/// A paragraph: its id, which no other has or had, the version of the text that last touched it, and its text, which
+/// versions of a list share.
+#[derive(Debug, Drop)]
+pub struct Para {
+    pub id: u64,
+    pub rev: u64,
+    pub text: Arc<Text>,
+}
+
+impl Model for Para {
+    ghost use Rattle.std.specs.Arc.{arc_value};
+    ghost use Rattle.paragraph_text.specs.Paragraphs.{Paragraph};
+
+    ghost Value = { Paragraph };
+
+    ghost view = { λ inside. record { id = inside.id; rev = inside.rev; text = arc_value inside.text } };
+}
+
+impl Copied for Para {
+    fn copy(&self, _alloc: Global) -> Result<Para, NoMemory> {
+        Ok(Para {
+            id: self.id,
+            rev: self.rev,
+            text: Arc::try_clone(&self.text)?,
+        })
+    }
+}
+
+/// Paragraphs in their order. Contracts see it as the list of these.
+#[derive(Debug, Drop)]
+pub struct Paragraphs {
+    kept: SharedItems<Para>,
+}
+
+impl Model for Paragraphs {
+    ghost use Rattle.std.specs.Prelude.{List};
+    ghost use Rattle.paragraph_text.specs.Paragraphs.{Paragraph};
+
+    ghost Value = { List Paragraph };
+
+    ghost view = { λ inside. inside.kept };
+}
+
+impl Paragraphs {
+    /// The paragraphs of these texts, in their order: ids from 0 on, and revs of 0.
+    pub fn from_texts(alloc: Global, texts: Vec<Text>) -> Result<Paragraphs, NoMemory>
+        ensures { IfOk result (λ made. made ≡ numbered_from 0 texts.items) }
+    {
+        let mut paras = Vec::with_capacity(alloc, texts.len())?;
+        for text in texts {
+            let id = paras.len() as u64;
+            paras.push(Para {
+                id,
+                rev: 0,
+                text: Arc::new(alloc, text)?,
+            })?;
+        }
+        Ok(Paragraphs {
+            kept: SharedItems::from_vec(alloc, paras)?,
+        })
+    }
+
+    /// How many paragraphs there are.
+    pub fn len(&self) -> usize
+        ensures { result ≡ length self.now }
+    {
+        self.kept.len()
+    }
+
+    /// Whether there is no paragraph.
+    pub fn is_empty(&self) -> bool
+        ensures { result ≡ (length self.now == 0) }
+    {
+        self.kept.is_empty()
+    }
+
+    /// The paragraph with a place, from 0 on; none past the end.
+    pub fn get(&self, place: usize) -> Option<&Para>
+        ensures { option_copied result ≡ slice_get self.now place }
+    {
+        self.kept.get(place)
+    }
+
+    /// The paragraphs, one after another.
+    pub fn iter(&self) -> Walk<'_, Para>
+        ensures { result ≡ self.now }
+    {
+        self.kept.iter()
+    }
+
+    /// The place of the first paragraph with an id. It goes over the ids, chunk by chunk, and looks at no text.
+    pub fn place_of(&self, id: u64) -> Option<usize>
+        ensures { result ≡ position (λ paragraph. paragraph.id == id) self.now }
+    {
+        // There are no more places than a usize counts.
+        let _count = self.kept.len();
+        self.kept.iter().position(|para| para.id == id)
+    }
+
+    /// The list with another paragraph in place of the one with this place.
+    pub(crate) fn replaced(
+        &self,
+        alloc: Global,
+        place: usize,
+        para: Para,
+    ) -> Result<Paragraphs, NoMemory>
+        requires { place < length self.now }
+        ensures { IfOk result (λ made. made ≡ slice_set self.now place para) }
+    {
+        Ok(Paragraphs {
+            kept: self.kept.replaced(alloc, place, para)?,
+        })
+    }
+
+    /// The list with a paragraph put before the one with this place, or behind the last.
+    pub(crate) fn inserted(
+        &self,
+        alloc: Global,
+        place: usize,
+        para: Para,
+    ) -> Result<Paragraphs, NoMemory>
+        requires { place ≤ length self.now }
+        ensures { IfOk result (λ made. made ≡ insert self.now place para) }
+    {
+        Ok(Paragraphs {
+            kept: self.kept.inserted(alloc, place, para)?,
+        })
+    }
+
+    /// The list without the paragraph with this place.
+    pub(crate) fn removed(&self, alloc: Global, place: usize) -> Result<Paragraphs, NoMemory>
+        requires { place < length self.now }
+        ensures { IfOk result (λ made. made ≡ remove self.now place) }
+    {
+        Ok(Paragraphs {
+            kept: self.kept.removed(alloc, place)?,
+        })
+    }
+}
+
+impl Copied for Paragraphs {
+    fn copy(&self, alloc: Global) -> Result<Paragraphs, NoMemory> {
+        Ok(Paragraphs {
+            kept: self.kept.copy(alloc)?,
+        })
+    }
+}
