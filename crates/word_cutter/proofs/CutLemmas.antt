@@ -1,5 +1,5 @@
 -- Cutting word by word finds the words: it is their definition.
-use Rattle.std.proofs.Common.{◌≡◌, ℕ, ◌+◌, ◌-◌, ◌≤◌, Bool, true, false, cond, ◌||◌, subst, List, [], ◌∷◌, ◌++◌, length, Option, Some, None, refl, sym, ap, ◌∙◌, arith, append_assoc, length-append, encode_utf8, drop}
+use Rattle.std.proofs.Common.{◌≡◌, ℕ, ◌+◌, ◌-◌, ◌≤◌, Bool, true, false, cond, ◌&&◌, ◌||◌, subst, List, [], ◌∷◌, ◌++◌, length, Option, Some, None, refl, sym, ap, ◌∙◌, arith, append_assoc, length-append, encode_utf8, drop}
 use Rattle.std.specs.List.{list_any, filter_map, cons_option, slice_split, AllByRecursion}
 use Rattle.std.specs.Char.{len_utf8}
 use Rattle.std.specs.Str.{IsUtf8, chars}
@@ -11,7 +11,7 @@ use Rattle.std.proofs.Math.Seq.{drop-append_seam}
 use Rattle.lists.specs.Laws.{each-append, byte_length-cons, byte_length-append}
 use Rattle.mark_types.specs.Characters.{is_letter_or_digit}
 use Rattle.mark_types.specs.Words.{Word, Placed, placed, belongs, first_of, characters_of, byte_count, word_of, is_outside}
-use Rattle.word_cutter.specs.Runs.{LeavesLess, words_from, words_after, words_from_found}
+use Rattle.word_cutter.specs.Runs.{IsBehind, LeavesLess, has_some, words_from, words_after, words_from_found}
 use Rattle.word_cutter.specs.declared.Rest.{Rest}
 use Rattle.word_cutter.specs.declared.Found.{Found}
 
@@ -126,6 +126,14 @@ pub back-on : (rest : Rest) (text behind : List ℕ) (at c : ℕ) → rest.at �
 back-on rest text behind at c later here first =
     let place : (at - rest.at) + len_utf8 c ≡ at + len_utf8 c - rest.at = omega arith in
     first ∙ ap (drop (len_utf8 c)) here ∙ drop-drop (len_utf8 c) (at - rest.at) rest.text.now ∙ ap (λ n. drop n rest.text.now) place
+
+and-true : (b : Bool) → (b && true) ≡ b
+and-true true = refl
+and-true false = refl
+
+and-both : (a b : Bool) → (a && b) ≡ true → (a ≡ true) × (b ≡ true)
+and-both true b both = (refl, both)
+and-both false b both = absurd cc
 
 list_any-push : (xs : List ℕ) (x : ℕ) → list_any is_letter_or_digit (xs ++ x ∷ []) ≡ (list_any is_letter_or_digit xs || is_letter_or_digit x)
 list_any-push [] x = elim (is_letter_or_digit x) as (λ b. (b || false) ≡ b) [ true ↦ refl | false ↦ refl ]
@@ -270,10 +278,85 @@ walk-leaves-less wordchars rest text behind at before from now after is_word cha
     let ends = walks.ends in
     let later = walks.later in
     let size = walks.size in
+    let far = ap length is.text_is in
     record {
       ordered = omega arith;
       later = omega arith;
-      within = omega arith;
-      behind = is.text_is ∙ left ∙ ap (λ place. drop (place - rest.at) rest.text.now) (sym at_is);
-      utf8 = λ is_text. subst IsUtf8 (sym is.text_is) (utf8 is_text);
+      behind = record {
+        later = omega arith;
+        same_end = omega arith;
+        behind = is.text_is ∙ left ∙ ap (λ place. drop (place - rest.at) rest.text.now) (sym at_is);
+        utf8 = λ is_text. subst IsUtf8 (sym is.text_is) (utf8 is_text);
+      };
     }
+
+-- a run that holds a letter or a digit is a word, or the front of one
+some-words : (wordchars : List ℕ) (from : ℕ) (characters : List ℕ) (run : List Placed) (at before : ℕ) (text : List ℕ) → IsRun from characters run
+    → at ≡ from + byte_count characters → true ≡ list_any is_letter_or_digit characters → has_some (words_behind wordchars run at before text) ≡ true
+some-words wordchars from characters run at before [] is ends some =
+    sym (ap has_some (words-end wordchars from characters run at before is)) ∙ ap (λ word. has_some (cons_option word [])) (one-word from characters some)
+some-words wordchars from characters run at before (c ∷ text) is ends some =
+    (elim (belongs wordchars before c (first_of text)) as (λ b. belongs wordchars before c (first_of text) ≡ b
+    → has_some (words_behind wordchars run at before (c ∷ text)) ≡ true) [
+      | true ↦ λ inside.
+          let sum = byte_length-append characters (c ∷ []) in
+          let one = byte_length-cons c [] in
+          sym (ap has_some (words-on wordchars run at before c text inside))
+          ∙ some-words wordchars from (characters ++ c ∷ []) (run ++ record { byte = at; character = c; in_word = true } ∷ []) (at + len_utf8 c) c text
+          (longer-run from at c characters run is ends) (omega arith)
+          (sym (list_any-push characters c ∙ ap (λ b. b || is_letter_or_digit c) (sym some)))
+      | false ↦ λ outside.
+          sym (ap has_some (words-over wordchars from characters run at before c text is outside))
+          ∙ ap (λ word. has_some (cons_option word (words_behind wordchars [] (at + len_utf8 c) c text))) (one-word from characters some)
+    ]) refl
+
+-- What the search for a word keeps: no word is found yet, and no letter or digit in the run.
+pub record Seeks (wordchars : List ℕ) (rest : Rest) (text : List ℕ) (before : ℕ) : Type 0 where
+  pub at : ℕ
+  pub from : ℕ
+  pub characters : List ℕ
+  pub walks : Walks wordchars rest text at before from false characters
+
+pub seek-begins : (wordchars : List ℕ) (rest : Rest) → Seeks wordchars rest rest.text.now rest.before
+seek-begins wordchars rest = record { at = rest.at; from = rest.at; characters = []; walks = walk-begins wordchars rest [] refl }
+
+-- a character that is no letter or digit of a word
+pub seek-on : (wordchars : List ℕ) (rest : Rest) (text behind : List ℕ) (before c : ℕ)
+    → Seeks wordchars rest text before → IsFirst text c behind → (is_letter_or_digit c && belongs wordchars before c (first_of (chars behind))) ≡ false
+    → Seeks wordchars rest behind c
+seek-on wordchars rest text behind before c seeks first none =
+    by_place (belongs wordchars before c (first_of (chars behind))) refl
+  where
+    by_place : (inside : Bool) → belongs wordchars before c (first_of (chars behind)) ≡ inside → Seeks wordchars rest behind c
+    by_place true inside =
+        let other : is_letter_or_digit c ≡ false = sym (and-true (is_letter_or_digit c)) ∙ ap (λ b. is_letter_or_digit c && b) (sym inside) ∙ none in
+        record {
+          at = seeks.at + len_utf8 c;
+          from = seeks.from;
+          characters = seeks.characters ++ c ∷ [];
+          walks = walk-on wordchars rest text behind seeks.at before seeks.from c false false seeks.characters (seeks.characters ++ c ∷ [])
+              seeks.walks first inside (sym other) refl;
+        }
+    by_place false outside = record {
+      at = seeks.at + len_utf8 c;
+      from = seeks.at + len_utf8 c;
+      characters = [];
+      walks = walk-over wordchars rest text behind seeks.at before seeks.from c false seeks.characters [] seeks.walks first outside refl refl;
+    }
+
+-- a letter or a digit of a word
+pub seek-found : (wordchars : List ℕ) (rest : Rest) (text behind : List ℕ) (before c : ℕ)
+    → Seeks wordchars rest text before → IsFirst text c behind → (is_letter_or_digit c && belongs wordchars before c (first_of (chars behind))) ≡ true
+    → has_some (words_after wordchars rest) ≡ true
+seek-found wordchars rest text behind before c seeks first found =
+    let both = and-both (is_letter_or_digit c) (belongs wordchars before c (first_of (chars behind))) found in
+    let walks = walk-on wordchars rest text behind seeks.at before seeks.from c false true seeks.characters (seeks.characters ++ c ∷ [])
+    seeks.walks first both.1 (sym both.0) refl in
+    sym (ap has_some walks.words)
+    ∙ some-words wordchars seeks.from (seeks.characters ++ c ∷ []) walks.run (seeks.at + len_utf8 c) c (chars behind) walks.is_run walks.ends walks.some
+
+-- no word at the end
+pub seek-ends : (wordchars : List ℕ) (rest : Rest) (text : List ℕ) (before : ℕ) → Seeks wordchars rest text before → chars text ≡ []
+    → has_some (words_after wordchars rest) ≡ false
+seek-ends wordchars rest text before seeks nothing =
+    sym (ap has_some (walk-stops wordchars rest text seeks.at before seeks.from false seeks.characters seeks.walks nothing refl))

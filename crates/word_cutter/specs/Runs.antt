@@ -1,5 +1,5 @@
 -- The words of what is left of a paragraph, one after another.
-use Rattle.std.specs.Prelude.{◌≡◌, ℕ, ◌+◌, ◌-◌, ◌<◌, ◌≤◌, List, [], ◌∷◌, Option, Some, None, drop, length}
+use Rattle.std.specs.Prelude.{◌≡◌, ℕ, ◌+◌, ◌-◌, ◌<◌, ◌≤◌, Bool, true, false, List, [], ◌∷◌, Option, Some, None, drop, length}
 use Rattle.std.specs.List.{filter_map, slice_split}
 use Rattle.std.specs.Str.{IsUtf8, chars}
 use Rattle.mark_types.specs.Words.{Word, placed, word_of, is_outside}
@@ -23,10 +23,20 @@ abbrev pub words_from_found : List ℕ → List ℕ → Option Found → List Wo
 words_from_found wordchars characters None = []
 words_from_found wordchars characters (Some found) = found_word characters found ∷ words_after wordchars found.rest
 
--- the word that was found stands in what was left, and what is left behind it is the rest of that, and less
+-- whether there are words
+abbrev pub has_some : List Word → Bool
+has_some [] = false
+has_some (word ∷ words) = true
+
+-- this is the end of what was left of a paragraph
+pub record IsBehind (rest left : Rest) : Type 0 where
+  pub later : rest.at ≤ left.at
+  pub same_end : left.at + length left.text.now ≡ rest.at + length rest.text.now
+  pub behind : left.text.now ≡ drop (left.at - rest.at) rest.text.now
+  pub utf8 : IsUtf8 rest.text.now → IsUtf8 left.text.now
+
+-- the word that was found stands in what was left, and leaves less of it
 pub record LeavesLess (rest : Rest) (found : Found) : Type 0 where
   pub ordered : found.from ≤ found.to
   pub later : rest.at < found.rest.at
-  pub within : found.rest.at ≤ rest.at + length rest.text.now
-  pub behind : found.rest.text.now ≡ drop (found.rest.at - rest.at) rest.text.now
-  pub utf8 : IsUtf8 rest.text.now → IsUtf8 found.rest.text.now
+  pub behind : IsBehind rest found.rest

@@ -4,11 +4,12 @@
 //! word holds a letter or an ASCII digit: this is the project's own rule.
 #![tactic(auto)]
 
-ghost use Rattle.std.specs.Prelude.{◌≡◌, ℕ, ◌+◌, ◌<◌, ◌≤◌, ◌^◌, List, [], ◌∷◌, ◌++◌, IfOk, IfNone, IfSome, encode_utf8, map, length};
+ghost use Rattle.std.specs.Prelude.{◌≡◌, ℕ, ◌+◌, ◌<◌, ◌≤◌, ◌^◌, ◌&&◌, List, [], ◌∷◌, ◌++◌, IfOk, IfNone, IfSome, encode_utf8, map, length};
 ghost use Rattle.std.specs.Str.{chars};
+ghost use Rattle.mark_types.specs.Characters.{is_letter_or_digit};
 ghost use Rattle.mark_types.specs.Words.{belongs, first_of, words_of};
 ghost use Rattle.mark_types.specs.Handed.{span_of};
-ghost use Rattle.word_cutter.specs.Runs.{LeavesLess, words_after, words_from_found};
+ghost use Rattle.word_cutter.specs.Runs.{LeavesLess, has_some, words_after, words_from_found};
 
 mod characters;
 
@@ -118,6 +119,32 @@ pub fn next_word<'a>(
         to: at,
         rest: Rest { text, at, before },
     }))
+}
+
+/// Whether a word is left of a paragraph. It is looked for up to its first letter or digit, which takes no memory.
+pub fn has_word(wordchars: &[char], rest: Rest<'_>) -> bool
+    ensures { result ≡ has_some (words_after wordchars.now rest.entry) }
+{
+    let Rest {
+        mut text,
+        mut before,
+        ..
+    } = rest;
+    while let Some((c, behind)) = first_character(text) {
+        if shows_word(wordchars, before, c, behind) {
+            return true;
+        }
+        text = behind;
+        before = c;
+    }
+    false
+}
+
+/// Whether the character is a letter or a digit of a word, where it stands between these two.
+fn shows_word(wordchars: &[char], before: char, c: char, behind: &str) -> bool
+    ensures { result ≡ (is_letter_or_digit c && belongs wordchars.now before c (first_of (chars behind.now))) }
+{
+    is_letter_or_digit(c) && belongs(wordchars, before, c, behind)
 }
 
 /// The first character of a text, and what stands behind it.

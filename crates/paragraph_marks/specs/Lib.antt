@@ -1,0 +1,3 @@
+pub mod Paragraphs
+pub mod Judging
+pub mod Stepping

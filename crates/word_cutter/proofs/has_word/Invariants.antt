@@ -1,0 +1,12 @@
+-- No word is found in what was looked at.
+use Rattle.std.proofs.Common.{length}
+use denote.Shadow.{shadow}
+use denote.Text.{Utf8}
+use Rattle.word_cutter.proofs.CutLemmas.{Seeks}
+use Rattle.word_cutter.proofs.has_word.Given as goal
+
+abbrev pub invariant-loop-c : goal.invariant-loop-c
+invariant-loop-c l = shadow (Utf8 l.text) × Seeks l.wordchars l.rest l.text l.before
+
+abbrev pub decreases-loop-c : goal.decreases-loop-c
+decreases-loop-c l = length l.text
