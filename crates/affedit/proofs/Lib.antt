@@ -1,5 +1,3 @@
-pub mod CharacterLemmas
-pub mod CutLemmas
 pub mod ReportLemmas
 pub mod EndingLemmas
 pub mod DueLemmas

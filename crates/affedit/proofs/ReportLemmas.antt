@@ -10,7 +10,8 @@ use Rattle.text_lines.specs.Lines.{text_of}
 use Rattle.spell_types.specs.Yields.{yields}
 use Rattle.mark_types.specs.Words.{Word, words_of, StandsIn}
 use Rattle.mark_types.specs.Marks.{LocatedWord, located_at, located_words, in_paragraph, is_unknown, one_by_one, marks_of}
-use Rattle.affedit.specs.Reports.{line_of, mark_line, word_line, is_marked, paragraph_lines, paragraphs_of}
+use Rattle.paragraph_marks.specs.Paragraphs.{is_marked}
+use Rattle.affedit.specs.Reports.{line_of, mark_line, word_line, paragraph_lines, paragraphs_of}
 
 -- a word of a paragraph that stands alone
 abbrev alone : Word → LocatedWord

@@ -1,4 +1,3 @@
-pub mod Runs
 pub mod Reports
 pub mod Stops
 pub mod Commands

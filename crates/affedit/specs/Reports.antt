@@ -1,5 +1,5 @@
 -- What is printed of the marks of a text.
-use Rattle.std.specs.Prelude.{ℕ, Bool, not, List, [], ◌∷◌, ◌++◌, length, map, codes, encode_utf8_all, if◌then◌else◌}
+use Rattle.std.specs.Prelude.{ℕ, List, [], ◌∷◌, ◌++◌, length, map, codes, encode_utf8_all, if◌then◌else◌}
 use Rattle.std.specs.List.{flat_map}
 use Rattle.std.specs.Fmt.{decimal}
 use Rattle.std.specs.Str.{chars}
@@ -7,6 +7,7 @@ use Rattle.spell_types.specs.declared.Lexicon.{Lexicon}
 use Rattle.mark_types.specs.Marks.{LocatedWord, located_words, in_paragraph, marks_of}
 use Rattle.mark_types.specs.Words.{Word}
 use Rattle.spell_types.specs.Yields.{yields}
+use Rattle.paragraph_marks.specs.declared.judging.Judged.{Judged}
 use Rattle.text_lines.specs.declared.found.Line.{Line}
 use Rattle.text_lines.specs.Lines.{text_of}
 
@@ -58,14 +59,18 @@ summary_of entries lexicon paragraphs =
 abbrev pub paragraph_lines : Lexicon → ℕ → List ℕ → List ℕ
 paragraph_lines lexicon number paragraph = flat_map line_of (map (in_paragraph number) (marks_of lexicon (paragraph ∷ [])))
 
--- whether a word is marked: the lexicon does not generate it
-abbrev pub is_marked : Lexicon → Word → Bool
-is_marked lexicon word = not (yields lexicon word.characters)
-
 -- the line of a word of the paragraph with this number, if the word is marked
 abbrev pub word_line : Lexicon → ℕ → Word → List ℕ
 word_line lexicon number word =
     if yields lexicon word.characters then [] else mark_line number word.from word.to (encode_utf8_all word.characters)
+
+-- the line of a judged word with these characters, and whether it is a mark, by what was judged
+abbrev pub judged_line : ℕ → List ℕ → Judged → List ℕ
+judged_line number characters judged =
+    if judged.is_known then [] else mark_line number judged.found.from judged.found.to (encode_utf8_all characters)
+
+abbrev pub judged_marks : Judged → ℕ
+judged_marks judged = if judged.is_known then 0 else 1
 
 -- the paragraphs of a document: the characters of its lines
 abbrev pub paragraphs_of : List ℕ → List Line → List (List ℕ)

@@ -16,8 +16,10 @@ use aff_reader::read_aff;
 use dic_reader::{DicFault, read_dic};
 use lists::NoMemory;
 use outside::{FileFault, Files};
+use paragraph_marks::Plain;
 use spell_types::{Affixes, Entries};
 use std::alloc::Global;
+use std::sync::Arc;
 use text_lines::bad_line;
 use word_verdict::Speller;
 
@@ -136,5 +138,6 @@ fn print_by(
         ≡ printed_as output (record { affixes = affixes; entries = entries }) (paragraphs_of document.now (good_lines document.now))) }
 {
     let speller = Speller::build(alloc, affixes, entries)?;
-    print(alloc, &speller, output, document)
+    let mut plain = Plain::new(Arc::new(alloc, speller)?);
+    print(alloc, &mut plain, output, document)
 }

@@ -3,7 +3,6 @@
 
 mod check;
 mod command;
-mod cutter;
 mod make;
 mod making;
 mod report;

@@ -12,7 +12,7 @@ use Rattle.affedit.proofs.report.report_of_paragraphs.Goals as goal
 
 pub loop-line-preserved : goal.loop-line-preserved
 loop-line-preserved g c =
-    let lexicon = g.J.Judge.lexicon c.args.judge.now in
+    let lexicon = g.K.Asker.lexicon c.args.asker.now in
     let document = c.args.document.now in
     let l = c.loop-line in
     let line = c.in-Some.line in
@@ -21,8 +21,9 @@ loop-line-preserved g c =
     let read = c.line_text-text.result.now in
     let old = string_bytes l.report.text in
     let added = c.in_ok-add_paragraph.ensures in
-    let marks_now = added.marks in
-    let words_now = added.words in
+    let same = l.invariant.same in
+    let marks_now = added.marks ∙ ap (λ lexicon. l.report.marks + length (marks_of lexicon (chars read ∷ []))) same in
+    let words_now = added.words ∙ ap (λ lexicon. l.report.words + length (words_of lexicon.affixes.wordchars (chars read))) same in
     let marks_before = l.invariant.marks in
     let words_before = l.invariant.words in
     let marks_here : length (marks_of lexicon (chars (text_of document line) ∷ [])) + marks_from lexicon document later ≡ marks_from lexicon document (good_ahead document l.ahead) = ap (marks_from lexicon document) c.in-Some.ensures.good in
@@ -39,7 +40,9 @@ loop-line-preserved g c =
     let next_number = comes.next_number in
     let count = l.invariant.count in
     record {
-      text = ap (λ text. text ++ lines_from lexicon document c.in-Some.next.number later) added.text
+      same = added.same ∙ same;
+      text = ap (λ text. text ++ lines_from lexicon document c.in-Some.next.number later)
+          (added.text ∙ ap (λ lexicon. old ++ paragraph_lines lexicon line.number (chars read)) same)
           ∙ append_assoc old (paragraph_lines lexicon line.number (chars read)) (lines_from lexicon document c.in-Some.next.number later)
           ∙ ap (λ n. old ++ (paragraph_lines lexicon n (chars read) ++ lines_from lexicon document c.in-Some.next.number later)) comes.number
           ∙ ap (λ n. old ++ (paragraph_lines lexicon l.ahead.number (chars read) ++ lines_from lexicon document n later)) comes.next_number
@@ -56,7 +59,7 @@ loop-line-preserved g c =
 
 pub returns-clause-text : goal.returns-clause-text
 returns-clause-text g c =
-    let lexicon = g.J.Judge.lexicon c.args.judge.now in
+    let lexicon = g.K.Asker.lexicon c.args.asker.now in
     let document = c.args.document.now in
     let l = c.loop-line in
     let lines = good_lines document in
@@ -67,7 +70,7 @@ returns-clause-text g c =
 
 pub returns-clause-marks : goal.returns-clause-marks
 returns-clause-marks g c =
-    let lexicon = g.J.Judge.lexicon c.args.judge.now in
+    let lexicon = g.K.Asker.lexicon c.args.asker.now in
     let document = c.args.document.now in
     let lines = good_lines document in
     let none : 0 ≡ marks_from lexicon document (good_ahead document c.loop-line.ahead) = ap (marks_from lexicon document) c.in_default.ensures.good in
@@ -77,7 +80,7 @@ returns-clause-marks g c =
 
 pub returns-clause-words : goal.returns-clause-words
 returns-clause-words g c =
-    let lexicon = g.J.Judge.lexicon c.args.judge.now in
+    let lexicon = g.K.Asker.lexicon c.args.asker.now in
     let document = c.args.document.now in
     let lines = good_lines document in
     let none : 0 ≡ words_from lexicon document (good_ahead document c.loop-line.ahead) = ap (words_from lexicon document) c.in_default.ensures.good in

@@ -7,10 +7,11 @@ use Rattle.affedit.proofs.report.report_of_paragraphs.Given as goal
 
 abbrev pub invariant-loop-line : goal.invariant-loop-line
 invariant-loop-line g l =
-    let lexicon = g.J.Judge.lexicon l.judge in
+    let lexicon = g.K.Asker.lexicon l.fn.asker in
     let all = good_lines l.document in
     let left = good_ahead l.document l.ahead in
     record {
+      same : g.K.Asker.lexicon l.asker ≡ lexicon;
       text : string_bytes l.report.text ++ lines_from lexicon l.document l.ahead.number left ≡ lines_from lexicon l.document 1 all;
       marks : l.report.marks + marks_from lexicon l.document left ≡ marks_from lexicon l.document all;
       words : l.report.words + words_from lexicon l.document left ≡ words_from lexicon l.document all;

@@ -4,16 +4,18 @@ use Rattle.std.specs.List.{flat_map}
 use Rattle.std.specs.Str.{chars}
 use Rattle.std.specs.String.{string_bytes}
 use Rattle.mark_types.specs.Words.{words_of}
-use Rattle.affedit.specs.Reports.{word_line, is_marked}
-use Rattle.affedit.specs.Runs.{words_after}
+use Rattle.word_cutter.specs.Runs.{words_after}
+use Rattle.paragraph_marks.specs.Paragraphs.{is_marked}
+use Rattle.affedit.specs.Reports.{word_line}
 use Rattle.affedit.proofs.report.Report.add_paragraph.Given as goal
 
-abbrev pub invariant-loop-found : goal.invariant-loop-found
-invariant-loop-found g l =
-    let lexicon = g.J.Judge.lexicon l.judge in
+abbrev pub invariant-loop-judged : goal.invariant-loop-judged
+invariant-loop-judged g l =
+    let lexicon = g.K.Asker.lexicon l.fn.asker in
     let all = words_of lexicon.affixes.wordchars (chars l.text) in
     let left = words_after lexicon.affixes.wordchars l.rest in
     record {
+      same : g.K.Asker.lexicon l.asker ≡ lexicon;
       text : string_bytes l.self.text ++ flat_map (word_line lexicon l.number) left ≡ string_bytes l.fn.self.text ++ flat_map (word_line lexicon l.number) all;
       marks : l.self.marks + length (filter (is_marked lexicon) left) ≡ l.fn.self.marks + length (filter (is_marked lexicon) all);
       words : l.self.words + length left ≡ l.fn.self.words + length all;
@@ -22,5 +24,5 @@ invariant-loop-found g l =
       size : l.rest.at + length l.rest.text.now ≡ length l.text;
     }
 
-abbrev pub decreases-loop-found : goal.decreases-loop-found
-decreases-loop-found g l = length l.rest.text.now
+abbrev pub decreases-loop-judged : goal.decreases-loop-judged
+decreases-loop-judged g l = length l.rest.text.now
