@@ -1,0 +1,5 @@
+pub mod Words
+pub mod Handed
+pub mod Commands
+pub mod CommandLines
+pub mod Replies
