@@ -1,0 +1,55 @@
+-- A fault of a step of what is due is the fault of all of it.
+use Rattle.std.proofs.Common.{IfSome, ◌≡◌, Option, Some, None, ℕ, ◌+◌, ◌≤◌, Result, Ok, Err, List, length, replicate, sym, ap, subst, arith}
+use Rattle.std.proofs.lemmas.Bool.Decides.{nat_tests}
+use Rattle.std.proofs.lemmas.List.{length-replicate}
+use Rattle.outside.specs.Files.{Folder}
+use Rattle.dictionary_swap.specs.declared.fault.LoadFault.{LoadFault}
+use Rattle.dictionary_swap.specs.declared.fault.LoadFault.TheVariants.{Failed, Missing, TooLong, Aff, Dic, NoMemory}
+use Rattle.dictionary_swap.specs.Loads.{◌>>=◌, FailsAs, Gives, file_due, size_limit}
+
+-- a step that fails ends all that follows
+pub fails-all : {A B : Type 0} (step : Result A LoadFault) (next : A → Result B LoadFault) (fault : LoadFault) → FailsAs step fault → FailsAs (step >>= next) fault
+fails-all step next Failed is = tt
+fails-all step next NoMemory is = tt
+fails-all step next Missing is = ap (λ s. s >>= next) is
+fails-all step next (TooLong limit) is = ap (λ s. s >>= next) is
+fails-all step next (Aff line why) is = ap (λ s. s >>= next) is
+fails-all step next (Dic line why) is = ap (λ s. s >>= next) is
+
+-- behind a step that gives something, what follows decides
+pub goes-on : {A B C : Type 0} (view : C → B) (step : Result A LoadFault) (given : A) (next : A → Result B LoadFault) (result : Result C LoadFault)
+    → step ≡ Ok given → Gives view (next given) result → Gives view (step >>= next) result
+goes-on view step given next result is rest = subst (λ s. Gives view (s >>= next) result) (sym is) rest
+
+-- and where that fails, all does
+pub fails-behind : {A B : Type 0} (step : Result A LoadFault) (given : A) (next : A → Result B LoadFault) (fault : LoadFault)
+    → step ≡ Ok given → FailsAs (next given) fault → FailsAs (step >>= next) fault
+fails-behind step given next fault is rest = subst (λ s. FailsAs (s >>= next) fault) (sym is) rest
+
+-- the bytes of a file that was loaded
+pub loaded : (limit : ℕ) (bytes : List ℕ) → length bytes ≤ limit → file_due limit (Some bytes) ≡ Ok bytes
+unfolding file_due
+loaded limit bytes few = grind (arith, nat_tests)
+
+-- some file is larger than a limit
+pub too-long : (limit : ℕ) → file_due limit (Some (replicate {A = ℕ} (limit + 1) 0)) ≡ Err (TooLong limit)
+unfolding file_due
+too-long limit =
+    let long : length (replicate {A = ℕ} (limit + 1) 0) ≡ limit + 1 = length-replicate {A = ℕ} (limit + 1) 0 in
+    grind (arith, nat_tests)
+
+-- ---- a file, and what its bytes say
+-- a file that explains the bytes explains what is read of them
+pub found-behind : {B C : Type 0} (view : C → B) (bytes read : List ℕ) (next : List ℕ → Result B LoadFault) (result : Result C LoadFault) → read ≡ bytes
+    → (file : Option (List ℕ)) × (file_due size_limit file ≡ Ok bytes) → Gives view (next read) result
+    → (file : Option (List ℕ)) × Gives view (file_due size_limit file >>= next) result
+found-behind view bytes read next result same found rest =
+    (found.0, goes-on view (file_due size_limit found.0) bytes next result found.1 (subst (λ b. Gives view (next b) result) same rest))
+
+-- and so does a folder that is told
+pub told-behind : {B C : Type 0} (view : C → B) (told : Option Folder) (name bytes read : List ℕ) (next : List ℕ → Result B LoadFault) (result : Result C LoadFault) → read ≡ bytes
+    → IfSome told (λ folder. file_due size_limit (folder name) ≡ Ok bytes) → Gives view (next read) result
+    → IfSome told (λ folder. Gives view (file_due size_limit (folder name) >>= next) result)
+told-behind view None name bytes read next result same found rest = tt
+told-behind view (Some folder) name bytes read next result same found rest =
+    goes-on view (file_due size_limit (folder name)) bytes next result found (subst (λ b. Gives view (next b) result) same rest)

@@ -1,0 +1,86 @@
+-- What is due of a dictionary, by what there is of its two files.
+use Rattle.std.specs.Prelude.{◌≡◌, ℕ, List, length, nat_le, Option, Some, None, Result, Ok, Err, if◌then◌else◌}
+use Rattle.outside.specs.Files.{Folder}
+use Rattle.spell_types.specs.declared.Affixes.{Affixes}
+use Rattle.spell_types.specs.declared.Entry.{Entry}
+use Rattle.spell_types.specs.declared.Lexicon.{Lexicon}
+use Rattle.aff_lines.specs.declared.faults.Fault.{Fault as AffLineFault}
+use Rattle.aff_reader.specs.Grammar.{aff_read}
+use Rattle.dic_reader.specs.Faults.{Fault as DicLineFault, dic_read}
+use Rattle.dictionary_swap.specs.declared.fault.LoadFault.{LoadFault}
+use Rattle.dictionary_swap.specs.declared.fault.LoadFault.TheVariants.{Failed, Missing, TooLong, Aff, Dic, NoMemory}
+
+-- the greatest size of an .aff or a .dic file, in bytes
+abbrev pub size_limit : ℕ
+size_limit = 16777216
+
+-- one thing due after another, up to the first fault
+infixl 10 ◌>>=◌
+abbrev pub ◌>>=◌ : {A B : Type 0} → Result A LoadFault → (A → Result B LoadFault) → Result B LoadFault
+(Ok x) >>= f = f x
+(Err fault) >>= f = Err fault
+
+-- what is due of a file: nothing but its bytes
+abbrev pub bytes_due : ℕ → Option (List ℕ) → Result (List ℕ) LoadFault
+bytes_due limit None = Err Missing
+bytes_due limit (Some bytes) = if nat_le (length bytes) limit then Ok bytes else Err (TooLong limit)
+
+unfoldable pub file_due : ℕ → Option (List ℕ) → Result (List ℕ) LoadFault
+file_due limit file = bytes_due limit file
+
+-- a fault of a file's lines
+abbrev pub faulting : {A F : Type 0} → (F → LoadFault) → Result A F → Result A LoadFault
+faulting at (Ok read) = Ok read
+faulting at (Err fault) = Err (at fault)
+
+abbrev pub at_aff : AffLineFault → LoadFault
+at_aff fault = Aff fault.line fault.why
+
+abbrev pub at_dic : DicLineFault → LoadFault
+at_dic fault = Dic fault.line fault.why
+
+-- what is due of the bytes of an .aff file
+unfoldable pub affixes_step : List ℕ → Result Affixes LoadFault
+affixes_step bytes = faulting at_aff (aff_read bytes)
+
+-- what is due of the bytes of a .dic file
+unfoldable pub entries_step : Affixes → List ℕ → Result (List Entry) LoadFault
+entries_step affixes bytes = faulting at_dic (dic_read affixes bytes)
+
+-- what there is of the files of a dictionary: the bytes of each, if it is there
+pub record DictionaryFiles : Type 0 where
+  pub aff : Option (List ℕ)
+  pub dic : Option (List ℕ)
+
+-- what is due of an .aff file, and of a .dic file behind it
+unfoldable pub affixes_due : Option (List ℕ) → Result Affixes LoadFault
+affixes_due file = do
+  bytes ← file_due size_limit file
+  affixes_step bytes
+
+unfoldable pub entries_due : Affixes → Option (List ℕ) → Result (List Entry) LoadFault
+entries_due affixes file = do
+  bytes ← file_due size_limit file
+  entries_step affixes bytes
+
+-- the dictionary that two files are, or its first fault: each file before its lines, and the .aff file before the .dic file
+unfoldable pub lexicon_due : DictionaryFiles → Result Lexicon LoadFault
+lexicon_due files = do
+  affixes ← affixes_due files.aff
+  entries ← entries_due affixes files.dic
+  Ok (record { affixes = affixes; entries = entries })
+
+-- what a folder has of these names
+abbrev pub found_in : Folder → List ℕ → List ℕ → DictionaryFiles
+found_in folder aff dic = record { aff = folder aff; dic = folder dic }
+
+-- a fault is what is due; but a failure and want of memory may come at any time
+abbrev pub FailsAs : {A : Type 0} → Result A LoadFault → LoadFault → Type 0
+FailsAs due Failed = Unit {0}
+FailsAs due NoMemory = Unit {0}
+FailsAs due fault = due ≡ Err fault
+
+-- a call gives what is due, seen by `view`, or fails so
+abbrev pub Gives : {A B : Type 0} → (A → B) → Result B LoadFault → Result A LoadFault → Type 0
+Gives view due (Ok given) = due ≡ Ok (view given)
+Gives view due (Err fault) = FailsAs due fault

@@ -1,0 +1,39 @@
+//! Loads a dictionary: its two files, and what they say.
+#![tactic(auto)]
+
+ghost use Rattle.std.specs.Prelude.{◌≡◌, ◌<◌, ◌≤◌, IfSome, IsErrOf};
+ghost use Rattle.dictionary_swap.specs.Loads.{DictionaryFiles, lexicon_due, found_in, Gives};
+
+mod causes;
+mod fault;
+mod steps;
+#[cfg(test)]
+mod tests;
+
+pub use fault::LoadFault;
+use outside::Files;
+use std::alloc::Global;
+use steps::{load_affixes, load_entries};
+use word_verdict::Speller;
+
+/// The dictionary of these two files, or what is wrong first: the .aff file is loaded and read before the .dic file, and of
+/// each file its bytes come before its lines. No file may have more than 16,777,216 bytes.
+#[tactic(auto, unfolding(crate::specs::Loads::lexicon_due))]
+pub fn load<F: Files>(
+    alloc: Global,
+    files: &mut F,
+    aff: &str,
+    dic: &str,
+) -> Result<Speller, LoadFault>
+    // It is what is due of some files, which are those that are told, where some are.
+    ensures found { (there : DictionaryFiles) × Gives (λ speller. speller) (lexicon_due there) result }
+    ensures told { IfSome (F.told files.old)
+        (λ folder. Gives (λ speller. speller) (lexicon_due (found_in folder aff.now dic.now)) result) }
+    ensures same { F.told files.new ≡ F.told files.old }
+    ensures failed { IsErrOf result LoadFault.Failed → F.faults files.old < F.faults files.new }
+    ensures count { F.faults files.old ≤ F.faults files.new }
+{
+    let affixes = load_affixes(alloc, files, aff)?;
+    let entries = load_entries(alloc, files, &affixes, dic)?;
+    Ok(Speller::build(alloc, affixes, entries)?)
+}

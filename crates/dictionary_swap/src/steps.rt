@@ -1,0 +1,100 @@
+//! The steps of a load: a file's bytes, and what they say.
+
+ghost use Rattle.std.specs.Prelude.{◌≡◌, ◌<◌, ◌≤◌, ℕ, List, Option, length, IfSome, IfOk, IsErrOf};
+ghost use Rattle.spell_types.specs.Sanity.{AreSaneAffixes, AreSaneEntries};
+ghost use Rattle.dictionary_swap.specs.Loads.{size_limit, file_due, affixes_step, entries_step, affixes_due, entries_due, Gives};
+
+use crate::fault::LoadFault;
+use aff_lines::AffFault;
+use aff_reader::read_aff;
+use dic_reader::{DicFault, read_dic};
+use outside::{FileFault, Files};
+use spell_types::{Affixes, Entries};
+use std::alloc::Global;
+
+/// How large an .aff or a .dic file may be, in bytes.
+const SIZE_LIMIT: u64 = 16_777_216;
+
+/// What the .aff file of this name says.
+#[tactic(auto, unfolding(crate::specs::Loads::affixes_due))]
+pub fn load_affixes<F: Files>(
+    alloc: Global,
+    files: &mut F,
+    name: &str,
+) -> Result<Affixes, LoadFault>
+    ensures found { (file : Option (List ℕ)) × Gives (λ affixes. affixes) (affixes_due file) result }
+    ensures told { IfSome (F.told files.old) (λ folder. Gives (λ affixes. affixes) (affixes_due (folder name.now)) result) }
+    ensures sane { IfOk result AreSaneAffixes }
+    ensures same { F.told files.new ≡ F.told files.old }
+    ensures failed { IsErrOf result LoadFault.Failed → F.faults files.old < F.faults files.new }
+    ensures count { F.faults files.old ≤ F.faults files.new }
+{
+    let bytes = load_file(alloc, files, name)?;
+    read_affixes(alloc, &bytes)
+}
+
+/// What the .dic file of this name says.
+#[tactic(auto, unfolding(crate::specs::Loads::entries_due))]
+pub fn load_entries<F: Files>(
+    alloc: Global,
+    files: &mut F,
+    affixes: &Affixes,
+    name: &str,
+) -> Result<Entries, LoadFault>
+    ensures found { (file : Option (List ℕ)) × Gives (λ entries. entries) (entries_due affixes.now file) result }
+    ensures told { IfSome (F.told files.old) (λ folder. Gives (λ entries. entries) (entries_due affixes.now (folder name.now)) result) }
+    ensures sane { IfOk result AreSaneEntries }
+    ensures same { F.told files.new ≡ F.told files.old }
+    ensures failed { IsErrOf result LoadFault.Failed → F.faults files.old < F.faults files.new }
+    ensures count { F.faults files.old ≤ F.faults files.new }
+{
+    let bytes = load_file(alloc, files, name)?;
+    read_entries(alloc, affixes, &bytes)
+}
+
+/// The bytes of the file of this name.
+#[tactic(auto, unfolding(crate::specs::Loads::file_due))]
+fn load_file<F: Files>(alloc: Global, files: &mut F, name: &str) -> Result<Vec<u8>, LoadFault>
+    ensures found { (file : Option (List ℕ)) × Gives (λ bytes. bytes.items) (file_due size_limit file) result }
+    ensures told { IfSome (F.told files.old) (λ folder. Gives (λ bytes. bytes.items) (file_due size_limit (folder name.now)) result) }
+    ensures same { F.told files.new ≡ F.told files.old }
+    ensures failed { IsErrOf result LoadFault.Failed → F.faults files.old < F.faults files.new }
+    ensures count { F.faults files.old ≤ F.faults files.new }
+{
+    let mut bytes = Vec::new(alloc);
+    match files.load(alloc, name, SIZE_LIMIT, &mut bytes) {
+        Ok(()) => Ok(bytes),
+        Err(FileFault::Failed) => Err(LoadFault::Failed),
+        Err(FileFault::Missing) => Err(LoadFault::Missing),
+        Err(FileFault::TooLong) => Err(LoadFault::TooLong { limit: SIZE_LIMIT }),
+        Err(FileFault::NoMemory) => Err(LoadFault::NoMemory),
+    }
+}
+
+/// What the bytes of an .aff file say.
+#[tactic(auto, unfolding(crate::specs::Loads::affixes_step))]
+fn read_affixes(alloc: Global, bytes: &[u8]) -> Result<Affixes, LoadFault>
+    ensures due { Gives (λ affixes. affixes) (affixes_step bytes.now) result }
+    ensures sane { IfOk result AreSaneAffixes }
+    ensures failed { ¬ (IsErrOf result LoadFault.Failed) }
+{
+    match read_aff(alloc, bytes) {
+        Ok(affixes) => Ok(affixes),
+        Err(AffFault::At { line, why }) => Err(LoadFault::Aff { line, why }),
+        Err(AffFault::NoMemory) => Err(LoadFault::NoMemory),
+    }
+}
+
+/// What the bytes of a .dic file say, where its flags are written as the affixes have them.
+#[tactic(auto, unfolding(crate::specs::Loads::entries_step))]
+fn read_entries(alloc: Global, affixes: &Affixes, bytes: &[u8]) -> Result<Entries, LoadFault>
+    ensures due { Gives (λ entries. entries) (entries_step affixes.now bytes.now) result }
+    ensures sane { IfOk result AreSaneEntries }
+    ensures failed { ¬ (IsErrOf result LoadFault.Failed) }
+{
+    match read_dic(alloc, affixes, bytes) {
+        Ok(entries) => Ok(entries),
+        Err(DicFault::At { line, why }) => Err(LoadFault::Dic { line, why }),
+        Err(DicFault::NoMemory) => Err(LoadFault::NoMemory),
+    }
+}
