@@ -14,6 +14,7 @@ mod real_files;
 mod refusals;
 mod rule_tables;
 mod spellings;
+mod steps;
 mod strip_tables;
 mod tables;
 mod word_tables;
