@@ -11,7 +11,7 @@ use Rattle.std.proofs.Math.Seq.{drop-append_seam}
 use Rattle.lists.specs.Laws.{each-append, byte_length-cons, byte_length-append}
 use Rattle.mark_types.specs.Characters.{is_letter_or_digit}
 use Rattle.mark_types.specs.Words.{Word, Placed, placed, belongs, first_of, characters_of, byte_count, word_of, is_outside}
-use Rattle.word_cutter.specs.Runs.{IsBehind, LeavesLess, has_some, words_from, words_after, words_from_found}
+use Rattle.word_cutter.specs.Runs.{LeavesLess, has_some, words_from, words_after, words_from_found}
 use Rattle.word_cutter.specs.declared.Rest.{Rest}
 use Rattle.word_cutter.specs.declared.Found.{Found}
 

@@ -1,5 +1,5 @@
 -- Each character shows a word or does not; at the end there is none.
-use Rattle.std.proofs.Common.{◌+◌, ◌<◌, ◌∙◌, rules, length, sym, ap, arith}
+use Rattle.std.proofs.Common.{◌∙◌, rules, sym, arith}
 use Rattle.std.proofs.lemmas.Str.{len_utf8_bounds}
 use Rattle.word_cutter.proofs.CutLemmas.{IsFirst, first-size, seek-begins, seek-on, seek-found, seek-ends}
 use Rattle.word_cutter.proofs.has_word.Goals as goal
