@@ -19,7 +19,7 @@ text() {
 
 # The launcher builds the program where it is missing; the program itself is timed.
 "$top/affedit" check "$work/a.aff" "$work/a.dic" "$work/a.dic" > /dev/null || [ $? -eq 1 ]
-program=$top/crates/affedit/out/affedit
+program=$top/out/affedit
 measure() {
     local name=$1 seconds memory bytes size
     size=$(stat -c %s "$work/text")

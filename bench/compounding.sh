@@ -30,7 +30,7 @@ cat words pairs | LC_ALL=C sort -u > text
 # The launcher builds the program where it is missing; the program itself is timed.
 : > empty
 "$top/affedit" check it.aff it.dic empty > /dev/null
-check=("$top/crates/affedit/out/affedit" check it.aff it.dic)
+check=("$top/out/affedit" check it.aff it.dic)
 seconds() {
     { /usr/bin/time -f '%U %S %M' "$@" > out || [ $? -eq 1 ]; } 2>&1 | tail -n 1 | awk '{ printf "%.2f s, %d MB", $1 + $2, $3 / 1024 }'
 }

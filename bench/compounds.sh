@@ -26,7 +26,7 @@ awk 'BEGIN { print "FLAG num"; print "COMPOUNDRULE 65000"; for (i = 0; i < 65000
 printf 'FLAG num\n' > none.aff
 awk "$stems"' BEGIN { print 20000; for (i = 0; i < 20000; i++) print stem(i) "/1" }' > rules.dic
 
-program=$top/crates/affedit/out/affedit
+program=$top/out/affedit
 measure() {
     local name=$1 marks=$2 said
     shift 2

@@ -49,7 +49,7 @@ awk "$same"' BEGIN { print same(100); print same(1000000) }' > equal.text
 cp equal.text alike.text
 awk "$letters"' BEGIN { print letters(100) }' > matching.text
 
-program=$top/crates/affedit/out/affedit
+program=$top/out/affedit
 measure() {
     local name=$1 said
     shift

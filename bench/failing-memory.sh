@@ -113,7 +113,7 @@ printf 'works' > "$work/refused/text"
 
 # The launcher builds the program where it is missing. The sample with this text has one mark, which is status 1.
 "$top/affedit" check "$work/sample/a.aff" "$work/sample/a.dic" "$work/sample/text" > /dev/null || [ $? -eq 1 ]
-program=$top/crates/affedit/out/affedit
+program=$top/out/affedit
 
 # What a run in a folder ended with, as one line.
 ending() {

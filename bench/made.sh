@@ -33,7 +33,7 @@ awk -v start="$start" -v size="$size" '
 
 # The launcher builds the program where it is missing; the program itself is timed.
 "$top/affedit" make 1 1 > /dev/null
-program=$top/crates/affedit/out/affedit
+program=$top/out/affedit
 for run in first second; do
     /usr/bin/time -q -f '%U %S %M' -o "$work/said" "$program" make "$start" "$size" > "$work/$run" || [ $? -eq 1 ]
 done

@@ -98,7 +98,7 @@ words_of() {
 # The launcher builds the program where it is missing; the program itself is timed.
 printf '0\n' > zero.dic
 "$top/affedit" check /dev/null zero.dic /dev/null > /dev/null
-program=$top/crates/affedit/out/affedit
+program=$top/out/affedit
 echo '| dictionary | words | load | a word | a word in tens | memory | refused | nuspell: load | a word | memory | refused | hunspell: load | a word | memory | refused |'
 echo '|---|---|---|---|---|---|---|---|---|---|---|---|---|---|---|'
 
