@@ -1,54 +1,203 @@
 #!/usr/bin/env bash
-# Times `check` by a real dictionary on lines of a real manual, and prints the words, the marks, seconds and the most memory
-# that was used, and the time of a word of running text. Where hunspell is installed, the different words of those lines are judged by both, and those are printed
-# that only one of the two refuses. Dictionary and manual are packages of Debian, which are fetched and unpacked, and not
-# installed. The arguments are the package and the name of the dictionary, the package of the manual, its first line and
-# how many: French, lines 401 to 700, if there are none.
+# Tries every hunspell dictionary that Debian packages, and prints two tables in Markdown. The first says of each pair of files
+# whether it is read as it is packaged, whether it is once it is converted to UTF-8 by the two commands of docs/DICTIONARIES.md,
+# in which processor seconds and with how much memory at most, and which line stops it otherwise. The second says how its answers
+# compare with those of hunspell's library on the different words of a text in its language, by the converted files, without the lines
+# that docs/DICTIONARIES.md tells to leave out; each word that only one of the two refuses is put under a reason, which
+# docs/DECISIONS.md has, or is listed as one without. Texts are those of LibreOffice's help and of manual pages, without markup.
+# The status is 1 where a difference has no reason. Packages are fetched and unpacked, not installed. Needs libhunspell-dev and
+# g++. With a folder as its argument, packages are kept in it, and fetched only where they are not there.
 set -euo pipefail
 top=$(cd "$(dirname "$0")/.." && pwd)
-package=${1:-hunspell-fr-classical}
-name=${2:-fr}
-manual=${3:-debian-reference-fr}
-first=${4:-401}
-count=${5:-300}
 work=$(mktemp -d)
 trap 'rm -rf "$work"' EXIT
+store=$(mkdir -p "${1:-$work/packages}" && cd "${1:-$work/packages}" && pwd)
 cd "$work"
+export LC_ALL=C.UTF-8
 
-apt-get download "$package" "$manual" > /dev/null 2>&1
-for file in *.deb; do
-    echo "$file"
-    dpkg-deb -x "$file" .
-done
-dictionary=usr/share/hunspell/$name
-zcat usr/share/debian-reference/*.txt.gz > manual
-tail -n "+$first" manual | head -n "$count" > text || true
+# shellcheck source=bench/packages.bash
+source "$top/bench/packages.bash"
+
+# The different words of a text: letters and marks, with apostrophes between them, as `check` cuts them.
+words_of() {
+    unpack "$1"
+    running_text "$1" | grep -aoP "\p{L}[\p{L}\p{M}]*(['’][\p{L}\p{M}]+)*" | LC_ALL=C sort -u
+}
+
+# Prints those of the words on standard input that hunspell's library refuses.
+cat > judge.cc << 'CODE'
+#include <hunspell/hunspell.hxx>
+#include <iostream>
+#include <string>
+int main(int, char **names) {
+    Hunspell dictionary(names[1], names[2]);
+    std::ios::sync_with_stdio(false);
+    std::string word;
+    while (std::getline(std::cin, word))
+        if (!dictionary.spell(word)) std::cout << word << '\n';
+}
+CODE
+# shellcheck disable=SC2046
+g++ -std=c++17 -O2 -o judge judge.cc $(pkg-config --cflags --libs hunspell)
 
 # The launcher builds the program where it is missing; the program itself is timed.
-"$top/affedit" check "$dictionary.aff" "$dictionary.dic" /dev/null > /dev/null
-check=("$top/crates/affedit/out/affedit" check "$dictionary.aff" "$dictionary.dic")
-said=$({ /usr/bin/time -f '%e s, %M kB' "${check[@]}" text > out || true; } 2>&1 | tail -n 1)
-echo "$count lines, $(stat -c %s text) bytes: $(tail -n 1 out) marked, $said"
+printf '0\n' > zero.dic
+"$top/affedit" check /dev/null zero.dic /dev/null > /dev/null
+program=$top/out/affedit
 
-# Processor seconds of the load, and of five times all lines from the first on, less the load.
-seconds() {
-    { /usr/bin/time -f '%U %S' "$@" > out || true; } 2>&1 | tail -n 1 | awk '{ print $1 + $2 }'
+# What `check` says of a dictionary, with the line that stops it: `read`, or `aff 5 LeftOut: COMPLEXPREFIXES`. Its processor seconds
+# and the most memory stand in the file `cost`.
+tried() {
+    local aff=$1 said kind line
+    said=$(/usr/bin/time -q -o cost -f '%U %S %M' "$program" check "$aff" "${aff%.aff}.dic" /dev/null) || true
+    case $said in
+        '0 of 0') echo read ;;
+        'aff '* | 'dic '*)
+            read -r kind line _ <<< "$said"
+            echo "\`$said\`: \`$(LC_ALL=C sed -n "${line}{s/\r\$//;p;q}" "${aff%.aff}.$kind" | iconv -c -f UTF-8 -t UTF-8 | tr '|\t' '/ ' | cut -c 1-40)\`"
+            ;;
+        *) echo "\`$said\`" ;;
+    esac
 }
-tail -n "+$first" manual > rest
-cat rest rest rest rest rest > running
-load=$(seconds "${check[@]}" /dev/null)
-spent=$(seconds "${check[@]}" running)
-words=$(grep -o '[[:alpha:]][[:alpha:]-]*' running | wc -l)
-awk -v load="$load" -v spent="$spent" -v words="$words" 'BEGIN { printf "load %.2f s, %d words of running text %.2f s more, %.2f microseconds a word\n", load, words, spent - load, (spent - load) * 1000000 / words }'
 
-if [ -n "$(command -v hunspell)" ]; then
-    # A word a line, so that both cut the same words.
-    letters='[[:alpha:]]'
-    inside=$(grep -q '^WORDCHARS.*-' "$dictionary.aff" && echo '[[:alpha:]-]' || echo "$letters")
-    LC_ALL=C.UTF-8 grep -o "$letters$inside*$letters" text | LC_ALL=C sort -u > words
-    "${check[@]}" words | cut -d ' ' -f 4- -s | head -n -1 | LC_ALL=C sort -u > refused || true
-    hunspell -d "$work/$dictionary" -i UTF-8 -l words | LC_ALL=C sort -u > refused.hunspell
-    echo "$(wc -l < words) different words, refused $(wc -l < refused), by hunspell $(wc -l < refused.hunspell)"
-    echo "only here: $(LC_ALL=C comm -23 refused refused.hunspell | tr '\n' ' ')"
-    echo "only by hunspell: $(LC_ALL=C comm -13 refused refused.hunspell | tr '\n' ' ')"
+mapfile -t packages < <({ apt-cache search '^hunspell-'; apt-cache search '^myspell-'; } | cut -d ' ' -f 1 | grep -E '^(hunspell|myspell)-' | LC_ALL=C sort -u)
+fetch "${packages[@]}"
+mkdir converted
+echo '| package | dictionary | as it is packaged | converted | mended | load | memory |'
+echo '|---|---|---|---|---|---|---|'
+count=0
+loaded=0
+mended=0
+names=()
+for package in "${packages[@]}"; do
+    unpack "$package"
+    while read -r aff; do
+        name=$(basename "$aff" .aff)
+        to=converted/$package-$name
+        packaged=$(tried "$aff")
+        now=
+        fixed=
+        if [ -n "$(encoding_of "$aff")" ]; then
+            convert "$aff" "$to"
+            now=$(tried "$to.aff")
+        else
+            convert "$aff" "$to"
+        fi
+        count=$((count + 1))
+        [ "${now:-$packaged}" != read ] || loaded=$((loaded + 1))
+        if [ "${now:-$packaged}" != read ] && mend "$name" "$to"; then
+            fixed=$(tried "$to.aff")
+        fi
+        load='|'
+        if [ "${fixed:-${now:-$packaged}}" = read ]; then
+            mended=$((mended + 1))
+            names+=("$package $name")
+            load=$(awk '{ printf "%.2f s | %d MB", $1 + $2, $3 / 1024 }' cost)
+        fi
+        echo "| $package $(version "$package") | $name | $packaged | $now | $fixed | $load |"
+    done < <(find "$package" -name '*.aff' -type f | LC_ALL=C sort)
+done
+echo
+echo "Of $count pairs of files $loaded are read once they are converted, and $mended once they are mended."
+echo
+
+# refused BY BASE: those of the words in the file `words` that are refused here or by hunspell, by BASE.aff and BASE.dic.
+refused() {
+    if [ "$1" = here ]; then
+        "$program" check "$2.aff" "$2.dic" words > out || [ $? -eq 1 ]
+        head -n -1 out | cut -d ' ' -f 1 | uniq | awk 'NR == FNR { marked[$1]; next } FNR in marked' - words | LC_ALL=C sort
+    else
+        ./judge "$2.aff" "$2.dic" < words | LC_ALL=C sort
+    fi
+}
+
+# Judges the words by both, into the files `only.here` and `only.hunspell`.
+compare() {
+    refused here "$1" > refused.here
+    refused hunspell "$1" > refused.hunspell
+    LC_ALL=C comm -23 refused.here refused.hunspell > only.here
+    LC_ALL=C comm -13 refused.here refused.hunspell > only.hunspell
+}
+
+# take KIND: the words of the file `taken` are of this kind, and no longer in the files `left.here` and `left.hunspell`.
+take() {
+    [ -s taken ] || return 0
+    sed "s/^/$1 /" taken >> kinds
+    for side in here hunspell; do
+        LC_ALL=C comm -23 "left.$side" taken > rest
+        mv rest "left.$side"
+    done
+}
+
+# take_form KIND SIDE PATTERN CHANGE ACCEPTED: words of this kind are only refused by that side, fit the pattern, and sed makes forms of
+# them that both accept, or that both refuse.
+take_form() {
+    local kind=$1 side=$2 pattern=$3 change=$4 accepted=$5
+    grep -P "$pattern" "left.$side" > fitting || true
+    sed "$change" fitting > words
+    refused here "$base" > refused.here
+    refused hunspell "$base" > refused.hunspell
+    paste -d ' ' fitting words | awk -v "accepted=$accepted" '
+        FILENAME == "refused.here" { here[$1]; next }
+        FILENAME == "refused.hunspell" { there[$1]; next }
+        accepted ? !($2 in here) && !($2 in there) : ($2 in here) && ($2 in there) { print $1 }' refused.here refused.hunspell - | LC_ALL=C sort > taken
+    take "$kind"
+}
+
+# take_option KIND SIDE CHANGE: words of this kind are only refused by that side, and not where sed has changed the .aff file.
+take_option() {
+    local kind=$1 side=$2 change=$3
+    [ -s "left.$side" ] || return 0
+    sed "$change" "$base.aff" > changed.aff
+    cmp -s "$base.aff" changed.aff && return 0
+    ln -sf "$base.dic" changed.dic
+    cp "left.$side" words
+    compare changed
+    LC_ALL=C sort only.here only.hunspell | LC_ALL=C comm -23 words - > taken
+    take "$kind"
+}
+
+echo '| dictionary | text | different words | refused | by hunspell | only one of the two refuses |'
+echo '|---|---|---|---|---|---|'
+: > all
+for pair in "${names[@]}"; do
+    read -r package name <<< "$pair"
+    text=$(text_package "$name")
+    [ -n "$text" ] || continue
+    base=converted/$package-$name
+    words_of "$text" > "text.words"
+    cp text.words words
+    compare "$base"
+    row="| \`$package $name\` | $text $(version "$text") | $(wc -l < words) | $(wc -l < refused.here) | $(wc -l < refused.hunspell) |"
+    cp only.here left.here
+    cp only.hunspell left.hunspell
+    : > kinds
+    take_form capitals here '^[^\p{Ll}]+$' 's/.*/\L&/' ''
+    take_form front hunspell '^\p{Lu}' 's/^./\l&/' 1
+    take_form sharp hunspell 'ẞ' 's/^\(.\)\(.*\)/\1\L\2/' 1
+    take_form dotted here 'İ' 's/İ/i/g; s/.*/\L&/' 1
+    take_option keepcase hunspell '/^KEEPCASE/d'
+    take_option forbidden-case hunspell '/^FORBIDDENWORD/d'
+    take_option rule-twice here '/^CHECKCOMPOUNDDUP/d'
+    take_option rep-inside hunspell '/^CHECKCOMPOUNDREP/d'
+    take_option rep-anchored here 's/^REP[ \t]*\(\^[^ \t]*\|[^ \t]*\$\)[ \t].*/REP ☃ ☃/'
+    take_option circumfix here '/^CIRCUMFIX/d'
+    take_option only-inside hunspell '/^ONLYINCOMPOUND/d'
+    take_option language hunspell '/^LANG/d'
+    take_option language here '/^LANG/d'
+    take_option one-derivation hunspell '/^COMPOUNDRULE/d'
+    take_option affix-flag hunspell '/^COMPOUND\(END\|LAST\)/d'
+    grep -q '^COMPOUND' "$base.aff" && take_option prefix-inside here '/^PFX/d'
+    cat left.here left.hunspell > taken
+    take unexplained
+    sed "s/$/ $name/" kinds >> all
+    row+=" $(cut -d ' ' -f 1 kinds | sort | uniq -c | awk '{ printf "%s%d %s", NR == 1 ? "" : ", ", $1, $2 }') |"
+    echo "$row"
+done
+echo
+echo '| kind | words | as |'
+echo '|---|---|---|'
+awk '{ count[$1]++; if (!($1 in example)) example[$1] = "`" $2 "` in `" $3 "`" } END { for (kind in count) print "| " kind " | " count[kind] " | " example[kind] " |" }' all | sort
+if grep '^unexplained' all >&2; then
+    exit 1
 fi
