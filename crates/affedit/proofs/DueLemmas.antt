@@ -1,16 +1,29 @@
 -- What stops a step of what is due stops all of it.
-use Rattle.std.proofs.Common.{◌≡◌, refl, Option, None, IfSome, ℕ, ◌+◌, ◌≤◌, Some, Result, Ok, Err, List, length, replicate, sym, ap, ◌∙◌, subst, arith}
+use Rattle.std.proofs.Common.{◌≡◌, refl, Option, None, IfSome, IsErrAnd, ℕ, ◌+◌, ◌≤◌, Some, Result, Ok, Err, List, length, replicate, sym, ap, ◌∙◌, subst, arith}
 use Rattle.std.proofs.lemmas.Bool.Decides.{nat_tests}
 use Rattle.std.proofs.lemmas.List.{length-replicate}
 use Rattle.affedit.specs.declared.stop.Stop.{Stop}
 use Rattle.affedit.specs.declared.stop.Stop.TheVariants.{Words, Aff, Dic, Document, Missing, Files, NoMemory, Limit}
-use Rattle.affedit.specs.Stops.{◌>>=◌, StopsAs}
+use Rattle.affedit.specs.Stops.{◌>>=◌, StopsAs, Gives}
+use Rattle.affedit.specs.Given.{printed_by}
+use Rattle.affedit.specs.declared.report.Report.{Report}
 use Rattle.affedit.specs.Commands.{FileNames}
-use Rattle.affedit.specs.Due.{dictionary_limit, document_limit, file_due, affixes_step, entries_step, document_due, checked_due, check_due, found_in}
+use Rattle.affedit.specs.Due.{Found, document_limit, file_due, stop_of, stopping, dictionary_due, document_due, checked_due, check_due, found_in}
 use Rattle.affedit.specs.Reports.{Printed, report_of}
 use Rattle.outside.specs.Files.{Folder}
-use Rattle.spell_types.specs.declared.Affixes.{Affixes}
-use Rattle.spell_types.specs.declared.Entry.{Entry}
+use Rattle.spell_types.specs.declared.Lexicon.{Lexicon}
+use Rattle.dictionary_swap.specs.Loads.{FailsAs, DictionaryFiles, found_in as dictionary_in}
+use Rattle.dictionary_swap.specs.declared.fault.LoadFault.{LoadFault}
+use Rattle.dictionary_swap.specs.declared.fault.LoadFault.TheVariants.{Failed, Missing as MissingFile, TooLong, Aff as AffFault, Dic as DicFault, NoMemory as OutOfMemory}
+
+-- a dictionary that is not loaded stops the call so
+pub stopped : {A : Type 0} (due : Result A LoadFault) (fault : LoadFault) → FailsAs due fault → StopsAs (stopping due) (stop_of fault)
+stopped due Failed is = tt
+stopped due OutOfMemory is = tt
+stopped due MissingFile is = ap stopping is
+stopped due (TooLong limit) is = ap stopping is
+stopped due (AffFault line why) is = ap stopping is
+stopped due (DicFault line why) is = ap stopping is
 
 -- a step that stops, stops all that follows
 pub stops-all : {A B : Type 0} (step : Result A Stop) (next : A → Result B Stop) (stop : Stop) → StopsAs step stop → StopsAs (step >>= next) stop
@@ -45,46 +58,48 @@ too-long limit =
     grind (arith, nat_tests)
 
 -- ---- the files of a folder that is told
--- the entries stop the call
-pub told-stops : (told later : Option Folder) (names : FileNames) (aff dic read : List ℕ) (affixes : Affixes) → later ≡ told → read ≡ dic
-    → IfSome told (λ folder. file_due dictionary_limit (folder names.aff) ≡ Ok aff) → affixes_step aff ≡ Ok affixes
-    → IfSome later (λ folder. file_due dictionary_limit (folder names.dic) ≡ Ok dic)
-    → (stop : Stop) → StopsAs (entries_step affixes read) stop → IfSome told (λ folder. StopsAs (check_due (found_in folder names)) stop)
-unfolding checked_due
-told-stops None later names aff dic read affixes same is_read is_aff is_affixes is_dic stop stops = tt
-told-stops (Some folder) later names aff dic read affixes same is_read is_aff is_affixes is_dic stop stops =
-    let there : file_due dictionary_limit (folder names.dic) ≡ Ok dic = subst (λ t. IfSome t (λ folder. file_due dictionary_limit (folder names.dic) ≡ Ok dic)) same is_dic in
-    goes-on (file_due dictionary_limit (folder names.aff)) aff _ stop is_aff
-    (goes-on (affixes_step aff) affixes _ stop is_affixes
-    (goes-on (file_due dictionary_limit (folder names.dic)) dic _ stop there (stops-all (entries_step affixes dic) _ stop (subst (λ b. StopsAs (entries_step affixes b) stop) is_read stops))))
-
--- nothing before the document does
-pub told-given : (told later last : Option Folder) (names : FileNames) (aff dic document : List ℕ) (affixes : Affixes) (entries : List Entry) (printed : Result Printed Stop) → later ≡ told → last ≡ later
-    → IfSome told (λ folder. file_due dictionary_limit (folder names.aff) ≡ Ok aff) → affixes_step aff ≡ Ok affixes
-    → IfSome later (λ folder. file_due dictionary_limit (folder names.dic) ≡ Ok dic) → entries_step affixes dic ≡ Ok entries
-    → IfSome last (λ folder. file_due document_limit (folder names.document) ≡ Ok document) → document_due report_of (record { affixes = affixes; entries = entries }) document ≡ printed
+-- nothing before the document stops the call
+pub told-given : (told later : Option Folder) (names : FileNames) (lexicon : Lexicon) (document : List ℕ) (printed : Result Printed Stop) → later ≡ told
+    → IfSome told (λ folder. dictionary_due (dictionary_in folder names.aff names.dic) ≡ Ok lexicon)
+    → IfSome later (λ folder. file_due document_limit (folder names.document) ≡ Ok document) → document_due report_of lexicon document ≡ printed
     → IfSome told (λ folder. check_due (found_in folder names) ≡ printed)
 unfolding checked_due
-told-given None later last names aff dic document affixes entries printed same next is_aff is_affixes is_dic is_entries is_document is_printed = tt
-told-given (Some folder) later last names aff dic document affixes entries printed same next is_aff is_affixes is_dic is_entries is_document is_printed =
-    let there : file_due dictionary_limit (folder names.dic) ≡ Ok dic = subst (λ t. IfSome t (λ folder. file_due dictionary_limit (folder names.dic) ≡ Ok dic)) same is_dic in
-    let here : file_due document_limit (folder names.document) ≡ Ok document = subst (λ t. IfSome t (λ folder. file_due document_limit (folder names.document) ≡ Ok document)) (next ∙ same) is_document in
-    step (file_due dictionary_limit (folder names.aff)) aff _ printed is_aff
-    (step (affixes_step aff) affixes _ printed is_affixes
-    (step (file_due dictionary_limit (folder names.dic)) dic _ printed there
-    (step (entries_step affixes dic) entries _ printed is_entries
-    (step (file_due document_limit (folder names.document)) document _ printed here is_printed))))
+told-given None later names lexicon document printed same is_lexicon is_document is_printed = tt
+told-given (Some folder) later names lexicon document printed same is_lexicon is_document is_printed =
+    let here : file_due document_limit (folder names.document) ≡ Ok document = subst (λ t. IfSome t (λ folder. file_due document_limit (folder names.document) ≡ Ok document)) same is_document in
+    step (dictionary_due (dictionary_in folder names.aff names.dic)) lexicon _ printed is_lexicon
+    (step (file_due document_limit (folder names.document)) document _ printed here is_printed)
   where
     step : {A B : Type 0} (due : Result A Stop) (given : A) (next : A → Result B Stop) (end : Result B Stop) → due ≡ Ok given → next given ≡ end → (due >>= next) ≡ end
     step due given next end is rest = ap (λ s. s >>= next) is ∙ rest
 
 -- or the document stops the call
-pub told-ends : (told later last : Option Folder) (names : FileNames) (aff dic document : List ℕ) (affixes : Affixes) (entries : List Entry) (stop : Stop) → later ≡ told → last ≡ later
-    → IfSome told (λ folder. file_due dictionary_limit (folder names.aff) ≡ Ok aff) → affixes_step aff ≡ Ok affixes
-    → IfSome later (λ folder. file_due dictionary_limit (folder names.dic) ≡ Ok dic) → entries_step affixes dic ≡ Ok entries
-    → IfSome last (λ folder. file_due document_limit (folder names.document) ≡ Ok document) → StopsAs (document_due report_of (record { affixes = affixes; entries = entries }) document) stop
+pub told-ends : (told later : Option Folder) (names : FileNames) (lexicon : Lexicon) (document : List ℕ) (stop : Stop) → later ≡ told
+    → IfSome told (λ folder. dictionary_due (dictionary_in folder names.aff names.dic) ≡ Ok lexicon)
+    → IfSome later (λ folder. file_due document_limit (folder names.document) ≡ Ok document) → StopsAs (document_due report_of lexicon document) stop
     → IfSome told (λ folder. StopsAs (check_due (found_in folder names)) stop)
-told-ends None later last names aff dic document affixes entries stop same next is_aff is_affixes is_dic is_entries is_document stops = tt
-told-ends (Some folder) later last names aff dic document affixes entries stop same next is_aff is_affixes is_dic is_entries is_document stops =
-    let due = document_due report_of (record { affixes = affixes; entries = entries }) document in
-    subst (λ d. StopsAs d stop) (sym (told-given (Some folder) later last names aff dic document affixes entries due same next is_aff is_affixes is_dic is_entries is_document refl)) stops
+told-ends None later names lexicon document stop same is_lexicon is_document stops = tt
+told-ends (Some folder) later names lexicon document stop same is_lexicon is_document stops =
+    let due = document_due report_of lexicon document in
+    subst (λ d. StopsAs d stop) (sym (told-given (Some folder) later names lexicon document due same is_lexicon is_document refl)) stops
+
+-- ---- a call that ends with what stopped its document
+-- the files that explain the dictionary and the document explain the call
+pub document-stops : (files : DictionaryFiles) (file : Option (List ℕ)) (lexicon : Lexicon) (result : Result Report Stop) (stop : Stop) → IsErrAnd result (λ s. s ≡ stop)
+    → dictionary_due files ≡ Ok lexicon → StopsAs (file_due document_limit file) stop
+    → Gives printed_by (check_due (record { aff = files.aff; dic = files.dic; document = file })) result
+unfolding checked_due
+document-stops files file lexicon (Ok report) stop is is_lexicon stops = absurd is
+document-stops files file lexicon (Err s) stop is is_lexicon stops =
+    subst (λ s. StopsAs (check_due (record { aff = files.aff; dic = files.dic; document = file })) s) (sym is)
+    (goes-on (dictionary_due files) lexicon _ stop is_lexicon (stops-all (file_due document_limit file) _ stop stops))
+
+-- and so do those of a folder that is told
+pub told-stops : (told later : Option Folder) (names : FileNames) (lexicon : Lexicon) (result : Result Report Stop) (stop : Stop) → later ≡ told → IsErrAnd result (λ s. s ≡ stop)
+    → IfSome told (λ folder. dictionary_due (dictionary_in folder names.aff names.dic) ≡ Ok lexicon)
+    → IfSome later (λ folder. StopsAs (file_due document_limit (folder names.document)) stop)
+    → IfSome told (λ folder. Gives printed_by (check_due (found_in folder names)) result)
+told-stops None later names lexicon result stop same is is_lexicon stops = tt
+told-stops (Some folder) later names lexicon result stop same is is_lexicon stops =
+    document-stops (dictionary_in folder names.aff names.dic) (folder names.document) lexicon result stop is is_lexicon
+    (subst (λ t. IfSome t (λ folder. StopsAs (file_due document_limit (folder names.document)) stop)) same stops)

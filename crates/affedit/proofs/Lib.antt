@@ -1,3 +1,4 @@
 pub mod ReportLemmas
 pub mod EndingLemmas
 pub mod DueLemmas
+mod MadeLemmas

@@ -1,24 +1,19 @@
 -- What is due: what the program is to print for its words and for what there is of its files.
-use Rattle.std.specs.Prelude.{ℕ, List, length, nat_le, Option, Some, None, Result, Ok, Err, if◌then◌else◌}
+use Rattle.std.specs.Prelude.{◌≡◌, ℕ, List, length, nat_le, codes, Option, Some, None, IsSomeAnd, Result, Ok, Err, if◌then◌else◌}
 use Rattle.outside.specs.Files.{Folder}
-use Rattle.spell_types.specs.declared.Affixes.{Affixes}
-use Rattle.spell_types.specs.declared.Entry.{Entry}
 use Rattle.spell_types.specs.declared.Lexicon.{Lexicon}
 use Rattle.text_lines.specs.Lines.{good_lines, bad_line}
-use Rattle.aff_lines.specs.declared.faults.Fault.{Fault as AffLineFault}
-use Rattle.aff_reader.specs.Grammar.{aff_read}
-use Rattle.dic_reader.specs.Faults.{Fault as DicLineFault, dic_read}
+use Rattle.dictionary_swap.specs.Loads.{DictionaryFiles, lexicon_due}
+use Rattle.dictionary_swap.specs.declared.fault.LoadFault.{LoadFault}
+use Rattle.dictionary_swap.specs.declared.fault.LoadFault.TheVariants.{Failed as FailedLoad, Missing as MissingFile, TooLong, Aff as AffFault, Dic as DicFault, NoMemory as OutOfMemory}
 use Rattle.work_maker.specs.Made.{aff_bytes, dic_bytes, text_bytes}
 use Rattle.affedit.specs.declared.stop.Stop.{Stop}
-use Rattle.affedit.specs.declared.stop.Stop.TheVariants.{Words, Aff, Dic, Document, Missing, Limit}
+use Rattle.affedit.specs.declared.stop.Stop.TheVariants.{Words, Aff, Dic, Document, Missing, Files, NoMemory, Limit}
 use Rattle.affedit.specs.Commands.{FileNames, StartAndSize, Asked, ToCheck, ToMake, asked_in}
 use Rattle.affedit.specs.Reports.{Printed, report_of, summary_of, paragraphs_of}
 use Rattle.affedit.specs.Stops.{◌>>=◌}
 
--- the greatest size of an .aff or a .dic file, and of a document, in bytes
-abbrev pub dictionary_limit : ℕ
-dictionary_limit = 16777216
-
+-- the greatest size of a document, in bytes
 abbrev pub document_limit : ℕ
 document_limit = 67108864
 
@@ -36,16 +31,22 @@ pub record Found : Type 0 where
   pub dic : Option (List ℕ)
   pub document : Option (List ℕ)
 
--- a fault of a file stops the call
-abbrev pub stopping : {A F : Type 0} → (F → Stop) → Result A F → Result A Stop
-stopping stop (Ok read) = Ok read
-stopping stop (Err fault) = Err (stop fault)
+-- why the call stops where a dictionary is not loaded
+abbrev pub stop_of : LoadFault → Stop
+stop_of FailedLoad = Files
+stop_of MissingFile = Missing
+stop_of (TooLong limit) = Limit limit
+stop_of (AffFault line why) = Aff line why
+stop_of (DicFault line why) = Dic line why
+stop_of OutOfMemory = NoMemory
 
-abbrev pub at_aff : AffLineFault → Stop
-at_aff fault = Aff fault.line fault.why
+abbrev pub stopping : {A : Type 0} → Result A LoadFault → Result A Stop
+stopping (Ok given) = Ok given
+stopping (Err fault) = Err (stop_of fault)
 
-abbrev pub at_dic : DicLineFault → Stop
-at_dic fault = Dic fault.line fault.why
+-- what is due of the files of a dictionary: what they say, or what stops the call first
+unfoldable pub dictionary_due : DictionaryFiles → Result Lexicon Stop
+dictionary_due files = stopping (lexicon_due files)
 
 abbrev pub unless_bad : {A : Type 0} → Option ℕ → A → Result A Stop
 unless_bad None read = Ok read
@@ -55,21 +56,12 @@ unless_bad (Some line) read = Err (Document line)
 unfoldable pub document_due : (Lexicon → List (List ℕ) → Printed) → Lexicon → List ℕ → Result Printed Stop
 document_due printed lexicon document = unless_bad (bad_line document) (printed lexicon (paragraphs_of document (good_lines document)))
 
-unfoldable pub affixes_step : List ℕ → Result Affixes Stop
-affixes_step bytes = stopping at_aff (aff_read bytes)
-
-unfoldable pub entries_step : Affixes → List ℕ → Result (List Entry) Stop
-entries_step affixes bytes = stopping at_dic (dic_read affixes bytes)
-
 -- the document is checked by the dictionary: the first thing that stops it, or what is to be printed of it
 unfoldable pub checked_due : (Lexicon → List (List ℕ) → Printed) → Found → Result Printed Stop
 checked_due printed found = do
-  aff ← file_due dictionary_limit found.aff
-  affixes ← affixes_step aff
-  dic ← file_due dictionary_limit found.dic
-  entries ← entries_step affixes dic
+  lexicon ← dictionary_due (record { aff = found.aff; dic = found.dic })
   document ← file_due document_limit found.document
-  document_due printed (record { affixes = affixes; entries = entries }) document
+  document_due printed lexicon document
 
 -- the words of `check` ask for the report on a document
 abbrev pub check_due : Found → Result Printed Stop
@@ -78,6 +70,10 @@ check_due found = checked_due report_of found
 -- the bytes that are made
 abbrev pub made_by : StartAndSize → Found
 made_by asked = record { aff = Some aff_bytes; dic = Some (dic_bytes asked.size); document = Some (text_bytes asked.start asked.size) }
+
+-- a folder is told that has the files of the dictionary that is made, under the names that they are given in memory
+abbrev pub HasMade : ℕ → Option Folder → Type 0
+HasMade size told = IsSomeAnd told (λ folder. (folder (codes "made.aff") ≡ Some aff_bytes) × (folder (codes "made.dic") ≡ Some (dic_bytes size)))
 
 -- the words of `make` ask for a summary of what is made
 abbrev pub make_due : StartAndSize → Result Printed Stop

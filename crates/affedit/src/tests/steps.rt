@@ -1,12 +1,10 @@
 //! A paragraph that is checked whole, and some words at a time.
 
-ghost use Rattle.spell_types.specs.Sanity.{AreSaneAffixes, AreSaneEntries};
-
-use crate::check::{read_affixes, read_entries};
+use dictionary_swap::load;
 use lists::NoMemory;
 use mark_types::Marks;
+use outside::SureFiles;
 use paragraph_marks::{Checked, Checking, Plain, check};
-use spell_types::{Affixes, Entries};
 use std::alloc::Global;
 use std::process::Abort;
 use std::sync::Arc;
@@ -33,17 +31,20 @@ hello hello hello hello hello hello hello hello hello hello hello hello hello he
 const STEPS: [u32; 4] = [1, 2, 3, 32];
 
 fn judge_of(alloc: Global) -> Result<Arc<Speller>, Fail> {
-    let affixes = read_affixes(alloc, b"SET UTF-8\n")?;
-    let entries = read_entries(alloc, &affixes, b"2\nhello\ndon't\n")?;
-    Ok(built(alloc, affixes, entries)?)
+    let mut folder = SureFiles::new(files(alloc)?);
+    let speller = load(alloc, &mut folder, "a.aff", "a.dic")?;
+    Ok(Arc::new(alloc, speller)?)
 }
 
-fn built(alloc: Global, affixes: Affixes, entries: Entries) -> Result<Arc<Speller>, NoMemory>
-    requires affixes { AreSaneAffixes affixes }
-    requires entries { AreSaneEntries entries }
-{
-    let speller = Speller::build(alloc, affixes, entries)?;
-    Ok(Arc::new(alloc, speller)?)
+fn files(alloc: Global) -> Result<Vec<(String, Vec<u8>)>, NoMemory> {
+    let aff_name = String::from_str(alloc, "a.aff")?;
+    let dic_name = String::from_str(alloc, "a.dic")?;
+    let aff = Vec::from_slice(alloc, b"SET UTF-8\n")?;
+    let dic = Vec::from_slice(alloc, b"2\nhello\ndon't\n")?;
+    let mut files = Vec::new(alloc);
+    files.push((aff_name, aff))?;
+    files.push((dic_name, dic))?;
+    Ok(files)
 }
 
 /// The marks as they stand in the table.
