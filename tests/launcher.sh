@@ -3,7 +3,8 @@
 # proof and builds nothing real. Prints what went wrong; the status is 0 where nothing did.
 set -euo pipefail
 top=$(cd "$(dirname "$0")/.." && pwd)
-work=$(mktemp -d)
+# Where another user may look in.
+work=$(mktemp -d -p /tmp)
 trap 'chmod -R u+w "$work"; rm -rf "$work"' EXIT
 chmod 755 "$work"
 mkdir "$work/bin"
