@@ -40,26 +40,47 @@ const EDITS: &str = "
 2|put 0 0 0 3 65536*x|0|- 0.1.65536 1.0.hé
 2|put 0 0 0 0 65533*x|0|- 0.1.65536 1.0.hé
 2|put 0 0 0 0 a;put 0 1 0 4 b|0|- 0.2.b 1.0.hé
-2|put 2 1 2 1 /|0|Gone 2
-2|put 1 1 2 1 /|0|Behind 0
-2|del 1 1|0|Behind 0
-2|del 2 1|0|Gone 2
+2|put 2 0 0 3 x|0|Gone 2
+2|put 2 1 0 3 x|0|Gone 2
+2|put 2 0 2 1 x|0|Gone 2
+2|put 2 0 0 3 /|0|Gone 2
+2|put 2 0 0 3 65537*x|0|Gone 2
+2|put 2 1 2 1 65537*/|0|Gone 2
+2|del 0 0;put 0 0 0 3 x|0|Gone 0
+2|put 1 1 0 3 x|0|Behind 0
 2|put 0 0 0 0 a;put 0 0 0 0 b|0|Behind 1
-2|put 1 0 2 1 /|0|BadSpan 3
+2|put 1 1 2 1 x|0|Behind 0
+2|put 1 1 0 3 /|0|Behind 0
+2|put 1 1 0 3 65537*x|0|Behind 0
+2|put 1 1 2 1 65537*/|0|Behind 0
 2|put 1 0 2 3 x|0|BadSpan 3
 2|put 1 0 1 2 x|0|BadSpan 3
 2|put 1 0 0 4 x|0|BadSpan 3
 2|put 1 0 3 1 x|0|BadSpan 3
+2|put 1 0 2 1 /|0|BadSpan 3
+2|put 1 0 0 4 65537*x|0|BadSpan 3
+2|put 1 0 2 1 65537*/|0|BadSpan 3
 2|put 1 0 0 3 a/b/|0|HasBreak 1
 2|put 1 0 0 3 65537*/|0|HasBreak 0
 2|put 1 0 0 0 65534*x|0|TooLong 65537
 2|put 1 0 0 3 65537*x|0|TooLong 65537
+2|ins 2 x|0|Gone 2
 2|ins 2 /|0|Gone 2
+2|ins 2 65537*x|0|Gone 2
+2|ins 1 a/b/|0|HasBreak 1
 2|ins 1 65537*/|0|HasBreak 0
 2|ins 1 65537*x|0|TooLong 65537
-20000|ins 20000 /|0|Gone 20000
+2|del 2 0|0|Gone 2
+2|del 2 1|0|Gone 2
+2|del 0 0;del 0 0|0|Gone 0
+2|del 1 1|0|Behind 0
+2|put 0 0 0 0 a;del 0 0|0|Behind 1
+20000|ins 20000 x|0|Gone 20000
+20000|ins 20000 65537*/|0|Gone 20000
 20000|ins - a/|0|HasBreak 1
+20000|ins - 65537*/|0|HasBreak 0
 20000|ins - 65537*x|0|TooLong 65537
+20000|ins - x|0|Full 20000
 20000|ins 7 65536*x|0|Full 20000
 20000|put 19999 0 0 3 a|19999|19998.0.hé 19999.1.a -
 19999|ins 7 65536*x|7|6.0.hé 19999.1.65536 7.0.hé
@@ -186,6 +207,43 @@ fn edits_make_what_is_wanted(rt: HostRuntime) -> Result<(), Fail> {
         assert_eq!(rt; made.as_str(), wanted, "{row}");
         rows = rows.wrapping_add(1);
     }
-    assert_eq!(rt; rows, 53);
+    assert_eq!(rt; rows, 74);
+    Ok(())
+}
+
+/// The list with a paragraph put before its first, whose id is one less. The version is one more than the id.
+fn with_front(alloc: Global, paragraphs: &Paragraphs, id: u64) -> Result<Paragraphs, EditRefusal> {
+    let edit = Edit::Insert {
+        before: id.checked_sub(1),
+        text: Text::from_str(alloc, "hé")?,
+    };
+    apply(alloc, paragraphs, id.wrapping_add(1), id, &edit)
+}
+
+/// The list without a paragraph that was put in so.
+fn without(alloc: Global, paragraphs: &Paragraphs, id: u64) -> Result<Paragraphs, EditRefusal> {
+    let edit = Edit::Remove {
+        id,
+        rev: id.wrapping_add(1),
+    };
+    apply(alloc, paragraphs, 0, 0, &edit)
+}
+
+/// How long a list is after so many inserts, each at its front, and then after a removal of each, the last one first.
+fn lengths(alloc: Global, count: u64) -> Result<(usize, usize), EditRefusal> {
+    let mut paragraphs = opening(alloc, 0)?;
+    for id in 0..count {
+        paragraphs = with_front(alloc, &paragraphs, id)?;
+    }
+    let most = paragraphs.len();
+    for id in 0..count {
+        paragraphs = without(alloc, &paragraphs, id)?;
+    }
+    Ok((most, paragraphs.len()))
+}
+
+#[test]
+fn edits_follow_one_another(rt: HostRuntime) -> Result<(), Fail> {
+    assert_eq!(rt; lengths(rt.alloc(), 20_000), Ok((20_000, 0)));
     Ok(())
 }
