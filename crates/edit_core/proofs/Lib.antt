@@ -1,0 +1,11 @@
+pub mod Places
+pub mod Boards
+pub mod Kept
+pub mod Found
+pub mod Openings
+pub mod Locality
+pub mod Decide
+pub mod Steps
+pub mod Growth
+pub mod Replays
+pub mod RunLaws

@@ -1,0 +1,80 @@
+-- Texts that may open a history, and the board that they open it with.
+use Rattle.std.proofs.Common.{◌≡◌, ◌∙◌, refl, sym, ap, subst, ℕ, zero, suc, ◌+◌, ◌<◌, ◌≤◌, ◌^◌, ◌==◌, Bool, true, false, List, [], ◌∷◌, ◌++◌, length, map, take, drop, position, Option, None, Some, arith}
+use Rattle.std.specs.List.{AllByRecursion, AllZip}
+use Rattle.std.specs.Option.{option_map, option_or}
+use Rattle.std.proofs.lemmas.Bool.{eq-eqb, false≢true}
+use Rattle.spell_types.specs.declared.Lexicon.{Lexicon}
+use Rattle.paragraph_text.specs.Paragraphs.{Paragraph, AreValid, HasNoBreak, numbered_from}
+use Rattle.edit_core.specs.Seen.{Seen, IsValidBoard, IsTheirs, AreTheirs, fault_from, opening_of, standing_of, text_fault}
+use Rattle.edit_core.specs.declared.opening.OpeningFault.{OpeningFault}
+use Rattle.edit_core.specs.declared.state.Standing.TheVariants as standing
+use Rattle.edit_core.specs.declared.state.State.{State}
+use Rattle.edit_core.specs.declared.state.State.TheVariants as state
+use Rattle.edit_core.proofs.Kept.{IsKept, map-long, seen}
+use Rattle.edit_core.proofs.Places.{position-hit, position-miss}
+
+none-some : {X Y : Type 0} (x : X) → None ≡ Some x → Y
+none-some x is = cc
+
+-- a text without a place of a line feed has none
+pub no-break : (text : List ℕ) → position (λ byte. byte == 10) text ≡ None → HasNoBreak text
+no-break [] none = tt
+no-break (b ∷ text) none = by (no-break text) (b == 10) refl
+  where
+    unmapped : (found : Option ℕ) → option_map (λ n. suc n) found ≡ None → found ≡ None
+    unmapped None is = refl
+    unmapped (Some j) is = cc
+
+    by : (position (λ byte. byte == 10) text ≡ None → HasNoBreak text) → (t : Bool) → (b == 10) ≡ t → HasNoBreak (b ∷ text)
+    by more true is = none-some 0 (sym none ∙ position-hit (λ byte. byte == 10) b text is)
+    by more false is = (
+      λ same. false≢true (sym is ∙ eq-eqb b 10 same),
+      more (unmapped (position (λ byte. byte == 10) text) (sym (position-miss (λ byte. byte == 10) b text is) ∙ none)),
+    )
+
+-- texts that wait are right wherever they stand
+waiting-theirs : {J : Type 0} (lexicon_of : J → Lexicon) (lexicon : Lexicon) (id : ℕ) (texts : List (List ℕ)) → AreTheirs lexicon_of lexicon (numbered_from id texts) (map (λ _. state.Waiting) texts)
+waiting-theirs lexicon_of lexicon id [] = tt
+waiting-theirs lexicon_of lexicon id (text ∷ texts) = (tt, waiting-theirs lexicon_of lexicon (id + 1) texts)
+
+waiting-seen : {J : Type 0} (lexicon_of : J → Lexicon) (texts : List (List ℕ)) → map (standing_of {J = J}) (map (λ _. state.Waiting) texts) ≡ map (λ _. standing.Waiting) texts
+waiting-seen lexicon_of [] = refl
+waiting-seen lexicon_of (text ∷ texts) = ap (λ ss. standing.Waiting ∷ ss) (waiting-seen lexicon_of texts)
+
+numbered-long : (id : ℕ) (texts : List (List ℕ)) → length (numbered_from id texts) ≡ length texts
+numbered-long id [] = refl
+numbered-long id (text ∷ texts) = ap (λ n. suc n) (numbered-long (id + 1) texts)
+
+waiting-long : (id : ℕ) (texts : List (List ℕ)) → length (map (λ _. standing.Waiting) texts) ≡ length (numbered_from id texts)
+waiting-long id texts = map-long (λ _. standing.Waiting) texts ∙ sym (numbered-long id texts)
+
+none-yet : (bound : ℕ) → 0 ≤ bound
+none-yet bound = omega arith
+
+few-ids : (n : ℕ) → n ≤ 20000 → n ≤ 20000 + 0
+few-ids n few = omega (arith, few)
+
+pub valid-opening : (lexicon : Lexicon) (texts : List (List ℕ)) → length texts ≤ 20000 → AreValid 1 (length texts) (numbered_from 0 texts) → IsValidBoard (opening_of lexicon texts)
+valid-opening lexicon texts few valid =
+    record {
+      paragraphs = valid;
+      standings = waiting-long 0 texts;
+      text = none-yet 0;
+      dict = none-yet 0;
+      next_id = few-ids (length texts) few;
+      point = none-yet (2 ^ 62);
+    }
+
+pub seen-opening : {J : Type 0} (lexicon_of : J → Lexicon) (judge : J) (texts : List (List ℕ)) (paragraphs : List Paragraph) (states : List (State J)) (count : ℕ) → paragraphs ≡ numbered_from 0 texts → states ≡ map (λ _. state.Waiting) texts → count ≡ length texts → seen lexicon_of 0 0 0 judge paragraphs states count ≡ opening_of (lexicon_of judge) texts
+seen-opening {J} lexicon_of judge texts paragraphs states count paragraphs-is states-is count-is =
+    ap (λ ps. seen lexicon_of 0 0 0 judge ps states count) paragraphs-is
+    ∙ ap (λ ss. seen lexicon_of 0 0 0 judge (numbered_from 0 texts) ss count) states-is
+    ∙ ap (λ n. seen {J = J} lexicon_of 0 0 0 judge (numbered_from 0 texts) (map (λ _. state.Waiting) texts) n) count-is
+    ∙ ap (λ stands. record (opening_of (lexicon_of judge) texts) { standings = stands }) (waiting-seen lexicon_of texts)
+
+pub kept-opening : {J : Type 0} (lexicon_of : J → Lexicon) (judge : J) (texts : List (List ℕ)) (paragraphs : List Paragraph) (states : List (State J)) (count : ℕ) → length texts ≤ 20000 → AreValid 1 (length texts) (numbered_from 0 texts) → paragraphs ≡ numbered_from 0 texts → states ≡ map (λ _. state.Waiting) texts → count ≡ length texts → IsKept lexicon_of 0 0 0 judge paragraphs states count
+kept-opening {J} lexicon_of judge texts paragraphs states count few valid paragraphs-is states-is count-is = (
+  subst IsValidBoard (sym (seen-opening lexicon_of judge texts paragraphs states count paragraphs-is states-is count-is)) (valid-opening (lexicon_of judge) texts few valid),
+  subst (λ ps. AreTheirs lexicon_of (lexicon_of judge) ps states) (sym paragraphs-is)
+      (subst (λ ss. AreTheirs lexicon_of (lexicon_of judge) (numbered_from 0 texts) ss) (sym states-is) (waiting-theirs lexicon_of (lexicon_of judge) 0 texts)),
+)

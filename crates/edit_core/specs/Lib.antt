@@ -1,0 +1,5 @@
+pub mod Seen
+pub mod Events
+pub mod Steps
+pub mod Views
+pub mod Runs

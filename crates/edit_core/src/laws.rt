@@ -1,0 +1,84 @@
+//! What is true of every history, for those who prove something of one.
+
+ghost use Rattle.std.specs.Prelude.{◌≡◌, ◌+◌, ◌≤◌, ◌↔◌, ℕ, true, List, [], ◌∷◌, ◌++◌, length, slice_get, Some, if◌then◌else◌};
+ghost use Rattle.std.specs.Str.{chars};
+ghost use Rattle.paragraph_marks.specs.Paragraphs.{marks_in};
+ghost use Rattle.paragraph_text.specs.Paragraphs.{Paragraph};
+ghost use Rattle.edit_core.specs.Events.{SeenEvent, kind_of};
+ghost use Rattle.edit_core.specs.Runs.{AreQuiet, AreSteps, Entry, IsQuiet, IsReplayed, OnlyGrew, Replays, entries_by, entries_of, is_entry, is_kind, is_quiet, last_board};
+ghost use Rattle.edit_core.specs.Seen.{IsValidBoard, Seen};
+ghost use Rattle.edit_core.specs.Steps.{IsDecided, IsFit, Step};
+ghost use Rattle.edit_core.specs.Views.{Marked, reply_of};
+ghost use Rattle.edit_core.specs.declared.event.EventKind.{EventKind};
+ghost use Rattle.edit_core.specs.declared.state.Standing.TheVariants.{Finished};
+
+use crate::view::shown_marks_are_local;
+use paragraph_text::edits_are_decided;
+
+/// A valid board and an event that is fit for it make exactly one board and no refusal, or exactly one refusal and no board.
+pub fn events_are_decided()
+    ensures { (board : Seen) (event : SeenEvent) → IsValidBoard board → IsFit board event → IsDecided board event }
+{
+    edits_are_decided();
+}
+
+/// Each step makes a valid board of a valid board, and the next point of a point.
+pub fn steps_keep_validity()
+    ensures valid { (before after : Seen) (event : SeenEvent) → IsValidBoard before → Step before event after → IsValidBoard after }
+    ensures point { (before after : Seen) (event : SeenEvent) → Step before event after → after.point ≡ before.point + 1 }
+{
+    edits_are_decided();
+}
+
+/// From one board of a history to a later one, versions, the next id and revs do not fall. A paragraph that is there was there, or has a
+/// new id. Equal revs have equal texts, equal text versions equal paragraphs, and equal dictionary versions equal dictionaries.
+pub fn runs_only_grow()
+    ensures step { (before after : Seen) (event : SeenEvent) → IsValidBoard before → Step before event after → OnlyGrew before after }
+    ensures run { (board : Seen) (front back : List Entry) → IsValidBoard board → AreSteps board (front ++ back)
+        → OnlyGrew (last_board board front) (last_board board (front ++ back)) }
+{
+    edits_are_decided();
+}
+
+/// Events of workers keep the texts, the versions, the dictionary and the next id, and what is parked; and what is finished stays so.
+pub fn quiet()
+    ensures step { (before after : Seen) (event : SeenEvent) → Step before event after → is_quiet event ≡ true → IsQuiet before after }
+    ensures run { (board : Seen) (entries : List Entry) → AreSteps board entries → AreQuiet entries → IsQuiet board (last_board board entries) }
+{}
+
+/// What a list of events makes of a board is the last board of a history, whose events are those that were not refused, in their order.
+pub fn replays_are_runs()
+    ensures { (board after : Seen) (events : List SeenEvent) → Replays board events after → IsReplayed board events after }
+{}
+
+/// A longer history: its boards, its steps, and the point that it has come to.
+pub fn runs_go_on()
+    ensures steps { (board : Seen) (front back : List Entry) → AreSteps board (front ++ back)
+        ↔ (AreSteps board front × AreSteps (last_board board front) back) }
+    ensures last { (board : Seen) (front back : List Entry) → last_board board (front ++ back) ≡ last_board (last_board board front) back }
+    ensures one { (board : Seen) (entries : List Entry) (entry : Entry) → last_board board (entries ++ entry ∷ []) ≡ entry.board }
+    ensures valid { (board : Seen) (entries : List Entry) → IsValidBoard board → AreSteps board entries → IsValidBoard (last_board board entries) }
+    ensures point { (board : Seen) (entries : List Entry) → AreSteps board entries
+        → (last_board board entries).point ≡ board.point + length entries }
+{
+    edits_are_decided();
+}
+
+/// How many entries of a kind, and of a kind and a number, a history has: those of its parts together, and in a front no more.
+pub fn entries_add_up()
+    ensures by { (asked : EventKind) (by : ℕ) (front back : List Entry) → entries_by asked by (front ++ back) ≡ entries_by asked by front + entries_by asked by back }
+    ensures of { (asked : EventKind) (front back : List Entry) → entries_of asked (front ++ back) ≡ entries_of asked front + entries_of asked back }
+    ensures front_by { (asked : EventKind) (by : ℕ) (front back : List Entry) → entries_by asked by front ≤ entries_by asked by (front ++ back) }
+    ensures front_of { (asked : EventKind) (front back : List Entry) → entries_of asked front ≤ entries_of asked (front ++ back) }
+    ensures one_by { (asked : EventKind) (by : ℕ) (entry : Entry) → entries_by asked by (entry ∷ []) ≡ (if is_entry asked by entry then 1 else 0) }
+    ensures one_of { (asked : EventKind) (entry : Entry) → entries_of asked (entry ∷ []) ≡ (if is_kind asked (kind_of entry.event) then 1 else 0) }
+{}
+
+/// What a board shows of a finished paragraph are the marks of its text alone, by the dictionary in force.
+pub fn finished_marks_are_local()
+    ensures { (board : Seen) (place : ℕ) (paragraph : Paragraph) → slice_get board.paragraphs place ≡ Some paragraph
+        → slice_get board.standings place ≡ Some Finished
+        → slice_get (reply_of board).shown place ≡ Some (Marked (marks_in board.lexicon (chars paragraph.text))) }
+{
+    shown_marks_are_local();
+}

@@ -1,0 +1,111 @@
+//! What a board shows.
+
+ghost use Rattle.std.specs.Prelude.{◌≡◌, ◌+◌, ◌≤◌, ℕ, List, Some, length, slice_get, IfNone, IfSome};
+ghost use Rattle.std.specs.List.{count_by};
+ghost use Rattle.spell_types.specs.declared.Lexicon.{Lexicon};
+ghost use Rattle.paragraph_marks.specs.Paragraphs.{marks_in};
+ghost use Rattle.edit_core.specs.Seen.{standing_of};
+ghost use Rattle.edit_core.specs.Views.{Shows, is_finished, is_parked, marks_numbered, progress_of, shown_in};
+
+use crate::board::Board;
+use crate::state::State;
+use lists::SharedItems;
+use mark_types::{Judge, Marks, marks_are_local};
+use std::sync::Arc;
+use text_lines::Text;
+
+/// What a board shows of one paragraph.
+#[derive(Clone, Copy, Debug)]
+pub struct ParaView<'a> {
+    /// Its id, which no other paragraph has or had.
+    pub id: u64,
+    /// The text version that last touched it.
+    pub rev: u64,
+    /// Its text.
+    pub text: &'a Arc<Text>,
+    /// Its marks, or why there are none.
+    pub shown: Shown<'a>,
+}
+
+/// The marks of a paragraph, or why they are not there.
+#[derive(Clone, Copy, Debug)]
+pub enum Shown<'a> {
+    /// The paragraph is finished, and these are its marks by the dictionary in force.
+    Marks(&'a Marks),
+    /// It is not finished: whether it is parked, and which worker holds it.
+    Pending { parked: bool, held_by: Option<u32> },
+}
+
+/// How far a board is: its point, its versions, and how many paragraphs there are, finished and parked ones among them.
+#[derive(Clone, Copy, Debug, PartialEq, Eq)]
+pub struct Progress {
+    pub point: u64,
+    pub text: u64,
+    pub dict: u64,
+    pub paragraphs: u64,
+    pub finished: u64,
+    pub parked: u64,
+}
+
+impl<J: Judge> Board<J> {
+    /// What the board shows of the paragraph with a place, from 0; none past the end. Its marks are those that it has among the marks
+    /// of all texts of the board together.
+    pub fn para(&self, place: usize) -> Option<ParaView<'_>>
+        ensures none { IfNone result (length self.now.paragraphs ≤ place) }
+        ensures some { IfSome result (Shows self.now place) }
+    {
+        shown_marks_are_local();
+        match self.paragraphs.get(place) {
+            None => None,
+            Some(para) => match self.states.get(place) {
+                None => None,
+                Some(state) => Some(ParaView {
+                    id: para.id,
+                    rev: para.rev,
+                    text: &para.text,
+                    shown: state.shown(),
+                }),
+            },
+        }
+    }
+
+    /// How far the board is. It takes no memory.
+    pub fn progress(&self) -> Progress
+        ensures { result ≡ progress_of self.now }
+    {
+        Progress {
+            point: self.point,
+            text: self.text,
+            dict: self.dict,
+            paragraphs: self.paragraphs.len() as u64,
+            finished: finished_among(&self.states) as u64,
+            parked: parked_among(&self.states) as u64,
+        }
+    }
+}
+
+/// How many of these states are finished.
+fn finished_among<J: Judge>(states: &SharedItems<State<J>>) -> usize
+    ensures { result ≡ count_by (λ state. is_finished (standing_of state)) states.now }
+{
+    // There are no more of them than a usize counts.
+    let _count = states.len();
+    states.iter().filter(|state| state.is_finished()).count()
+}
+
+/// How many of these states are parked.
+fn parked_among<J: Judge>(states: &SharedItems<State<J>>) -> usize
+    ensures { result ≡ count_by (λ state. is_parked (standing_of state)) states.now }
+{
+    // There are no more of them than a usize counts.
+    let _count = states.len();
+    states.iter().filter(|state| state.is_parked()).count()
+}
+
+/// The marks that a paragraph has among those of all texts together are the marks of its text alone.
+pub fn shown_marks_are_local()
+    ensures { (lexicon : Lexicon) (texts : List (List ℕ)) (place : ℕ) (text : List ℕ) → slice_get texts place ≡ Some text
+        → marks_numbered lexicon texts (place + 1) ≡ marks_in lexicon text }
+{
+    marks_are_local();
+}
