@@ -1,5 +1,5 @@
 -- What is made of a valid board is valid, and what is told is the first refusal.
-use Rattle.std.proofs.Common.{◌≡◌, ◌∙◌, refl, sym, ap, subst, ℕ, zero, suc, ◌+◌, ◌<◌, ◌≤◌, ◌^◌, List, [], ◌∷◌, length, map, set, Option, None, Some, arith, length-set}
+use Rattle.std.proofs.Common.{◌≡◌, sym, ap, subst, ℕ, ◌+◌, ◌<◌, ◌≤◌, ◌^◌, List, length, Option, None, Some, arith}
 use Rattle.std.specs.Option.{option_map, option_or}
 use Rattle.spell_types.specs.declared.Lexicon.{Lexicon}
 use Rattle.paragraph_text.specs.Paragraphs.{Paragraph, AreValid}

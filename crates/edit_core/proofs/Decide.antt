@@ -1,16 +1,16 @@
 -- A board and an event make one board, or have one refusal.
-use Rattle.std.proofs.Common.{◌≡◌, ◌∙◌, ◌⊎◌, inl, inr, refl, sym, ap, subst, ℕ, ◌+◌, ◌<◌, ◌≤◌, ◌^◌, ◌==◌, Bool, true, false, List, length, map, set, slice_get, nat_lt, Option, None, Some, ltb, arith}
+use Rattle.std.proofs.Common.{◌≡◌, ◌∙◌, ◌⊎◌, inl, inr, refl, sym, ap, subst, ℕ, ◌+◌, ◌<◌, ◌^◌, ◌==◌, Bool, true, false, List, length, map, set, slice_get, nat_lt, Option, None, Some, ltb, arith}
 use Rattle.std.specs.Option.{option_map, option_map_or, option_or}
 use Rattle.std.proofs.lemmas.Bool.{eqb-true, eq-eqb, false≢true}
 use Rattle.std.proofs.lemmas.Bool.Decides.{nat_tests}
 use Rattle.spell_types.specs.declared.Lexicon.{Lexicon}
 use Rattle.paragraph_text.specs.Paragraphs.{Paragraph, AreValid}
-use Rattle.paragraph_text.specs.Edits.{Applies, IsOnlyOne, next_id_after, first_refusal as edit_refusal, IsDecided as IsDecidedEdit, IsRefused as IsRefusedEdit}
+use Rattle.paragraph_text.specs.Edits.{IsOnlyOne, next_id_after, first_refusal as edit_refusal, IsDecided as IsDecidedEdit}
 use Rattle.paragraph_text.specs.declared.edits.Edit.{Edit}
 use Rattle.paragraph_text.specs.declared.edits.EditRefusal.{EditRefusal}
 use Rattle.edit_core.specs.Seen.{Seen, IsValidBoard}
 use Rattle.edit_core.specs.Events.{SeenEvent, AnEdit, ALoad, AClaim, AFinish, APark, AnAsk}
-use Rattle.edit_core.specs.Steps.{Edits, IsAt, IsDecided, IsFit, IsFitCheck, IsRefused, Loads, Makes, MayClaim, MayFinish, Moves, Step, behind, claim_refusal, event_refusal, finish_refusal, first_refusal, gone_or, is_open, kept_after, not_parked, not_waiting, outdated, place_of, refusal_of, reloaded, settled, spent, unless}
+use Rattle.edit_core.specs.Steps.{Edits, IsAt, IsDecided, IsFit, IsFitCheck, Makes, MayClaim, MayFinish, Moves, behind, claim_refusal, event_refusal, finish_refusal, first_refusal, gone_or, is_open, kept_after, not_parked, not_waiting, outdated, place_of, refusal_of, reloaded, settled, unless}
 use Rattle.edit_core.specs.declared.refusal.Refusal.{Refusal}
 use Rattle.edit_core.specs.declared.refusal.Refusal.TheVariants.{Spent, Gone, Behind, Taken, Reloaded, Finished, Parked, NotParked}
 use Rattle.edit_core.specs.declared.state.Standing.{Standing}

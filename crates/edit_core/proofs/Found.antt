@@ -1,11 +1,8 @@
 -- What is found of a paragraph by its id.
-use Rattle.std.proofs.Common.{◌≡◌, ◌∙◌, refl, sym, ap, subst, ℕ, ◌<◌, ◌==◌, Bool, true, List, length, map, slice_get, find, Option, None, Some}
-use Rattle.std.specs.List.{zip}
-use Rattle.std.specs.Option.{option_map, option_map_or}
-use Rattle.std.proofs.lemmas.Option.{slice_get-map, slice_get_within}
+use Rattle.std.proofs.Common.{◌≡◌, ℕ, ◌==◌, length, None, Some}
 use Rattle.paragraph_text.specs.Paragraphs.{Paragraph}
-use Rattle.edit_core.specs.Seen.{Seen, IsValidBoard}
-use Rattle.edit_core.specs.Steps.{IsAt, IsFoundAt, found, place_of}
+use Rattle.edit_core.specs.Seen.{Seen}
+use Rattle.edit_core.specs.Steps.{IsAt, found, place_of}
 use Rattle.edit_core.specs.declared.state.Standing.{Standing}
 use Rattle.edit_core.proofs.Places.{at-place, beside, found-row, no-row}
 

@@ -1,5 +1,5 @@
 -- What grows from one board of a history to a later one.
-use Rattle.std.proofs.Common.{◌≡◌, ◌∙◌, ◌⊎◌, inl, inr, refl, sym, ap, subst, ℕ, zero, suc, ◌+◌, ◌<◌, ◌≤◌, true, List, [], ◌∷◌, ◌++◌, length, map, set, Option, None, Some, arith}
+use Rattle.std.proofs.Common.{◌≡◌, ◌∙◌, ◌⊎◌, inl, inr, refl, sym, ap, subst, ℕ, ◌+◌, ◌<◌, ◌≤◌, true, List, [], ◌∷◌, ◌++◌, None, Some, arith}
 use Rattle.std.specs.List.{AllByRecursion, AllZip}
 use Rattle.paragraph_text.specs.Paragraphs.{Paragraph, AreValid, HaveOwnIds, IsValidIn}
 use Rattle.paragraph_text.specs.Edits.{Applies, with_id, next_id_after}
@@ -7,9 +7,8 @@ use Rattle.paragraph_text.specs.declared.edits.Edit.{Edit}
 use Rattle.paragraph_text.specs.declared.edits.Edit.TheVariants.{Insert, Remove, Replace}
 use Rattle.edit_core.specs.Seen.{Seen, IsValidBoard}
 use Rattle.edit_core.specs.Events.{SeenEvent, AnEdit, ALoad, AClaim, AFinish, APark, AnAsk}
-use Rattle.edit_core.specs.Steps.{Edits, Makes, MayClaim, MayFinish, Moves, Step, is_open}
+use Rattle.edit_core.specs.Steps.{Makes, MayClaim, MayFinish, Moves, Step, is_open}
 use Rattle.edit_core.specs.Runs.{AreQuiet, AreSteps, Entry, IsLive, IsQuiet, MayBecome, OnlyGrew, last_board}
-use Rattle.edit_core.specs.Views.{is_finished, is_parked}
 use Rattle.edit_core.specs.declared.state.Standing.{Standing}
 use Rattle.edit_core.specs.declared.state.Standing.TheVariants as standing
 use Rattle.edit_core.proofs.Places.{all-middle}
@@ -230,7 +229,7 @@ grew-after before after event valid step = by event step.makes
     by (AnAsk session id) made = moved id (λ _ stands. stands ≡ standing.Parked) standing.Waiting made
 
 -- ---- more steps
-grew-not : (board : Seen) → OnlyGrew board board
+pub grew-not : (board : Seen) → OnlyGrew board board
 grew-not board =
     record {
       point = same-most board.point;
@@ -243,7 +242,7 @@ grew-not board =
       lexicons = λ _. refl;
     }
 
-grew-on : (a b c : Seen) → IsValidBoard a → OnlyGrew a b → OnlyGrew b c → OnlyGrew a c
+pub grew-on : (a b c : Seen) → IsValidBoard a → OnlyGrew a b → OnlyGrew b c → OnlyGrew a c
 grew-on a b c valid first second =
     record {
       point = chain a.point b.point c.point first.point second.point;

@@ -1,17 +1,15 @@
 -- What is kept of a board, and what each event makes of it.
-use Rattle.std.proofs.Common.{◌≡◌, ◌∙◌, refl, sym, ap, subst, ℕ, zero, suc, ◌+◌, ◌<◌, ◌≤◌, ◌^◌, List, [], ◌∷◌, ◌++◌, length, map, set, take, drop, slice_get, Option, None, Some}
-use Rattle.std.specs.List.{AllByRecursion, AllZip, insert, remove}
+use Rattle.std.proofs.Common.{◌≡◌, ◌∙◌, refl, sym, ap, subst, ℕ, zero, suc, ◌+◌, ◌<◌, ◌^◌, List, [], ◌∷◌, ◌++◌, length, map, set, slice_get, Option, None, Some}
+use Rattle.std.specs.List.{AllZip, insert, remove}
 use Rattle.std.specs.Option.{option_map_or}
 use Rattle.std.proofs.lemmas.List.{map-set}
 use Rattle.spell_types.specs.declared.Lexicon.{Lexicon}
-use Rattle.paragraph_text.specs.Paragraphs.{Paragraph, AreValid, HasNoBreak, numbered_from}
+use Rattle.paragraph_text.specs.Paragraphs.{Paragraph, AreValid}
 use Rattle.paragraph_text.specs.Edits.{Applies, next_id_after}
 use Rattle.paragraph_text.specs.declared.edits.Edit.{Edit}
 use Rattle.paragraph_text.specs.declared.edits.Edit.TheVariants.{Insert, Remove, Replace}
-use Rattle.edit_core.specs.Seen.{Seen, IsValidBoard, IsTheirs, AreTheirs, opening_of, standing_of}
+use Rattle.edit_core.specs.Seen.{Seen, IsValidBoard, IsTheirs, AreTheirs, standing_of}
 use Rattle.edit_core.specs.Steps.{Edits, Loads, kept_after, place_of, reloaded, reloaded_state}
-use Rattle.edit_core.specs.declared.state.Standing.{Standing}
-use Rattle.edit_core.specs.declared.state.Standing.TheVariants as standing
 use Rattle.edit_core.specs.declared.state.State.{State}
 use Rattle.edit_core.specs.declared.state.State.TheVariants as state
 use Rattle.edit_core.proofs.Boards.{valid-moved, valid-loaded, valid-edited}

@@ -9,3 +9,4 @@ pub mod Steps
 pub mod Growth
 pub mod Replays
 pub mod RunLaws
+pub mod Fit

@@ -1,5 +1,5 @@
 -- The marks that a paragraph has among those of all texts together are those of its text alone.
-use Rattle.std.proofs.Common.{◌≡◌, ◌∙◌, refl, sym, ap, subst, ℕ, zero, suc, ◌+◌, ◌<◌, ◌≤◌, ◌==◌, Bool, true, false, cond, List, [], ◌∷◌, ◌++◌, filter, map, length, slice_get, Option, None, Some, arith}
+use Rattle.std.proofs.Common.{◌≡◌, ◌∙◌, refl, sym, ap, subst, ℕ, zero, suc, ◌+◌, ◌<◌, ◌==◌, Bool, true, false, cond, List, [], ◌∷◌, ◌++◌, filter, map, slice_get, None, Some, arith}
 use Rattle.std.specs.List.{enumerate_from, flat_map}
 use Rattle.std.specs.Option.{option_map}
 use Rattle.std.specs.Str.{chars}
@@ -8,7 +8,6 @@ use Rattle.std.proofs.lemmas.Option.{slice_get-map}
 use Rattle.spell_types.specs.declared.Lexicon.{Lexicon}
 use Rattle.mark_types.specs.Handed.{mark_of}
 use Rattle.mark_types.specs.Marks.{LocatedWord, in_paragraph, marks_of, one_by_one}
-use Rattle.mark_types.specs.declared.Mark.{Mark}
 use Rattle.paragraph_marks.specs.Paragraphs.{marks_in}
 use Rattle.paragraph_text.specs.Paragraphs.{Paragraph}
 use Rattle.edit_core.specs.Seen.{Seen, IsTheirs, standing_of}

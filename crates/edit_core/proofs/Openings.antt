@@ -1,12 +1,10 @@
 -- Texts that may open a history, and the board that they open it with.
-use Rattle.std.proofs.Common.{◌≡◌, ◌∙◌, refl, sym, ap, subst, ℕ, zero, suc, ◌+◌, ◌<◌, ◌≤◌, ◌^◌, ◌==◌, Bool, true, false, List, [], ◌∷◌, ◌++◌, length, map, take, drop, position, Option, None, Some, arith}
-use Rattle.std.specs.List.{AllByRecursion, AllZip}
-use Rattle.std.specs.Option.{option_map, option_or}
+use Rattle.std.proofs.Common.{◌≡◌, ◌∙◌, refl, sym, ap, subst, ℕ, suc, ◌+◌, ◌≤◌, ◌^◌, ◌==◌, Bool, true, false, List, [], ◌∷◌, length, map, position, Option, None, Some, arith}
+use Rattle.std.specs.Option.{option_map}
 use Rattle.std.proofs.lemmas.Bool.{eq-eqb, false≢true}
 use Rattle.spell_types.specs.declared.Lexicon.{Lexicon}
 use Rattle.paragraph_text.specs.Paragraphs.{Paragraph, AreValid, HasNoBreak, numbered_from}
-use Rattle.edit_core.specs.Seen.{Seen, IsValidBoard, IsTheirs, AreTheirs, fault_from, opening_of, standing_of, text_fault}
-use Rattle.edit_core.specs.declared.opening.OpeningFault.{OpeningFault}
+use Rattle.edit_core.specs.Seen.{IsValidBoard, AreTheirs, opening_of, standing_of}
 use Rattle.edit_core.specs.declared.state.Standing.TheVariants as standing
 use Rattle.edit_core.specs.declared.state.State.{State}
 use Rattle.edit_core.specs.declared.state.State.TheVariants as state

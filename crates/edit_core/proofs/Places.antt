@@ -1,11 +1,11 @@
 -- Where the paragraph with an id stands, and what is kept of each paragraph, place by place.
-use Rattle.std.proofs.Common.{◌≡◌, ◌∙◌, refl, sym, ap, subst, ℕ, zero, suc, ◌+◌, ◌<◌, ◌≤◌, ◌==◌, Bool, true, false, cond, not, List, [], ◌∷◌, ◌++◌, length, take, drop, set, position, find, slice_get, ltb, Option, None, Some, arith}
+use Rattle.std.proofs.Common.{◌≡◌, ◌∙◌, refl, sym, ap, subst, ℕ, zero, suc, ◌+◌, ◌==◌, Bool, true, false, cond, not, List, [], ◌∷◌, ◌++◌, length, set, position, find, slice_get, ltb, Option, None, Some, arith}
 use Rattle.std.specs.List.{AllByRecursion, AllZip, insert, remove, position_or_len, zip}
 use Rattle.std.specs.Option.{option_map, option_map_or}
-use Rattle.std.proofs.lemmas.Bool.{eqb-true, eq-eqb, ne_eqb}
+use Rattle.std.proofs.lemmas.Bool.{eq-eqb, ne_eqb}
 use Rattle.std.proofs.lemmas.Bool.Decides.{nat_tests}
 use Rattle.paragraph_text.specs.Paragraphs.{Paragraph, HaveOwnIds}
-use Rattle.paragraph_text.specs.Edits.{Applies, BeginsWith, Inserts, Removes, Replaces}
+use Rattle.paragraph_text.specs.Edits.{Applies, BeginsWith}
 use Rattle.paragraph_text.specs.declared.edits.Edit.{Edit}
 use Rattle.paragraph_text.specs.declared.edits.Edit.TheVariants.{Insert, Remove, Replace}
 use Rattle.edit_core.specs.Steps.{kept_after, place_of}
@@ -215,3 +215,17 @@ zip-at P [] ys k x y all at beside = none-some x at
 zip-at P (z ∷ xs) [] k x y all at beside = absurd all
 zip-at P (z ∷ xs) (w ∷ ys) zero x y all at beside = subst (λ v. P x v) (same-some w y beside) (subst (λ v. P v w) (same-some z x at) all.0)
 zip-at P (z ∷ xs) (w ∷ ys) (suc k) x y all at beside = zip-at P xs ys k x y all.1 at beside
+
+-- what stands at the place of the first item that passes is what is found
+pub found-one : {X : Type 0} (p : X → Bool) (xs : List X) (k : ℕ) (x : X) → position p xs ≡ Some k → slice_get xs k ≡ Some x → find p xs ≡ Some x
+found-one p [] k x place at = none-some x at
+found-one {X} p (z ∷ xs) k x place at = by (λ j later next. found-one p xs j x later next) (p z) refl
+  where
+    here : (n : ℕ) → n ≡ k → slice_get (z ∷ xs) n ≡ Some x
+    here n is = ap (slice_get (z ∷ xs)) is ∙ at
+
+    by : ((j : ℕ) → position p xs ≡ Some j → slice_get xs j ≡ Some x → find p xs ≡ Some x) → (b : Bool) → p z ≡ b → cond (p z) (Some z) (find p xs) ≡ Some x
+    by more true is = ap (λ b. cond b (Some z) (find p xs)) is ∙ here 0 (same-some 0 k (sym (position-hit p z xs is) ∙ place))
+    by more false is =
+        let later = mapped (position p xs) k (sym (position-miss p z xs is) ∙ place) in
+        ap (λ b. cond b (Some z) (find p xs)) is ∙ more later.0 later.1 (here (suc later.0) (sym later.2))

@@ -1,10 +1,9 @@
 -- A list of events, one after another, is a history.
-use Rattle.std.proofs.Common.{◌≡◌, ◌∙◌, ◌⊎◌, inl, inr, refl, sym, ap, subst, ℕ, zero, suc, ◌+◌, List, [], ◌∷◌, ◌++◌, length, map, arith}
+use Rattle.std.proofs.Common.{◌≡◌, ◌∙◌, inl, inr, refl, sym, ap, subst, List, [], ◌∷◌, length, map, arith}
 use Rattle.edit_core.specs.Events.{SeenEvent}
 use Rattle.edit_core.specs.Runs.{AreFit, AreSteps, AreTakenFrom, Entry, IsAnswered, IsReplayed, Replays, last_board}
 use Rattle.edit_core.specs.Seen.{Seen}
-use Rattle.edit_core.specs.Steps.{IsFit, IsRefused, Step}
-use Rattle.edit_core.specs.declared.refusal.Refusal.{Refusal}
+use Rattle.edit_core.specs.Steps.{IsFit}
 
 pub none-left : {X : Type 0} (xs : List X) → length xs ≡ 0 → xs ≡ []
 none-left [] is = refl

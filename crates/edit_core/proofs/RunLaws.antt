@@ -1,5 +1,5 @@
 -- Longer histories, and how many entries they have.
-use Rattle.std.proofs.Common.{◌≡◌, ◌∙◌, refl, sym, ap, subst, ℕ, zero, suc, ◌+◌, ◌≤◌, Bool, true, false, cond, List, [], ◌∷◌, ◌++◌, length, slice_get, Some, zero-add, arith}
+use Rattle.std.proofs.Common.{◌≡◌, ◌∙◌, refl, ap, ℕ, suc, ◌+◌, ◌≤◌, Bool, cond, List, [], ◌∷◌, ◌++◌, length, slice_get, Some, zero-add, arith}
 use Rattle.std.specs.List.{count_by}
 use Rattle.std.specs.Str.{chars}
 use Rattle.spell_types.specs.declared.Lexicon.{Lexicon}

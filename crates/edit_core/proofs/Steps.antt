@@ -1,21 +1,19 @@
 -- What each step keeps, and what it lets grow.
-use Rattle.std.proofs.Common.{◌≡◌, ◌∙◌, ◌⊎◌, inl, inr, refl, sym, ap, subst, ℕ, zero, suc, ◌+◌, ◌<◌, ◌≤◌, ◌==◌, Bool, true, false, cond, List, [], ◌∷◌, ◌++◌, length, map, set, find, slice_get, Option, None, Some, arith, length-set}
+use Rattle.std.proofs.Common.{◌≡◌, ◌∙◌, ◌⊎◌, inl, inr, refl, sym, ap, subst, ℕ, zero, suc, ◌+◌, ◌==◌, Bool, true, false, cond, List, [], ◌∷◌, length, map, set, slice_get, None, Some, length-set}
 use Rattle.std.specs.List.{AllByRecursion, AllZip}
 use Rattle.std.proofs.lemmas.Bool.{eqb-true, eq-eqb, ne_eqb, false≢true}
-use Rattle.paragraph_text.specs.Paragraphs.{Paragraph, AreValid, HaveOwnIds, IsValidIn}
+use Rattle.paragraph_text.specs.Paragraphs.{Paragraph, AreValid}
 use Rattle.paragraph_text.specs.Edits.{Applies, with_id, next_id_after}
 use Rattle.paragraph_text.specs.declared.edits.Edit.{Edit}
-use Rattle.paragraph_text.specs.declared.edits.Edit.TheVariants.{Insert, Remove, Replace}
 use Rattle.edit_core.specs.Seen.{Seen, IsValidBoard}
-use Rattle.edit_core.specs.Events.{SeenEvent, AnEdit, ALoad, AClaim, AFinish, APark, AnAsk, kind_of}
-use Rattle.edit_core.specs.Steps.{Edits, IsAt, Loads, Makes, MayClaim, MayFinish, Moves, Step, is_open, kept_after, place_of, reloaded}
-use Rattle.edit_core.specs.Runs.{IsLive, IsQuiet, MayBecome, OnlyGrew, is_quiet}
-use Rattle.edit_core.specs.Views.{is_finished, is_parked}
+use Rattle.edit_core.specs.Events.{SeenEvent, AnEdit, ALoad, AClaim, AFinish, APark, AnAsk}
+use Rattle.edit_core.specs.Steps.{Makes, MayClaim, MayFinish, Moves, Step, is_open, kept_after, reloaded}
+use Rattle.edit_core.specs.Runs.{IsQuiet, MayBecome, is_quiet}
 use Rattle.edit_core.specs.declared.state.Standing.{Standing}
 use Rattle.edit_core.specs.declared.state.Standing.TheVariants as standing
 use Rattle.edit_core.proofs.Boards.{valid-moved, valid-loaded, valid-edited}
 use Rattle.edit_core.proofs.Kept.{map-long}
-use Rattle.edit_core.proofs.Places.{all-middle, edit-zip, length-of-zip, zip-of-length}
+use Rattle.edit_core.proofs.Places.{edit-zip, length-of-zip, zip-of-length}
 
 -- the law of edits
 abbrev pub EditsKeepValidity : Type 0

@@ -1,11 +1,11 @@
 -- A history: the boards that one event after another makes of an opening board.
-use Rattle.std.specs.Prelude.{◌≡◌, ℕ, ◌+◌, ◌≤◌, Bool, true, false, ◌&&◌, ◌==◌, ◌⊎◌, List, [], ◌∷◌, map, Option, None, Some}
+use Rattle.std.specs.Prelude.{◌≡◌, ℕ, ◌≤◌, Bool, true, false, ◌&&◌, ◌==◌, ◌⊎◌, List, [], ◌∷◌, Some}
 use Rattle.std.specs.List.{AllZip, count_by}
 use Rattle.spell_types.specs.declared.Lexicon.{Lexicon}
 use Rattle.paragraph_text.specs.Paragraphs.{Paragraph}
 use Rattle.paragraph_text.specs.Edits.{with_id}
-use Rattle.edit_core.specs.Events.{SeenEvent, kind_of}
-use Rattle.edit_core.specs.Seen.{Seen, IsOpening}
+use Rattle.edit_core.specs.Events.{SeenEvent, ALoad, AFinish, kind_of}
+use Rattle.edit_core.specs.Seen.{Seen, IsOpening, IsValidBoard}
 use Rattle.edit_core.specs.Steps.{IsFit, IsRefused, Step}
 use Rattle.edit_core.specs.Views.{is_finished, is_parked}
 use Rattle.edit_core.specs.declared.event.EventKind.{EventKind}
@@ -36,6 +36,7 @@ pub record Run : Type 0 where
 
 pub record IsRun (run : Run) : Type 0 where
   pub opens : IsOpening run.opening
+  pub valid : IsValidBoard run.opening
   pub steps : AreSteps run.opening run.entries
 
 -- ---- how many entries there are of a kind
@@ -124,6 +125,20 @@ abbrev pub AreFit : Seen → List SeenEvent → Type 0
 AreFit board [] = Unit {0}
 AreFit board (event ∷ events) =
     IsFit board event × ((after : Seen) → IsAnswered board event after → AreFit after events)
+
+-- a check is of a paragraph of a board with this rev, by its dictionary
+pub record IsCheckOf (board : Seen) (id rev : ℕ) (text : List ℕ) (lexicon : Lexicon) : Type 0 where
+  pub paragraph : Paragraph
+  pub named : with_id id board.paragraphs ≡ Some paragraph
+  pub current : paragraph.rev ≡ rev
+  pub text_is : text ≡ paragraph.text
+  pub lexicon_is : lexicon ≡ board.lexicon
+
+-- an event brings nothing but what is of a board: its checks are of the board's paragraphs, and its dictionary is the board's
+abbrev pub IsOfBoard : Seen → SeenEvent → Type 0
+IsOfBoard board (ALoad lexicon) = lexicon ≡ board.lexicon
+IsOfBoard board (AFinish worker id rev dict text lexicon) = IsCheckOf board id rev text lexicon
+IsOfBoard board _ = Unit {0}
 
 -- what a list of events makes of a board, one after another
 abbrev pub Replays : Seen → List SeenEvent → Seen → Type 0

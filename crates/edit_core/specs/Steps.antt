@@ -1,5 +1,5 @@
 -- What an event makes of a board, and where it is refused.
-use Rattle.std.specs.Prelude.{◌≡◌, ℕ, ◌+◌, ◌<◌, ◌^◌, Bool, true, false, ◌==◌, ◌⊎◌, List, [], ◌∷◌, ◌++◌, map, set, find, position, nat_lt, slice_get, if◌then◌else◌, Option, None, Some}
+use Rattle.std.specs.Prelude.{◌≡◌, ℕ, ◌+◌, ◌<◌, ◌^◌, Bool, true, false, ◌==◌, ◌⊎◌, List, [], ◌∷◌, ◌++◌, map, set, find, position, nat_lt, slice_get, Option, None, Some}
 use Rattle.std.specs.List.{insert, remove, zip}
 use Rattle.std.specs.Option.{option_map, option_map_or, option_or}
 use Rattle.spell_types.specs.declared.Lexicon.{Lexicon}
@@ -9,7 +9,7 @@ use Rattle.paragraph_text.specs.declared.edits.Edit.{Edit}
 use Rattle.paragraph_text.specs.declared.edits.Edit.TheVariants.{Replace, Insert, Remove}
 use Rattle.paragraph_text.specs.declared.edits.EditRefusal.{EditRefusal}
 use Rattle.paragraph_text.specs.declared.edits.EditRefusal.TheVariants as edits
-use Rattle.edit_core.specs.Seen.{Seen, IsValidBoard}
+use Rattle.edit_core.specs.Seen.{Seen}
 use Rattle.edit_core.specs.Events.{SeenEvent, AnEdit, ALoad, AClaim, AFinish, APark, AnAsk}
 use Rattle.edit_core.specs.declared.refusal.Refusal.{Refusal}
 use Rattle.edit_core.specs.declared.refusal.Refusal.TheVariants.{Spent, Gone, Behind, BadSpan, HasBreak, TooLong, Full, Taken, Reloaded, Finished, Parked, NotParked, NoMemory}

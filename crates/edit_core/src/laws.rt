@@ -1,13 +1,15 @@
 //! What is true of every history, for those who prove something of one.
 
 ghost use Rattle.std.specs.Prelude.{◌≡◌, ◌+◌, ◌≤◌, ◌↔◌, ℕ, true, List, [], ◌∷◌, ◌++◌, length, slice_get, Some, if◌then◌else◌};
+ghost use Rattle.std.specs.List.{AllByRecursion};
 ghost use Rattle.std.specs.Str.{chars};
 ghost use Rattle.paragraph_marks.specs.Paragraphs.{marks_in};
 ghost use Rattle.paragraph_text.specs.Paragraphs.{Paragraph};
+ghost use Rattle.paragraph_text.specs.Edits.{with_id};
 ghost use Rattle.edit_core.specs.Events.{SeenEvent, kind_of};
-ghost use Rattle.edit_core.specs.Runs.{AreQuiet, AreSteps, Entry, IsQuiet, IsReplayed, OnlyGrew, Replays, entries_by, entries_of, is_entry, is_kind, is_quiet, last_board};
+ghost use Rattle.edit_core.specs.Runs.{AreFit, AreQuiet, AreSteps, Entry, IsOfBoard, IsQuiet, IsReplayed, OnlyGrew, Replays, entries_by, entries_of, is_entry, is_kind, is_quiet, last_board};
 ghost use Rattle.edit_core.specs.Seen.{IsValidBoard, Seen};
-ghost use Rattle.edit_core.specs.Steps.{IsDecided, IsFit, Step};
+ghost use Rattle.edit_core.specs.Steps.{IsDecided, IsFit, IsFitCheck, Step};
 ghost use Rattle.edit_core.specs.Views.{Marked, reply_of};
 ghost use Rattle.edit_core.specs.declared.event.EventKind.{EventKind};
 ghost use Rattle.edit_core.specs.declared.state.Standing.TheVariants.{Finished};
@@ -81,4 +83,20 @@ pub fn finished_marks_are_local()
         → slice_get (reply_of board).shown place ≡ Some (Marked (marks_in board.lexicon (chars paragraph.text))) }
 {
     shown_marks_are_local();
+}
+
+/// Which checks are fit to finish a paragraph of a board: one of its own paragraph's text by the dictionary in force; one of a paragraph of an
+/// earlier board of its history, for the rev and the dictionary version of then; and, in a list of events, those of the first board's paragraphs,
+/// while its dictionary alone is loaded.
+pub fn checks_are_fit()
+    ensures own { (board : Seen) (place rev dict : ℕ) (paragraph : Paragraph) → IsValidBoard board
+        → slice_get board.paragraphs place ≡ Some paragraph
+        → IsFitCheck board paragraph.id rev dict paragraph.text board.lexicon }
+    ensures later { (earlier later : Seen) (id : ℕ) (paragraph : Paragraph) → OnlyGrew earlier later
+        → with_id id earlier.paragraphs ≡ Some paragraph
+        → IsFitCheck later id paragraph.rev earlier.dict paragraph.text earlier.lexicon }
+    ensures list { (board : Seen) (events : List SeenEvent) → IsValidBoard board → AllByRecursion (IsOfBoard board) events
+        → AreFit board events }
+{
+    edits_are_decided();
 }

@@ -209,8 +209,9 @@ impl<J: Judge + Drop> Board<J> {
           standings = set self.now.standings place (standing_of state);
         }) }
     {
+        let point = self.point + 1;
         Ok(Board {
-            point: self.point + 1,
+            point,
             text: self.text,
             dict: self.dict,
             judge: Arc::try_clone(&self.judge)?,
@@ -242,10 +243,8 @@ impl Found {
         ensures refused { IfErr result (λ refusal. not_waiting self.now.rev self.now.standing ≡ Some refusal) }
     {
         match self.standing {
-            Standing::Waiting => Ok(()),
             Standing::Held { worker } => Err(Refusal::Taken { by: worker }),
-            Standing::Finished => Err(Refusal::Finished { rev: self.rev }),
-            Standing::Parked => Err(Refusal::Parked { rev: self.rev }),
+            _ => self.check_open(),
         }
     }
 

@@ -1,6 +1,5 @@
 -- Where no place is found no byte is a line feed.
-use Rattle.std.proofs.Common.{◌≡◌, ◌∙◌, sym, subst, length, Ok, Err, Result, OnOk}
-use Rattle.paragraph_text.specs.Paragraphs.{HasNoBreak}
+use Rattle.std.proofs.Common.{◌∙◌, sym, Ok, Err, Result, OnOk}
 use Rattle.edit_core.proofs.Openings.{no-break}
 use Rattle.edit_core.proofs.opening.check_text.Goals as goal
 

@@ -1,5 +1,5 @@
 -- So far no text is at fault, so that the first fault is the first of those that are left.
-use Rattle.std.proofs.Common.{◌≡◌, ◌≤◌, length, take, drop, vec_len}
+use Rattle.std.proofs.Common.{◌≡◌, ◌≤◌, length, take, drop}
 use Rattle.std.specs.List.{AllByRecursion}
 use Rattle.paragraph_text.specs.Paragraphs.{HasNoBreak}
 use Rattle.edit_core.specs.Seen.{fault_from}

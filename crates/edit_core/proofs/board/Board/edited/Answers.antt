@@ -1,5 +1,5 @@
 -- The edit's list is that of the next board, and the paragraph that it touches waits.
-use Rattle.std.proofs.Common.{◌≡◌, ◌∙◌, ◌+◌, ◌<◌, ◌^◌, sym, ap, subst}
+use Rattle.std.proofs.Common.{◌+◌, ◌<◌, ◌^◌, sym, subst}
 use Rattle.std.specs.Arc.{arc_value}
 use Rattle.edit_core.specs.Seen.{Seen}
 use Rattle.edit_core.specs.Steps.{Edits}

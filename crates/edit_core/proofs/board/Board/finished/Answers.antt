@@ -1,5 +1,5 @@
 -- The check is of the text of the paragraph that stands at the place.
-use Rattle.std.proofs.Common.{◌≡◌, ◌∙◌, sym, subst, Some}
+use Rattle.std.proofs.Common.{◌≡◌, ◌∙◌, sym, subst}
 use Rattle.std.proofs.lemmas.Option.{same_Some}
 use Rattle.paragraph_text.specs.Paragraphs.{Paragraph}
 use Rattle.edit_core.proofs.board.Board.finished.Goals as goal

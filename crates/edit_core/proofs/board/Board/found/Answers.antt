@@ -1,5 +1,5 @@
 -- The first paragraph with an id stands at its place, and a state beside it.
-use Rattle.std.proofs.Common.{◌≡◌, ◌∙◌, ◌==◌, sym, ap, subst, map, None, Some, slice_get}
+use Rattle.std.proofs.Common.{◌≡◌, ◌∙◌, ◌==◌, sym, ap, subst, None, Some, slice_get}
 use Rattle.std.specs.Arc.{arc_value}
 use Rattle.std.specs.Option.{option_copied, option_map}
 use Rattle.std.proofs.lemmas.Option.{slice_get-map, none-some}

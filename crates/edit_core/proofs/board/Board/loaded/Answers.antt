@@ -1,5 +1,5 @@
 -- Under another dictionary no check is kept.
-use Rattle.std.proofs.Common.{◌≡◌, ◌<◌, ◌^◌, sym, subst}
+use Rattle.std.proofs.Common.{◌<◌, ◌^◌, sym, subst}
 use Rattle.std.specs.Arc.{arc_value}
 use Rattle.edit_core.specs.Seen.{Seen}
 use Rattle.edit_core.proofs.Kept.{kept-loaded, seen-loaded}

@@ -1,5 +1,5 @@
 -- The first of the events that are left has its turn.
-use Rattle.std.proofs.Common.{◌≡◌, ◌∙◌, refl, sym, ap, subst, List, [], ◌∷◌, map}
+use Rattle.std.proofs.Common.{◌≡◌, ◌∙◌, refl, sym, subst, [], map}
 use Rattle.edit_core.specs.Events.{event_of}
 use Rattle.edit_core.specs.Runs.{Replays}
 use Rattle.edit_core.proofs.Replays.{first-fit, later-fit, later-made, none-left}

@@ -1,5 +1,5 @@
 -- What the events that are left make of the board so far is what all events make of the first board.
-use Rattle.std.proofs.Common.{List, map}
+use Rattle.std.proofs.Common.{map}
 use Rattle.edit_core.specs.Events.{event_of}
 use Rattle.edit_core.specs.Runs.{AreFit, Replays}
 use Rattle.edit_core.specs.Seen.{Seen}

@@ -3,7 +3,7 @@ use Rattle.std.proofs.Common.{◌≡◌, ◌<◌, ◌^◌, sym, subst, slice_get
 use Rattle.std.specs.Arc.{arc_value}
 use Rattle.paragraph_text.specs.Paragraphs.{Paragraph}
 use Rattle.edit_core.specs.Seen.{Seen, IsTheirs}
-use Rattle.edit_core.proofs.Kept.{kept-moved, seen-moved, seen}
+use Rattle.edit_core.proofs.Kept.{kept-moved, seen-moved}
 use Rattle.edit_core.proofs.board.Board.with_state.Goals as goal
 
 pub invariant_of-result : goal.invariant_of-result
