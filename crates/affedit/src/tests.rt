@@ -1,5 +1,6 @@
 //! Whole runs over objects in memory.
 
+mod board_tables;
 mod break_tables;
 mod case_tables;
 mod compound_tables;

@@ -47,13 +47,6 @@ equal a b refusal = by (a == b) refl
     by true is = inl (ap (λ t. unless t refusal) is, eqb-true a b is)
     by false is = inr (refusal, ap (λ t. unless t refusal) is, λ same. false≢true (sym is ∙ eq-eqb a b same))
 
--- whether it waits, is open, or is parked, as numbers tell it
-kind : Standing → ℕ
-kind standing.Waiting = 0
-kind (standing.Held worker) = 1
-kind standing.Parked = 2
-kind standing.Finished = 3
-
 waits : (rev : ℕ) (stands : Standing) → Asks (not_waiting rev stands) (stands ≡ standing.Waiting)
 waits rev standing.Waiting = inl (refl, refl)
 waits rev (standing.Held worker) = inr (Taken worker, refl, λ is. cc)

@@ -22,7 +22,7 @@ apart x is = cc
 named-by : (rows : List Paragraph) (id place : ℕ) (paragraph : Paragraph) → position (λ (p : Paragraph). p.id == id) rows ≡ Some place → slice_get rows place ≡ Some paragraph → with_id id rows ≡ Some paragraph
 named-by rows id place paragraph place-is at = found-one (λ (p : Paragraph). p.id == id) rows place paragraph place-is at
 
-at-named : (board : Seen) (id place : ℕ) (paragraph : Paragraph) (stands : Standing) → IsAt board id place paragraph stands → with_id id board.paragraphs ≡ Some paragraph
+pub at-named : (board : Seen) (id place : ℕ) (paragraph : Paragraph) (stands : Standing) → IsAt board id place paragraph stands → with_id id board.paragraphs ≡ Some paragraph
 at-named board id place paragraph stands here = named-by board.paragraphs id place paragraph here.place_is here.paragraph_is
 
 -- where no id stands twice a paragraph is the one that its id names
@@ -38,6 +38,9 @@ own-named (first ∷ others) zero paragraph own at =
     found-first paragraph.id first others (ap (λ p. p.id) same) ∙ ap (λ p. Some p) same
 own-named (first ∷ others) (suc place) paragraph own at =
     found-later paragraph.id first others paragraph (λ same. other-ids others first.id place paragraph own.0 at (sym same)) (own-named others place paragraph own.1 at)
+
+pub own-here : (board : Seen) (place : ℕ) (paragraph : Paragraph) → IsValidBoard board → slice_get board.paragraphs place ≡ Some paragraph → with_id paragraph.id board.paragraphs ≡ Some paragraph
+own-here board place paragraph valid at = own-named board.paragraphs place paragraph valid.paragraphs.own_ids at
 
 -- a check of a board's own paragraph is fit for it, whatever its rev and its dictionary version
 pub own-fit : (board : Seen) (place rev dict : ℕ) (paragraph : Paragraph) → IsValidBoard board → slice_get board.paragraphs place ≡ Some paragraph → IsFitCheck board paragraph.id rev dict paragraph.text board.lexicon

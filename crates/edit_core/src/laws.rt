@@ -9,9 +9,10 @@ ghost use Rattle.paragraph_text.specs.Edits.{with_id};
 ghost use Rattle.edit_core.specs.Events.{SeenEvent, kind_of};
 ghost use Rattle.edit_core.specs.Runs.{AreFit, AreQuiet, AreSteps, Entry, IsOfBoard, IsQuiet, IsReplayed, OnlyGrew, Replays, entries_by, entries_of, is_entry, is_kind, is_quiet, last_board};
 ghost use Rattle.edit_core.specs.Seen.{IsValidBoard, Seen};
-ghost use Rattle.edit_core.specs.Steps.{IsDecided, IsFit, IsFitCheck, Step};
+ghost use Rattle.edit_core.specs.Steps.{IsAt, IsDecided, IsFit, IsFitCheck, Step};
 ghost use Rattle.edit_core.specs.Views.{Marked, reply_of};
 ghost use Rattle.edit_core.specs.declared.event.EventKind.{EventKind};
+ghost use Rattle.edit_core.specs.declared.state.Standing.{Standing};
 ghost use Rattle.edit_core.specs.declared.state.Standing.TheVariants.{Finished};
 
 use crate::view::shown_marks_are_local;
@@ -84,6 +85,14 @@ pub fn finished_marks_are_local()
 {
     shown_marks_are_local();
 }
+
+/// On a valid board a paragraph is the one that its id names; and so is the one that stands at the place of an id.
+pub fn ids_name_paragraphs()
+    ensures own { (board : Seen) (place : ℕ) (paragraph : Paragraph) → IsValidBoard board → slice_get board.paragraphs place ≡ Some paragraph
+        → with_id paragraph.id board.paragraphs ≡ Some paragraph }
+    ensures at { (board : Seen) (id place : ℕ) (paragraph : Paragraph) (stands : Standing) → IsAt board id place paragraph stands
+        → with_id id board.paragraphs ≡ Some paragraph }
+{}
 
 /// Which checks are fit to finish a paragraph of a board: one of its own paragraph's text by the dictionary in force; one of a paragraph of an
 /// earlier board of its history, for the rev and the dictionary version of then; and, in a list of events, those of the first board's paragraphs,

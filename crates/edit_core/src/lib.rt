@@ -14,8 +14,8 @@ mod view;
 pub use board::Board;
 pub use event::{Event, EventKind};
 pub use laws::{
-    checks_are_fit, entries_add_up, events_are_decided, finished_marks_are_local, quiet,
-    replays_are_runs, runs_go_on, runs_only_grow, steps_keep_validity,
+    checks_are_fit, entries_add_up, events_are_decided, finished_marks_are_local,
+    ids_name_paragraphs, quiet, replays_are_runs, runs_go_on, runs_only_grow, steps_keep_validity,
 };
 pub use opening::OpeningFault;
 pub use refusal::Refusal;

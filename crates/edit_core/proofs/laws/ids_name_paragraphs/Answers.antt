@@ -1,0 +1,9 @@
+-- No id stands twice.
+use Rattle.edit_core.proofs.Fit.{at-named, own-here}
+use Rattle.edit_core.proofs.laws.ids_name_paragraphs.Goals as goal
+
+pub returns-clause-own : goal.returns-clause-own
+returns-clause-own c = own-here
+
+pub returns-clause-at : goal.returns-clause-at
+returns-clause-at c = at-named
