@@ -175,7 +175,6 @@ for pair in "${names[@]}"; do
     take_form capitals here '^[^\p{Ll}]+$' 's/.*/\L&/' ''
     take_form front hunspell '^\p{Lu}' 's/^./\l&/' 1
     take_form sharp hunspell 'ẞ' 's/^\(.\)\(.*\)/\1\L\2/' 1
-    take_form dotted here 'İ' 's/İ/i/g; s/.*/\L&/' 1
     take_option keepcase hunspell '/^KEEPCASE/d'
     take_option forbidden-case hunspell '/^FORBIDDENWORD/d'
     take_option rule-twice here '/^CHECKCOMPOUNDDUP/d'
@@ -185,6 +184,7 @@ for pair in "${names[@]}"; do
     take_option only-inside hunspell '/^ONLYINCOMPOUND/d'
     take_option language hunspell '/^LANG/d'
     take_option language here '/^LANG/d'
+    take_form dotted here 'İ' 's/İ/i/g; s/.*/\L&/' 1
     take_option one-derivation hunspell '/^COMPOUNDRULE/d'
     take_option affix-flag hunspell '/^COMPOUND\(END\|LAST\)/d'
     grep -q '^COMPOUND' "$base.aff" && take_option prefix-inside here '/^PFX/d'
