@@ -1,15 +1,17 @@
 -- Which checks are fit for a board.
 use Rattle.std.proofs.Common.{◌≡◌, ◌∙◌, inl, inr, refl, sym, ap, subst, ℕ, zero, suc, ◌==◌, List, [], ◌∷◌, position, slice_get, None, Some}
 use Rattle.std.specs.List.{AllByRecursion}
+use Rattle.std.specs.Option.{option_map}
+use Rattle.std.proofs.lemmas.Bool.{eq-eqb, ne_eqb}
 use Rattle.paragraph_text.specs.Paragraphs.{Paragraph, HaveOwnIds}
 use Rattle.paragraph_text.specs.Edits.{with_id}
 use Rattle.edit_core.specs.Events.{SeenEvent, AnEdit, ALoad, AClaim, AFinish, APark, AnAsk}
 use Rattle.edit_core.specs.Runs.{AreFit, IsAnswered, IsOfBoard, OnlyGrew}
 use Rattle.edit_core.specs.Seen.{Seen, IsValidBoard}
-use Rattle.edit_core.specs.Steps.{IsAt, IsFit, IsFitCheck, Makes}
+use Rattle.edit_core.specs.Steps.{IsAt, IsFit, IsFitCheck, Makes, place_of}
 use Rattle.edit_core.specs.declared.state.Standing.{Standing}
 use Rattle.edit_core.proofs.Growth.{grew-after, grew-not, grew-on}
-use Rattle.edit_core.proofs.Places.{found-one}
+use Rattle.edit_core.proofs.Places.{found-one, position-hit, position-miss}
 use Rattle.edit_core.proofs.Steps.{EditsKeepValidity, found-first, found-later, valid-after}
 
 same-some : {X : Type 0} (x y : X) → Some x ≡ Some y → x ≡ y
@@ -41,6 +43,19 @@ own-named (first ∷ others) (suc place) paragraph own at =
 
 pub own-here : (board : Seen) (place : ℕ) (paragraph : Paragraph) → IsValidBoard board → slice_get board.paragraphs place ≡ Some paragraph → with_id paragraph.id board.paragraphs ≡ Some paragraph
 own-here board place paragraph valid at = own-named board.paragraphs place paragraph valid.paragraphs.own_ids at
+
+-- and stands at the place of its id
+own-placed : (rows : List Paragraph) (place : ℕ) (paragraph : Paragraph) → HaveOwnIds rows → slice_get rows place ≡ Some paragraph → place_of paragraph.id rows ≡ Some place
+own-placed [] place paragraph own at = apart paragraph at
+own-placed (first ∷ others) zero paragraph own at =
+    position-hit (λ (p : Paragraph). p.id == paragraph.id) first others (eq-eqb first.id paragraph.id (ap (λ p. p.id) (same-some first paragraph at)))
+own-placed (first ∷ others) (suc place) paragraph own at =
+    position-miss (λ (p : Paragraph). p.id == paragraph.id) first others
+    (ne_eqb first.id paragraph.id (λ same. other-ids others first.id place paragraph own.0 at (sym same)))
+    ∙ ap (option_map (λ n. suc n)) (own-placed others place paragraph own.1 at)
+
+pub own-place : (board : Seen) (place : ℕ) (paragraph : Paragraph) → IsValidBoard board → slice_get board.paragraphs place ≡ Some paragraph → place_of paragraph.id board.paragraphs ≡ Some place
+own-place board place paragraph valid at = own-placed board.paragraphs place paragraph valid.paragraphs.own_ids at
 
 -- a check of a board's own paragraph is fit for it, whatever its rev and its dictionary version
 pub own-fit : (board : Seen) (place rev dict : ℕ) (paragraph : Paragraph) → IsValidBoard board → slice_get board.paragraphs place ≡ Some paragraph → IsFitCheck board paragraph.id rev dict paragraph.text board.lexicon

@@ -9,4 +9,5 @@ pub mod Steps
 pub mod Growth
 pub mod Replays
 pub mod RunLaws
+pub mod Furthest
 pub mod Fit

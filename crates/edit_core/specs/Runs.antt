@@ -1,5 +1,5 @@
 -- A history: the boards that one event after another makes of an opening board.
-use Rattle.std.specs.Prelude.{◌≡◌, ℕ, ◌≤◌, Bool, true, false, ◌&&◌, ◌==◌, ◌⊎◌, List, [], ◌∷◌, Some}
+use Rattle.std.specs.Prelude.{◌≡◌, ℕ, ◌+◌, ◌*◌, ◌≤◌, Bool, true, false, not, ◌&&◌, ◌==◌, ◌⊎◌, List, [], ◌∷◌, Some}
 use Rattle.std.specs.List.{AllZip, count_by}
 use Rattle.spell_types.specs.declared.Lexicon.{Lexicon}
 use Rattle.paragraph_text.specs.Paragraphs.{Paragraph}
@@ -12,6 +12,7 @@ use Rattle.edit_core.specs.declared.event.EventKind.{EventKind}
 use Rattle.edit_core.specs.declared.event.EventKind.TheVariants as kind
 use Rattle.edit_core.specs.declared.refusal.Refusal.{Refusal}
 use Rattle.edit_core.specs.declared.state.Standing.{Standing}
+use Rattle.edit_core.specs.declared.state.Standing.TheVariants as standing
 
 -- an event of a history: the number of the one through whom it came, the event, and the board behind it
 pub record Entry : Type 0 where
@@ -108,6 +109,24 @@ pub record IsQuiet (before after : Seen) : Type 0 where
   pub next_id : after.next_id ≡ before.next_id
   pub paragraphs : after.paragraphs ≡ before.paragraphs
   pub standings : AllZip MayBecome before.standings after.standings
+
+-- whether a paragraph waits for a worker
+abbrev pub is_waiting : Standing → Bool
+is_waiting standing.Waiting = true
+is_waiting _ = false
+
+-- whether a worker holds a paragraph
+abbrev pub is_held : Standing → Bool
+is_held (standing.Held worker) = true
+is_held _ = false
+
+-- the furthest point that events of workers alone can lead to: what waits can be claimed and finished, what is held can be finished
+abbrev pub furthest_point : Seen → ℕ
+furthest_point board = board.point + (2 * count_by is_waiting board.standings + count_by is_held board.standings)
+
+-- how many events of a history are not of workers
+abbrev pub asked_of : List Entry → ℕ
+asked_of entries = count_by (λ entry. not (is_quiet entry.event)) entries
 
 -- all events of a stretch are of workers
 abbrev pub AreQuiet : List Entry → Type 0

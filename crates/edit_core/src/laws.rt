@@ -1,15 +1,15 @@
 //! What is true of every history, for those who prove something of one.
 
-ghost use Rattle.std.specs.Prelude.{◌≡◌, ◌+◌, ◌≤◌, ◌↔◌, ℕ, true, List, [], ◌∷◌, ◌++◌, length, slice_get, Some, if◌then◌else◌};
+ghost use Rattle.std.specs.Prelude.{◌≡◌, ◌+◌, ◌*◌, ◌≤◌, ◌↔◌, ℕ, true, List, [], ◌∷◌, ◌++◌, length, slice_get, Some, if◌then◌else◌};
 ghost use Rattle.std.specs.List.{AllByRecursion};
 ghost use Rattle.std.specs.Str.{chars};
 ghost use Rattle.paragraph_marks.specs.Paragraphs.{marks_in};
 ghost use Rattle.paragraph_text.specs.Paragraphs.{Paragraph};
 ghost use Rattle.paragraph_text.specs.Edits.{with_id};
 ghost use Rattle.edit_core.specs.Events.{SeenEvent, kind_of};
-ghost use Rattle.edit_core.specs.Runs.{AreFit, AreQuiet, AreSteps, Entry, IsOfBoard, IsQuiet, IsReplayed, OnlyGrew, Replays, entries_by, entries_of, is_entry, is_kind, is_quiet, last_board};
+ghost use Rattle.edit_core.specs.Runs.{AreFit, AreQuiet, AreSteps, Entry, IsOfBoard, IsQuiet, IsReplayed, IsRun, OnlyGrew, Replays, Run, asked_of, entries_by, entries_of, furthest_point, is_entry, is_kind, is_quiet, last_board};
 ghost use Rattle.edit_core.specs.Seen.{IsValidBoard, Seen};
-ghost use Rattle.edit_core.specs.Steps.{IsAt, IsDecided, IsFit, IsFitCheck, Step};
+ghost use Rattle.edit_core.specs.Steps.{IsAt, IsDecided, IsFit, IsFitCheck, Step, place_of};
 ghost use Rattle.edit_core.specs.Views.{Marked, reply_of};
 ghost use Rattle.edit_core.specs.declared.event.EventKind.{EventKind};
 ghost use Rattle.edit_core.specs.declared.state.Standing.{Standing};
@@ -49,6 +49,19 @@ pub fn quiet()
     ensures run { (board : Seen) (entries : List Entry) → AreSteps board entries → AreQuiet entries → IsQuiet board (last_board board entries) }
 {}
 
+/// How far a history gets: events of workers do not move the furthest point that they can lead to, and each other event moves it by
+/// at most 40,001. So a history of few other events is short.
+pub fn runs_are_short()
+    ensures quiet { (before after : Seen) (event : SeenEvent) → Step before event after → is_quiet event ≡ true
+        → furthest_point after ≤ furthest_point before }
+    ensures step { (before after : Seen) (event : SeenEvent) → IsValidBoard before → Step before event after
+        → furthest_point after ≤ furthest_point before + 40001 }
+    ensures run { (run : Run) → IsRun run
+        → (last_board run.opening run.entries).point ≤ 2 * length run.opening.paragraphs + 40001 * asked_of run.entries }
+{
+    edits_are_decided();
+}
+
 /// What a list of events makes of a board is the last board of a history, whose events are those that were not refused, in their order.
 pub fn replays_are_runs()
     ensures { (board after : Seen) (events : List SeenEvent) → Replays board events after → IsReplayed board events after }
@@ -86,12 +99,15 @@ pub fn finished_marks_are_local()
     shown_marks_are_local();
 }
 
-/// On a valid board a paragraph is the one that its id names; and so is the one that stands at the place of an id.
+/// On a valid board a paragraph is the one that its id names, and stands at the place of its id; and so is the one that stands at the place of
+/// an id.
 pub fn ids_name_paragraphs()
     ensures own { (board : Seen) (place : ℕ) (paragraph : Paragraph) → IsValidBoard board → slice_get board.paragraphs place ≡ Some paragraph
         → with_id paragraph.id board.paragraphs ≡ Some paragraph }
     ensures at { (board : Seen) (id place : ℕ) (paragraph : Paragraph) (stands : Standing) → IsAt board id place paragraph stands
         → with_id id board.paragraphs ≡ Some paragraph }
+    ensures place { (board : Seen) (place : ℕ) (paragraph : Paragraph) → IsValidBoard board → slice_get board.paragraphs place ≡ Some paragraph
+        → place_of paragraph.id board.paragraphs ≡ Some place }
 {}
 
 /// Which checks are fit to finish a paragraph of a board: one of its own paragraph's text by the dictionary in force; one of a paragraph of an

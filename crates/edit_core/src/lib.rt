@@ -15,7 +15,8 @@ pub use board::Board;
 pub use event::{Event, EventKind};
 pub use laws::{
     checks_are_fit, entries_add_up, events_are_decided, finished_marks_are_local,
-    ids_name_paragraphs, quiet, replays_are_runs, runs_go_on, runs_only_grow, steps_keep_validity,
+    ids_name_paragraphs, quiet, replays_are_runs, runs_are_short, runs_go_on, runs_only_grow,
+    steps_keep_validity,
 };
 pub use opening::OpeningFault;
 pub use refusal::Refusal;
