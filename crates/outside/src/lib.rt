@@ -16,11 +16,12 @@ mod real;
 mod sinks;
 mod sources;
 mod sure;
+mod unread;
 
 pub use faults::{Failed, FileFault};
 pub use folders::Files;
 pub use gates::{FreeGate, Gate};
-pub use memory::{MemFiles, MemSink};
+pub use memory::{MemFiles, MemSink, MemSource};
 pub use real::{RealFiles, StdSink, StdSource};
 pub use sinks::Sink;
 pub use sources::Source;

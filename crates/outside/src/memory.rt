@@ -1,5 +1,5 @@
 //! Objects in memory of which chosen calls fail. They tell their bytes.
-ghost use Rattle.std.specs.Prelude.{◌≡◌, [], take, Some, IfSome};
+ghost use Rattle.std.specs.Prelude.{◌≡◌, ◌≤◌, [], take, Some, IfSome};
 ghost use Rattle.outside.specs.Memory.{file_of};
 
 use crate::faults::{Failed, FileFault};
@@ -8,7 +8,47 @@ use crate::kept::Kept;
 use crate::lookup::load_first;
 use crate::plans::Plan;
 use crate::sinks::Sink;
+use crate::sources::Source;
+use crate::unread::Unread;
 use std::alloc::Global;
+
+/// A source in memory.
+#[derive(Drop)]
+pub struct MemSource {
+    unread: Unread,
+    piece: usize,
+    plan: Plan,
+    ghost some: { 1 ≤ piece },
+}
+
+impl MemSource {
+    /// A source of these bytes, of which a read gives at most `piece`. `failing` lists the numbers of
+    /// the reads that are to fail, counted from 1; such a read takes nothing.
+    pub fn new(bytes: Vec<u8>, piece: usize, failing: Vec<u64>) -> MemSource
+        requires piece { 1 ≤ piece }
+        ensures left { ⟦<MemSource as Source>⟧.left result ≡ Some bytes.items }
+        ensures faultless { ⟦<MemSource as Source>⟧.faults result ≡ 0 }
+    {
+        MemSource {
+            unread: Unread::new(bytes),
+            piece,
+            plan: Plan::new(failing),
+        }
+    }
+}
+
+impl Source for MemSource {
+    ghost left = { λ source. Some source.unread };
+
+    ghost faults = { λ source. source.plan.faults };
+
+    fn read(&mut self, into: &mut [u8]) -> Result<usize, Failed> {
+        if self.plan.fails_next() {
+            return Err(Failed);
+        }
+        Ok(self.unread.give(self.piece, into))
+    }
+}
 
 /// A sink in memory. A put that finds no memory for what it is to take takes nothing and answers
 /// Ok, one that was to fail too; from then on the sink tells nothing.

@@ -1,5 +1,5 @@
 //! Objects in memory that never fail. They tell their bytes.
-ghost use Rattle.std.specs.Prelude.{◌≡◌, ◌≤◌, [], drop, length, vec_len, Some, IfSome};
+ghost use Rattle.std.specs.Prelude.{◌≡◌, [], Some, IfSome};
 ghost use Rattle.outside.specs.Memory.{file_of};
 
 use crate::faults::{Failed, FileFault};
@@ -8,14 +8,13 @@ use crate::kept::Kept;
 use crate::lookup::load_first;
 use crate::sinks::Sink;
 use crate::sources::Source;
+use crate::unread::Unread;
 use std::alloc::Global;
 
 /// A source in memory.
 #[derive(Drop)]
 pub struct SureSource {
-    bytes: Vec<u8>,
-    place: usize,
-    ghost inside: { place ≤ vec_len bytes },
+    unread: Unread,
 }
 
 impl SureSource {
@@ -23,21 +22,19 @@ impl SureSource {
     pub fn new(bytes: Vec<u8>) -> SureSource
         ensures { ⟦<SureSource as Source>⟧.left result ≡ Some bytes.items }
     {
-        SureSource { bytes, place: 0 }
+        SureSource {
+            unread: Unread::new(bytes),
+        }
     }
 }
 
 impl Source for SureSource {
-    ghost left = { λ source. Some (drop source.place source.bytes.items) };
+    ghost left = { λ source. Some source.unread };
 
     ghost faults = { λ _. 0 };
 
     fn read(&mut self, into: &mut [u8]) -> Result<usize, Failed> {
-        let rest = &self.bytes[self.place..];
-        let count = into.len().min(rest.len());
-        into[..count].copy_from_slice(&rest[..count]);
-        self.place += count;
-        Ok(count)
+        Ok(self.unread.give(into.len(), into))
     }
 }
 
