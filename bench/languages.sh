@@ -1,6 +1,6 @@
 #!/usr/bin/env bash
 # Times `check` and `hunspell -l` by dictionaries of Debian's packages on the same running text, LibreOffice's help without its markup
-# in lines of at most 150 bytes, and prints a row of a table in Markdown for each. Seconds are the processor's, the least of three runs;
+# and joined to lines of at most 1,000 bytes, and prints a row of a table in Markdown for each. Seconds are the processor's, the least of three runs;
 # words a second are the words that `check` counts by the seconds for the text, less those of an empty one, the load. The memory is the
 # most that a run on the text used, and a megabyte 1024 kB. Both read the same files, converted and mended as `bench/packages.bash`
 # says. Packages are fetched and unpacked, not installed; hunspell is asked for. With a folder as its argument, packages are kept there.
@@ -43,7 +43,7 @@ while read -r package name; do
     mend "$name" dictionary || true
     manual=$(text_package "$name")
     unpack "$manual"
-    running_text "$manual" | LC_ALL=C tr -s ' \t' ' ' | LC_ALL=C fold -s -w 150 | iconv -c -f UTF-8 -t UTF-8 > text
+    running_text "$manual" | LC_ALL=C tr -s ' \t\n' ' ' | LC_ALL=C fold -b -s -w 1000 | iconv -c -f UTF-8 -t UTF-8 > text
     "$program" check dictionary.aff dictionary.dic text > out || [ $? -eq 1 ]
     count=$(awk 'END { print $3 }' out)
     echo "| \`$package $name\` $(version "$package") | $(stat -c %s text | awk '{ printf "%.1f MB", $1 / 1000000 }') | $count |$(cells "$program" check dictionary.aff dictionary.dic)$(cells hunspell -d dictionary -i UTF-8 -l)"

@@ -1,10 +1,11 @@
 #!/usr/bin/env bash
 # Times `check`, nuspell's library and hunspell's on the same words, by a list of a hundred words and by dictionaries of
 # Debian's packages, and prints a row of a table for each. The words are those of 2 MB of running text in the dictionary's
-# language, cut by this script (letters, with apostrophes between them) and given one a line to all three; the program reads
-# them in lines of ten too. Seconds are the processor's, the least of three runs; a word is the time of all words, less that of
-# no word, the load. The memory is the most that a run on the words used, and a megabyte 1024 kB. What is refused are words
-# that occur. Packages are fetched and unpacked, not installed; libhunspell-dev, libnuspell-dev and g++ are asked for.
+# language, cut by this script (letters, with apostrophes between them). The libraries judge them one after another; the
+# program reads them in lines of twenty, and in lines of two hundred too. Seconds are the processor's, the least of three
+# runs; a word is the time of all words, less that of no word, the load. The memory is the most that a run on the words used,
+# and a megabyte 1024 kB. What is refused are words that occur. Packages are fetched and unpacked, not installed;
+# libhunspell-dev, libnuspell-dev and g++ are asked for.
 set -euo pipefail
 top=$(cd "$(dirname "$0")/.." && pwd)
 work=$(mktemp -d)
@@ -51,25 +52,30 @@ measure() {
     echo "$(awk '{ print $1 + $2 }' seconds | sort -n | head -n 1) $(sort -n memory | head -n 1)"
 }
 
-# The cells of one peer: load, a word, in lines of ten where the program takes them, memory, refused.
+# The cells of one peer: load, a word, memory, refused; of the program a word in lines of twenty, and then in lines of two hundred.
 cells() {
-    local load spent tens='' memory
+    local load spent long='' memory words=words
     read -r load _ <<< "$(measure "$@" /dev/null)"
     if [ $# -eq 4 ]; then
-        read -r tens _ <<< "$(measure "$@" tens)"
+        words=twenties
+        read -r long _ <<< "$(measure "$@" hundreds)"
     fi
-    read -r spent memory <<< "$(measure "$@" words)"
-    awk -v load="$load" -v spent="$spent" -v tens="$tens" -v memory="$memory" -v count="$count" -v refused="$(cut -d ' ' -f 1 <<< "$(tail -n 1 out)")" 'BEGIN {
+    read -r spent memory <<< "$(measure "$@" "$words")"
+    awk -v load="$load" -v spent="$spent" -v long="$long" -v memory="$memory" -v count="$count" -v refused="$(cut -d ' ' -f 1 <<< "$(tail -n 1 out)")" 'BEGIN {
         printf " %.2f s | %.2f μs |", load, (spent - load) * 1e6 / count
-        if (tens != "") printf " %.2f μs |", (tens - load) * 1e6 / count
+        if (long != "") printf " %.2f μs |", (long - load) * 1e6 / count
         printf " %.0f MB | %d |", memory / 1024, refused }'
 }
+
+# The words of the file `words`, so many in a line.
+in_lines_of() { awk -v "many=$1" '{ printf "%s%s", $0, NR % many ? " " : "\n" }' words; }
 
 # The row of a dictionary, on the words of the file `words`.
 row() {
     local name=$1 said
     count=$(wc -l < words)
-    paste -d ' ' - - - - - - - - - - < words > tens
+    in_lines_of 20 > twenties
+    in_lines_of 200 > hundreds
     if ! said=$("$program" check "$name.aff" "$name.dic" /dev/null); then
         echo "$name: check says $said" >&2
         return
@@ -99,10 +105,10 @@ words_of() {
 printf '0\n' > zero.dic
 "$top/affedit" check /dev/null zero.dic /dev/null > /dev/null
 program=$top/out/affedit
-echo '| dictionary | words | load | a word | a word in tens | memory | refused | nuspell: load | a word | memory | refused | hunspell: load | a word | memory | refused |'
+echo '| dictionary | words | load | a word in twenties | in two hundreds | memory | refused | nuspell: load | a word | memory | refused | hunspell: load | a word | memory | refused |'
 echo '|---|---|---|---|---|---|---|---|---|---|---|---|---|---|---|'
 
-# A word of three syllables for a number, as bababa for 0; every tenth word is no word of the list.
+# A word of three syllables for a number, as babebi for 0; every tenth word is no word of the list.
 word='function word(i) { return substr("bdfgklmnrt", i % 10 + 1, 1) "a" substr("bdfgklmnrt", int(i / 10) % 10 + 1, 1) "e" substr("bdfgklmnrt", int(i / 100) % 10 + 1, 1) "i" }'
 printf 'SET UTF-8\n' > list.aff
 awk "$word"' BEGIN { print 100; for (i = 0; i < 100; i++) print word(i) }' > list.dic

@@ -101,11 +101,17 @@ echo
 echo "Of $count pairs of files $loaded are read once they are converted, and $mended once they are mended."
 echo
 
-# refused BY BASE: those of the words in the file `words` that are refused here or by hunspell, by BASE.aff and BASE.dic.
+# refused BY BASE: those of the words in the file `words` that are refused here or by hunspell, by BASE.aff and BASE.dic. A text
+# that is checked has at most 20,000 lines, so of more words as many are checked at once.
 refused() {
+    local part
     if [ "$1" = here ]; then
-        "$program" check "$2.aff" "$2.dic" words > out || [ $? -eq 1 ]
-        head -n -1 out | cut -d ' ' -f 1 | uniq | awk 'NR == FNR { marked[$1]; next } FNR in marked' - words | LC_ALL=C sort
+        rm -f part.*
+        split -l 20000 words part.
+        for part in $(compgen -G 'part.*'); do
+            "$program" check "$2.aff" "$2.dic" "$part" > out || [ $? -eq 1 ]
+            head -n -1 out | cut -d ' ' -f 1 | uniq | awk 'NR == FNR { marked[$1]; next } FNR in marked' - "$part"
+        done | LC_ALL=C sort
     else
         ./judge "$2.aff" "$2.dic" < words | LC_ALL=C sort
     fi
