@@ -1,8 +1,10 @@
 #!/usr/bin/env bash
 # Makes each allocation of `check` fail in turn, until a run has none that fails: on the sample's dictionary, on one with
 # aliases, classes and a twofold suffix, on one with ICONV, IGNORE and BREAK, on one with compounds by flags and by rules, and
-# on one that is refused in its last line. Prints what the runs ended with and how often, and ends with status 1 if one of them
-# ended otherwise than with `memory` alone and status 7 or as the run without a failing allocation. Needs gcc.
+# on one that is refused in its last line. And each allocation of `edit` in two dialogues: one with edits, a paragraph that is
+# stopped and asked for, and marks that are shown; and one in which a dictionary is loaded, and another one is refused. Prints
+# what the runs ended with and how often, and ends with status 1 if one of them ended otherwise than as the run without a failing
+# allocation, or with status 7 and `memory`: alone, or behind whole first replies of a dialogue. Needs gcc.
 set -euo pipefail
 top=$(cd "$(dirname "$0")/.." && pwd)
 work=$(mktemp -d)
@@ -55,8 +57,8 @@ int posix_memalign(void **out, size_t align, size_t size) {
 }
 C
 gcc -shared -fPIC -O1 -o "$work/fail.so" "$work/fail.c" -ldl 2>/dev/null
-# The folders have the files a.aff, a.dic and text.
-mkdir "$work/sample" "$work/affixes" "$work/conversions" "$work/compounds" "$work/refused"
+# The folders have the files a.aff, a.dic, and text or, for a dialogue, the lines of its input.
+mkdir "$work/sample" "$work/affixes" "$work/conversions" "$work/compounds" "$work/refused" "$work/edits" "$work/loads"
 cp "$top/crates/affedit/data/a.aff" "$top/crates/affedit/data/a.dic" "$work/sample"
 printf 'hello 2nd wrld' > "$work/sample/text"
 
@@ -111,21 +113,81 @@ AFF
 printf '1\nwork/S\n' > "$work/refused/a.dic"
 printf 'works' > "$work/refused/text"
 
+# The first two dialogues of crates/affedit/src/tests/dialogues.rt, with the files that they name.
+cat > "$work/edits/a.aff" <<'AFF'
+SET UTF-8
+TRY esianrtolc
+REP 2
+REP f ph
+REP ph f
+PFX A Y 1
+PFX A 0 re .
+SFX B Y 2
+SFX B 0 ed [^y]
+SFX B y ied y
+AFF
+printf '3\nhello\ntry/B\nwork/AB\n' > "$work/edits/a.dic"
+cat > "$work/edits/lines" <<'LINES'
+ins 1 hello wrold
+ins 2 wurk
+show
+settle
+show
+put 1 hello work
+show
+stop 1
+settle
+show
+ask 1
+settle
+show
+quit
+LINES
+
+cp "$work/edits/a.aff" "$work/edits/a.dic" "$work/loads"
+printf 'SET UTF-8\n' > "$work/loads/b.aff"
+printf '1\nwrold\n' > "$work/loads/b.dic"
+printf 'SET ISO8859-1\n' > "$work/loads/c.aff"
+cat > "$work/loads/lines" <<'LINES'
+ins 1 hello wrold
+settle
+show
+load b.aff b.dic
+show
+settle
+show
+load c.aff b.dic
+show
+LINES
+
 # The launcher builds the program where it is missing. The sample with this text has one mark, which is status 1.
 "$top/affedit" check "$work/sample/a.aff" "$work/sample/a.dic" "$work/sample/text" > /dev/null || [ $? -eq 1 ]
 program=$top/out/affedit
 
-# What a run in a folder ended with, as one line.
+# What a run in a folder ended with, as one line: of `edit` where the folder has lines, and else of `check`.
 ending() {
-    local status=0
-    LD_PRELOAD=$work/fail.so "$program" check "$1/a.aff" "$1/a.dic" "$1/text" > "$work/out" 2> "$work/told" || status=$?
+    local status=0 words=(check a.aff a.dic text) input=/dev/null
+    if [ -e "$1/lines" ]; then
+        words=(edit a.aff a.dic)
+        input=lines
+    fi
+    (cd "$1" && LD_PRELOAD=$work/fail.so "$program" "${words[@]}" < "$input" > "$work/out" 2> "$work/told") || status=$?
     echo "status $status: $(tr '\n' '|' < "$work/out")"
 }
 
+# What a run may say of memory, a line for each: alone, or behind the first replies of what a dialogue wrote, which is in `out`.
+wanting() {
+    echo 'status 7: memory|'
+    if [ -e "$1/lines" ]; then
+        awk '{ said = said $0 "|" } /^text / { inside = 1 } /^\.$/ { inside = 0 } !inside { print "status 7: " said "memory|" }' "$work/out"
+    fi
+}
+
 wrong=0
-for name in sample affixes conversions compounds refused; do
+for name in sample affixes conversions compounds refused edits loads; do
     : > "$work/seen"
     whole=$(FAIL_ALLOCATION=0 ending "$work/$name")
+    { echo "$whole"; wanting "$work/$name"; } > "$work/allowed"
     for which in $(seq 1 100000); do
         ended=$(FAIL_ALLOCATION=$which ending "$work/$name")
         if ! grep -q failed "$work/told"; then
@@ -135,7 +197,7 @@ for name in sample affixes conversions compounds refused; do
         echo "$ended" >> "$work/seen"
     done
     sort "$work/seen" | uniq -c
-    if grep -vxF -e "$whole" -e 'status 7: memory|' "$work/seen" > /dev/null; then
+    if grep -vxF -f "$work/allowed" "$work/seen" > /dev/null; then
         echo "$name: a run ended in another way"
         wrong=1
     fi

@@ -1,6 +1,6 @@
 #!/usr/bin/env bash
-# What README.md shows of the sample, and the scripts in `examples/` on a text with addresses, by the program that is built. Prints what
-# differs; the status is 0 where nothing does.
+# What README.md shows of the sample and of a dialogue, and the scripts in `examples/` on a text with addresses, by the program that is
+# built. Prints what differs; the status is 0 where nothing does.
 set -euo pipefail
 top=$(cd "$(dirname "$0")/.." && pwd)
 work=$(mktemp -d)
@@ -24,7 +24,7 @@ piped() { echo 'the citys' | check /dev/stdin; }
 without() { { check "$1" || true; } | examples/without-addresses "$1"; }
 
 # The blocks of README.md that a command line stands before, and what it prints.
-block() { awk -v "command=    $1" 'found == 2 && !/^    /{ exit } found == 2 { print substr($0, 5) } found == 1 && /^    / { found = 2; print substr($0, 5) } $0 == command { found = 1; while ((getline) > 0 && /^    /) ; }' README.md; }
+block() { command="    $1" awk 'found == 2 && !/^    /{ exit } found == 2 { print substr($0, 5) } found == 1 && /^    / { found = 2; print substr($0, 5) } $0 == ENVIRON["command"] { found = 1; while ((getline) > 0 && /^    /) ; }' README.md; }
 
 block './affedit check examples/sample.aff examples/sample.dic examples/sample.txt' > "$work/block"
 [ -s "$work/block" ] || { echo 'README.md has no block behind the sample'; failed=1; }
@@ -32,6 +32,12 @@ expect 'the sample' 1 check examples/sample.txt < "$work/block"
 block "echo 'the citys' | ./affedit check examples/sample.aff examples/sample.dic /dev/stdin" > "$work/block"
 [ -s "$work/block" ] || { echo 'README.md has no block behind standard input'; failed=1; }
 expect 'standard input' 1 piped < "$work/block"
+IFS= read -r dialogue << 'LINE'
+printf 'ins 1 hello wrld\nsettle\nshow\nsub 1 6 10 2nd\nshow\n' | ./affedit edit crates/affedit/data/a.aff crates/affedit/data/a.dic
+LINE
+block "$dialogue" > "$work/block"
+[ -s "$work/block" ] || { echo 'README.md has no block behind the dialogue'; failed=1; }
+expect 'a dialogue' 0 bash -c "$dialogue" < "$work/block"
 
 printf '\xef\xbb\xbfwho reads https://example.org/citys, name@citys.net or the\n~/citys/orders --citys, x86 and the citys\n' > "$work/text"
 expect 'all marks' 1 check "$work/text" << 'MARKS'

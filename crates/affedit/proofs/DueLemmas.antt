@@ -3,7 +3,7 @@ use Rattle.std.proofs.Common.{◌≡◌, refl, Option, None, IfSome, IsErrAnd, �
 use Rattle.std.proofs.lemmas.Bool.Decides.{nat_tests}
 use Rattle.std.proofs.lemmas.List.{length-replicate}
 use Rattle.affedit.specs.declared.stop.Stop.{Stop}
-use Rattle.affedit.specs.declared.stop.Stop.TheVariants.{Words, Aff, Dic, Document, Missing, Files, NoMemory, Limit}
+use Rattle.affedit.specs.declared.stop.Stop.TheVariants.{Words, Aff, Dic, Document, Missing, Files, Input, NoMemory, Limit}
 use Rattle.affedit.specs.Stops.{◌>>=◌, StopsAs, Gives}
 use Rattle.affedit.specs.Given.{printed_by}
 use Rattle.affedit.specs.declared.report.Report.{Report}
@@ -33,6 +33,7 @@ stops-all step next Words is = ap (λ s. s >>= next) is
 stops-all step next (Aff line why) is = ap (λ s. s >>= next) is
 stops-all step next (Dic line why) is = ap (λ s. s >>= next) is
 stops-all step next (Document line) is = ap (λ s. s >>= next) is
+stops-all step next Input is = ap (λ s. s >>= next) is
 stops-all step next Missing is = ap (λ s. s >>= next) is
 stops-all step next (Limit limit) is = ap (λ s. s >>= next) is
 

@@ -2,20 +2,31 @@
 use Rattle.std.proofs.Common.{◌≡◌, ℕ, List, [], inl, inr, ◌⊎◌, Option, Some, None, Result, Ok, Err, refl, sym, ap, subst}
 use Rattle.std.specs.Result.{IsErrOf}
 use Rattle.affedit.specs.declared.stop.Stop.{Stop}
-use Rattle.affedit.specs.declared.stop.Stop.TheVariants.{Words, Aff, Dic, Document, Missing, Files, NoMemory, Limit}
+use Rattle.affedit.specs.declared.stop.Stop.TheVariants.{Words, Aff, Dic, Document, Missing, Files, Input, NoMemory, Limit}
 use Rattle.affedit.specs.declared.report.Report.{Report}
-use Rattle.affedit.specs.Commands.{Asked, ToCheck, ToMake}
+use Rattle.affedit.specs.Commands.{Asked, ToCheck, ToMake, ToEdit}
 use Rattle.affedit.specs.Due.{NamedFileFailed}
 use Rattle.affedit.specs.Given.{printed_by}
 use Rattle.affedit.specs.Reports.{Printed}
 use Rattle.affedit.specs.Stops.{status_of, last_line, StopsAs, Gives}
-use Rattle.affedit.specs.Endings.{status_due, text_due, lines_before, IsDue, IsWantOfMemory, IsAnswer, IsReported, Ends, Puts, PutsLine}
+use Rattle.affedit.specs.Endings.{status_due, text_due, lines_before, IsDue, IsWantOfMemory, IsAnswer, IsReported, Ends, EndsAs, Puts, PutsLine}
+
+-- what was put answers, where it is an answer with its status
+pub ends-as : {sink_failed : Type 0} (answers : ℕ → List ℕ → Type 0) (meant status : ℕ) (text : List ℕ) (before now : Option (List ℕ))
+    → answers meant text → Puts meant text sink_failed before now status → EndsAs answers sink_failed before now status
+ends-as answers meant status text before now is (inl done) = inl (text, (subst (λ (n : ℕ). answers n text) (sym done.0) is), done.1)
+ends-as answers meant status text before now is (inr cut) = inr (cut.0, cut.1, meant, text, is, cut.2)
+
+-- so does the last line of a stop
+pub ends-told : {sink_failed : Type 0} (answers : ℕ → List ℕ → Type 0) (stop : Stop) (status : ℕ) (before now : Option (List ℕ))
+    → answers (status_of stop) (last_line stop) → answers (status_of NoMemory) (last_line NoMemory) → PutsLine stop sink_failed before now status
+    → EndsAs answers sink_failed before now status
+ends-told answers stop status before now is wanting (inl puts) = ends-as answers (status_of stop) status (last_line stop) before now is puts
+ends-told answers stop status before now is wanting (inr puts) = ends-as answers (status_of NoMemory) status (last_line NoMemory) before now wanting puts
 
 ends-put : {files_failed sink_failed : Type 0} (due : Result Printed Stop) (meant status : ℕ) (text : List ℕ) (before now : Option (List ℕ))
     → IsAnswer due files_failed meant text → Puts meant text sink_failed before now status → Ends due files_failed sink_failed before now status
-ends-put {files_failed} due meant status text before now is (inl done) =
-    inl (text, (subst (λ (n : ℕ). IsAnswer due files_failed n text) (sym done.0) is), done.1)
-ends-put due meant status text before now is (inr cut) = inr (cut.0, cut.1, meant, text, is, cut.2)
+ends-put {files_failed} due meant status text before now is puts = ends-as (IsAnswer due files_failed) meant status text before now is puts
 
 due-answer : (due : Result Printed Stop) (files_failed : Type 0) (given : Result Printed Stop) → due ≡ given → IsAnswer due files_failed (status_due given) (text_due given)
 due-answer due files_failed given is = inl (ap status_due (sym is), ap text_due (sym is))
@@ -32,6 +43,7 @@ stop-answer due files_failed (Aff line why) is failed = due-answer due files_fai
 stop-answer due files_failed (Dic line why) is failed = due-answer due files_failed (Err (Dic line why)) is
 stop-answer due files_failed (Document line) is failed = due-answer due files_failed (Err (Document line)) is
 stop-answer due files_failed Missing is failed = due-answer due files_failed (Err Missing) is
+stop-answer due files_failed Input is failed = due-answer due files_failed (Err Input) is
 stop-answer due files_failed (Limit limit) is failed = due-answer due files_failed (Err (Limit limit)) is
 
 -- the report that is due
@@ -55,6 +67,7 @@ pub failed-file : (asked : Option Asked) (files_failed : Type 0) → NamedFileFa
 failed-file None files_failed failed = absurd failed
 failed-file (Some (ToCheck names)) files_failed failed = failed
 failed-file (Some (ToMake numbers)) files_failed failed = absurd failed
+failed-file (Some (ToEdit names)) files_failed failed = absurd failed
 
 -- a report that is due, where nothing failed
 answer-reports : (printed : Printed) (files_failed : Type 0) (status : ℕ) (text : List ℕ) → (files_failed → ⊥) → IsAnswer (Ok printed) files_failed status text

@@ -2,3 +2,18 @@ pub mod ReportLemmas
 pub mod EndingLemmas
 pub mod DueLemmas
 mod MadeLemmas
+pub mod ConsoleEdits
+pub mod ConsoleChecks
+pub mod ConsoleLoads
+pub mod ConsoleSettling
+pub mod ConsoleViews
+pub mod InputLemmas
+pub mod OutsideLemmas
+pub mod TranscriptLemmas
+pub mod DialogueLemmas
+pub mod DialogueEnds
+pub mod TurnLemmas
+pub mod HearLemmas
+pub mod RunLemmas
+pub mod TranscriptLaws
+pub mod Complete

@@ -35,11 +35,28 @@ abbrev pub making_in : List (List ℕ) → Option StartAndSize
 making_in (command ∷ start ∷ size ∷ []) = if bytes_eq command (codes "make") then of_numbers (decimal_of start) (decimal_of size) else None
 making_in _ = None
 
+-- the files of a dictionary, by their names
+pub record DictionaryNames : Type 0 where
+  pub aff : List ℕ
+  pub dic : List ℕ
+
+-- the dictionary that these words name, if they are of the form `edit AFF DIC`
+abbrev pub dictionary_in : List (List ℕ) → Option DictionaryNames
+dictionary_in (command ∷ aff ∷ dic ∷ []) = if bytes_eq command (codes "edit") then Some (record { aff = aff; dic = dic }) else None
+dictionary_in _ = None
+
 -- what words may ask for
 pub data Asked : Type 0 where
   ToCheck : FileNames → Asked
   ToMake : StartAndSize → Asked
+  ToEdit : DictionaryNames → Asked
 
 -- what these words ask for, if they are of one of the forms
 abbrev pub asked_in : List (List ℕ) → Option Asked
-asked_in words = option_or (option_map ToCheck (names_in words)) (option_map ToMake (making_in words))
+asked_in words =
+    option_or (option_map ToCheck (names_in words)) (option_or (option_map ToMake (making_in words)) (option_map ToEdit (dictionary_in words)))
+
+-- what words ask for that do without an input: a check, or something that is made
+abbrev pub without_input : Option Asked → Option Asked
+without_input (Some (ToEdit names)) = None
+without_input asked = asked

@@ -1,15 +1,17 @@
 -- What is due: what the program is to print for its words and for what there is of its files.
-use Rattle.std.specs.Prelude.{◌≡◌, ℕ, List, length, nat_le, codes, Option, Some, None, IsSomeAnd, Result, Ok, Err, if◌then◌else◌}
+use Rattle.std.specs.Prelude.{◌≡◌, ℕ, ◌-◌, Bool, List, length, nat_le, nat_lt, codes, Option, Some, None, IsSomeAnd, Result, Ok, Err, if◌then◌else◌}
+use Rattle.std.specs.List.{list_any}
 use Rattle.outside.specs.Files.{Folder}
 use Rattle.spell_types.specs.declared.Lexicon.{Lexicon}
 use Rattle.text_lines.specs.Lines.{good_lines, bad_line}
+use Rattle.text_lines.specs.declared.found.Line.{Line}
 use Rattle.dictionary_swap.specs.Loads.{DictionaryFiles, lexicon_due}
 use Rattle.dictionary_swap.specs.declared.fault.LoadFault.{LoadFault}
 use Rattle.dictionary_swap.specs.declared.fault.LoadFault.TheVariants.{Failed as FailedLoad, Missing as MissingFile, TooLong, Aff as AffFault, Dic as DicFault, NoMemory as OutOfMemory}
 use Rattle.work_maker.specs.Made.{aff_bytes, dic_bytes, text_bytes}
 use Rattle.affedit.specs.declared.stop.Stop.{Stop}
 use Rattle.affedit.specs.declared.stop.Stop.TheVariants.{Words, Aff, Dic, Document, Missing, Files, NoMemory, Limit}
-use Rattle.affedit.specs.Commands.{FileNames, StartAndSize, Asked, ToCheck, ToMake, asked_in}
+use Rattle.affedit.specs.Commands.{FileNames, StartAndSize, Asked, ToCheck, ToMake, ToEdit, asked_in}
 use Rattle.affedit.specs.Reports.{Printed, report_of, summary_of, paragraphs_of}
 use Rattle.affedit.specs.Stops.{◌>>=◌}
 
@@ -52,9 +54,30 @@ abbrev pub unless_bad : {A : Type 0} → Option ℕ → A → Result A Stop
 unless_bad None read = Ok read
 unless_bad (Some line) read = Err (Document line)
 
--- what is due of a document: what is to be printed of its paragraphs, if each of its lines is UTF-8
+-- the greatest number of paragraphs of a document, and the greatest length of one, in bytes
+abbrev pub count_limit : ℕ
+count_limit = 20000
+
+abbrev pub length_limit : ℕ
+length_limit = 65536
+
+abbrev pub is_long : Line → Bool
+is_long line = nat_lt length_limit (line.to - line.from)
+
+-- the limit that paragraphs pass, by their lines: there are too many of them, or one is too long
+abbrev pub limit_passed : List Line → Option ℕ
+limit_passed lines =
+    if nat_lt count_limit (length lines) then Some count_limit else (if list_any is_long lines then Some length_limit else None)
+
+abbrev pub unless_passed : {A : Type 0} → Option ℕ → A → Result A Stop
+unless_passed None read = Ok read
+unless_passed (Some limit) read = Err (Limit limit)
+
+-- what is due of a document: what is to be printed of its paragraphs, if each of its lines is UTF-8, and they pass no limit
 unfoldable pub document_due : (Lexicon → List (List ℕ) → Printed) → Lexicon → List ℕ → Result Printed Stop
-document_due printed lexicon document = unless_bad (bad_line document) (printed lexicon (paragraphs_of document (good_lines document)))
+document_due printed lexicon document = do
+  lines ← unless_bad (bad_line document) (good_lines document)
+  unless_passed (limit_passed lines) (printed lexicon (paragraphs_of document lines))
 
 -- the document is checked by the dictionary: the first thing that stops it, or what is to be printed of it
 unfoldable pub checked_due : (Lexicon → List (List ℕ) → Printed) → Found → Result Printed Stop
@@ -92,13 +115,15 @@ abbrev pub asked_due : (FileNames → Found) → Option Asked → Result Printed
 asked_due files None = Err Words
 asked_due files (Some (ToCheck names)) = check_due (files names)
 asked_due files (Some (ToMake asked)) = make_due asked
+asked_due files (Some (ToEdit names)) = Err Words
 
--- what the words ask for, where this is what there is of the files that they name
+-- what the words ask for that do without an input, where this is what there is of the files that they name
 abbrev pub due : (FileNames → Found) → List (List ℕ) → Result Printed Stop
 due files words = asked_due files (asked_in words)
 
--- a file that the words name failed: words of no form name none, nor do those of `make`
+-- a file that is to be checked, or one of its dictionary, failed: no other words name one
 abbrev pub NamedFileFailed : Option Asked → Type 0 → Type 0
 NamedFileFailed None files_failed = ⊥
 NamedFileFailed (Some (ToCheck names)) files_failed = files_failed
 NamedFileFailed (Some (ToMake asked)) files_failed = ⊥
+NamedFileFailed (Some (ToEdit names)) files_failed = ⊥

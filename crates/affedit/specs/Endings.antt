@@ -60,19 +60,22 @@ IsReported printed before now status =
 abbrev pub sink_status : ℕ
 sink_status = 6
 
--- the answer was written whole
-abbrev pub IsAnswered : Result Printed Stop → Type 0 → Option (List ℕ) → Option (List ℕ) → ℕ → Type 0
-IsAnswered due files_failed before now status = (text : List ℕ) × IsAnswer due files_failed status text × Appends before now text
+-- an answer was written whole
+abbrev pub IsAnsweredAs : (ℕ → List ℕ → Type 0) → Option (List ℕ) → Option (List ℕ) → ℕ → Type 0
+IsAnsweredAs answers before now status = (text : List ℕ) × answers status text × Appends before now text
 
 -- the sink failed, and a front of an answer was written
-abbrev pub IsCutOff : Result Printed Stop → Type 0 → Type 0 → Option (List ℕ) → Option (List ℕ) → ℕ → Type 0
-IsCutOff due files_failed sink_failed before now status =
-    sink_failed × (status ≡ sink_status) × (meant : ℕ) × (text : List ℕ) × IsAnswer due files_failed meant text × AppendsFront before now text
+abbrev pub IsCutOffAs : (ℕ → List ℕ → Type 0) → Type 0 → Option (List ℕ) → Option (List ℕ) → ℕ → Type 0
+IsCutOffAs answers sink_failed before now status =
+    sink_failed × (status ≡ sink_status) × (meant : ℕ) × (text : List ℕ) × answers meant text × AppendsFront before now text
 
--- how a call ends
+-- how a call ends that may answer so: with this status and this text
+abbrev pub EndsAs : (ℕ → List ℕ → Type 0) → Type 0 → Option (List ℕ) → Option (List ℕ) → ℕ → Type 0
+EndsAs answers sink_failed before now status = IsAnsweredAs answers before now status ⊎ IsCutOffAs answers sink_failed before now status
+
+-- how a call ends that is to write what is due
 abbrev pub Ends : Result Printed Stop → Type 0 → Type 0 → Option (List ℕ) → Option (List ℕ) → ℕ → Type 0
-Ends due files_failed sink_failed before now status =
-    IsAnswered due files_failed before now status ⊎ IsCutOff due files_failed sink_failed before now status
+Ends due files_failed sink_failed before now status = EndsAs (IsAnswer due files_failed) sink_failed before now status
 
 -- one text was put: whole, with this status, or a front of it into a sink that failed
 abbrev pub Puts : ℕ → List ℕ → Type 0 → Option (List ℕ) → Option (List ℕ) → ℕ → Type 0

@@ -4,3 +4,9 @@ pub mod Commands
 pub mod Due
 pub mod Endings
 pub mod Given
+pub mod Consoles
+pub mod Boards
+pub mod BoardAnswers
+pub mod Transcripts
+pub mod Dialogues
+pub mod Hearings

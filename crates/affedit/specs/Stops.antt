@@ -4,7 +4,7 @@ use Rattle.std.specs.Fmt.{decimal}
 use Rattle.aff_lines.specs.Faults.{why_name as aff_why_name}
 use Rattle.dic_reader.specs.Faults.{why_name as dic_why_name}
 use Rattle.affedit.specs.declared.stop.Stop.{Stop}
-use Rattle.affedit.specs.declared.stop.Stop.TheVariants.{Words, Aff, Dic, Document, Missing, Files, NoMemory, Limit}
+use Rattle.affedit.specs.declared.stop.Stop.TheVariants.{Words, Aff, Dic, Document, Missing, Files, Input, NoMemory, Limit}
 
 -- the exit status
 abbrev pub status_of : Stop → ℕ
@@ -14,6 +14,7 @@ status_of (Dic line why) = 3
 status_of (Document line) = 4
 status_of Missing = 5
 status_of Files = 5
+status_of Input = 5
 status_of NoMemory = 7
 status_of (Limit limit) = 8
 
@@ -29,6 +30,7 @@ last_line (Dic line why) = fault_line (codes "dic") line (dic_why_name why)
 last_line (Document line) = codes "doc " ++ (decimal line ++ codes "\n")
 last_line Missing = codes "missing\n"
 last_line Files = codes "files\n"
+last_line Input = codes "input\n"
 last_line NoMemory = codes "memory\n"
 last_line (Limit limit) = codes "limit " ++ (decimal limit ++ codes "\n")
 

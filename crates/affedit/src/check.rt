@@ -3,7 +3,7 @@
 ghost use Rattle.std.specs.Prelude.{◌≡◌, ◌<◌, ◌≤◌, ◌^◌, ℕ, List, Option, length, IfSome, IsErrOf, IfOk};
 ghost use Rattle.dictionary_swap.specs.Loads.{DictionaryFiles, found_in as dictionary_in};
 ghost use Rattle.text_lines.specs.Lines.{good_lines};
-ghost use Rattle.affedit.specs.Due.{Found, document_limit, file_due, stop_of, dictionary_due, document_due, check_due, found_in};
+ghost use Rattle.affedit.specs.Due.{Found, document_limit, file_due, stop_of, dictionary_due, document_due, check_due, found_in, limit_passed};
 ghost use Rattle.affedit.specs.Given.{printed_by, printed_as, names_by};
 ghost use Rattle.affedit.specs.Reports.{paragraphs_of};
 ghost use Rattle.affedit.specs.Stops.{Gives};
@@ -17,11 +17,17 @@ use outside::{FileFault, Files};
 use paragraph_marks::Plain;
 use std::alloc::Global;
 use std::sync::Arc;
-use text_lines::bad_line;
+use text_lines::{all_lines, bad_line, next_line};
 use word_verdict::Speller;
 
 /// How large a document may be, in bytes.
 const DOCUMENT_LIMIT: u64 = 67_108_864;
+
+/// How many paragraphs a document may have.
+const COUNT_LIMIT: u64 = 20_000;
+
+/// How long a paragraph may be, in bytes.
+const LENGTH_LIMIT: usize = 65_536;
 
 /// The report on the document, or what stops it first: the dictionary is loaded before the document, and of that its bytes
 /// come before its lines.
@@ -34,6 +40,7 @@ pub fn check<F: Files>(alloc: Global, names: Names<'_>, files: &mut F) -> Result
     ensures files { IsErrOf result Stop.Files → F.faults files.old < F.faults files.new }
     ensures count { F.faults files.old ≤ F.faults files.new }
     ensures words { ¬ (IsErrOf result Stop.Words) }
+    ensures input { ¬ (IsErrOf result Stop.Input) }
 {
     let speller = load_dictionary(alloc, files, names.aff, names.dic)?;
     let document = load_document(alloc, files, names.document)?;
@@ -55,6 +62,7 @@ pub fn load_dictionary<F: Files>(
     ensures files { IsErrOf result Stop.Files → F.faults files.old < F.faults files.new }
     ensures count { F.faults files.old ≤ F.faults files.new }
     ensures words { ¬ (IsErrOf result Stop.Words) }
+    ensures input { ¬ (IsErrOf result Stop.Input) }
 {
     match load(alloc, files, aff, dic) {
         Ok(speller) => Ok(speller),
@@ -86,6 +94,7 @@ fn load_document<F: Files>(alloc: Global, files: &mut F, name: &str) -> Result<V
     ensures files { IsErrOf result Stop.Files → F.faults files.old < F.faults files.new }
     ensures count { F.faults files.old ≤ F.faults files.new }
     ensures words { ¬ (IsErrOf result Stop.Words) }
+    ensures input { ¬ (IsErrOf result Stop.Input) }
 {
     let mut bytes = Vec::new(alloc);
     match files.load(alloc, name, DOCUMENT_LIMIT, &mut bytes) {
@@ -111,13 +120,37 @@ pub fn check_document(
     ensures due { Gives printed_by (document_due (printed_as output) speller document.now) result }
     ensures files { ¬ (IsErrOf result Stop.Files) }
     ensures words { ¬ (IsErrOf result Stop.Words) }
+    ensures input { ¬ (IsErrOf result Stop.Input) }
 {
     if let Some(line) = bad_line(document) {
         return Err(Stop::Document { line });
     }
+    if let Some(limit) = limit_passed(document) {
+        return Err(Stop::Limit { limit });
+    }
     match print_by(alloc, speller, output, document) {
         Ok(report) => Ok(report),
         Err(NoMemory) => Err(Stop::NoMemory),
+    }
+}
+
+/// The limit that the paragraphs of a document pass: there are too many of them, or one is too long.
+fn limit_passed(document: &[u8]) -> Option<u64>
+    ensures { result ≡ limit_passed (good_lines document.now) }
+{
+    let mut has_long = false;
+    let mut ahead = all_lines(document);
+    while let Some((line, next)) = next_line(document, ahead) {
+        has_long = has_long || line.to - line.from > LENGTH_LIMIT;
+        ahead = next;
+    }
+    if ahead.number > COUNT_LIMIT + 1 {
+        return Some(COUNT_LIMIT);
+    }
+    if has_long {
+        Some(LENGTH_LIMIT as u64)
+    } else {
+        None
     }
 }
 

@@ -3,6 +3,11 @@
 
 mod check;
 mod command;
+mod console;
+mod dialogue;
+mod edit;
+mod ending;
+mod laws;
 mod make;
 mod making;
 mod report;
@@ -11,6 +16,7 @@ mod stop;
 #[cfg(test)]
 mod tests;
 
+pub use laws::transcripts_are_functions;
 use outside::{FreeGate, RealFiles, StdSink, StdSource};
 pub use run::{Ended, run, run_check};
 use std::env::{self, Env};
@@ -44,7 +50,7 @@ fn main(rt: HostRuntime) -> ExitCode {
             )
             .status
         }
-        Err(error) => run::put_line(alloc, &mut out, stop_of(error)),
+        Err(error) => ending::put_line(alloc, &mut out, stop_of(error)),
     };
     ExitCode::from(status)
 }

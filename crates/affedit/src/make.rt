@@ -21,6 +21,7 @@ pub fn make(alloc: Global, making: Making) -> Result<Report, Stop>
     ensures due { Gives printed_by (make_due (numbers_by making)) result }
     ensures files { ¬ (IsErrOf result Stop.Files) }
     ensures words { ¬ (IsErrOf result Stop.Words) }
+    ensures input { ¬ (IsErrOf result Stop.Input) }
 {
     let mut files = made_files(alloc, making)?;
     let speller = load_dictionary(alloc, &mut files, "made.aff", "made.dic")?;

@@ -25,6 +25,8 @@ pub enum Stop {
     Missing,
     /// The files failed.
     Files,
+    /// The input failed.
+    Input,
     NoMemory,
     /// Something is larger than this.
     Limit { limit: u64 },
@@ -39,7 +41,7 @@ impl Stop {
             Stop::Words => 2,
             Stop::Aff { .. } | Stop::Dic { .. } => 3,
             Stop::Document { .. } => 4,
-            Stop::Missing | Stop::Files => 5,
+            Stop::Missing | Stop::Files | Stop::Input => 5,
             Stop::NoMemory => 7,
             Stop::Limit { .. } => 8,
         }
@@ -57,6 +59,7 @@ impl Stop {
             Stop::Document { line } => write!(text, "doc {line}\n"),
             Stop::Missing => text.push_str("missing\n"),
             Stop::Files => text.push_str("files\n"),
+            Stop::Input => text.push_str("input\n"),
             Stop::NoMemory => text.push_str("memory\n"),
             Stop::Limit { limit } => write!(text, "limit {limit}\n"),
         }
@@ -74,6 +77,14 @@ impl From<NoMemory> for Stop {
     ghost from_gives = { λ _ stop. stop ≡ OutOfMemory };
 
     fn from(_wanting: NoMemory) -> Stop {
+        Stop::NoMemory
+    }
+}
+
+impl From<AllocError> for Stop {
+    ghost from_gives = { λ _ stop. stop ≡ OutOfMemory };
+
+    fn from(_wanting: AllocError) -> Stop {
         Stop::NoMemory
     }
 }

@@ -5,9 +5,12 @@ mod break_tables;
 mod case_tables;
 mod compound_tables;
 mod derivations;
+mod dialogues;
+mod early_ends;
 mod flag_tables;
 mod joint_tables;
 mod licence_tables;
+mod limits;
 mod made;
 mod pattern_tables;
 mod readers;
@@ -185,11 +188,13 @@ fn refuses_other_words(rt: HostRuntime) -> Result<(), Fail> {
     stops(
         &rt,
         alloc,
-        &["edit", "a", "b"],
+        &["edit", "a", "b", "c"],
         &[("a", AFF), ("b", DIC)],
         want,
         2,
     )?;
+    stops(&rt, alloc, &["edit", "a"], &[], want, 2)?;
+    stops(&rt, alloc, &["Edit", "a", "b"], &[], want, 2)?;
     Ok(())
 }
 
@@ -200,7 +205,7 @@ fn refuses_other_words_whatever_files_do(rt: HostRuntime) -> Result<(), Fail> {
         loads: &[1, 2, 3],
         ..NO_FAULTS
     };
-    for words in [["edit", "a", "b"], ["check", "a", "b"]] {
+    for words in [["team", "a", "b"], ["check", "a", "b"]] {
         let seen = run_words(&rt, rt.alloc(), &words, &[("a", AFF), ("b", DIC)], faults)?;
         assert_eq!(rt;
             seen.written.as_slice(),

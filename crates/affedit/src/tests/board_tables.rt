@@ -10,7 +10,9 @@ ghost use Rattle.edit_core.specs.Steps.{IsFit};
 
 use aff_reader::read_aff;
 use dic_reader::read_dic;
-use edit_core::{Board, Event, ParaView, Refusal, Shown, checks_are_fit, ids_name_paragraphs};
+use edit_core::{
+    Board, Event, ParaView, Refusal, Shown, checks_are_fit, ids_name_paragraphs, runs_only_grow,
+};
 use lists::NoMemory;
 use mark_types::Judge;
 use paragraph_marks::{Checked, Checking, Plain};
@@ -436,6 +438,52 @@ fn assert_histories(rt: &impl Abort, alloc: Global, judge: &Arc<Speller>) -> Res
 fn events_make_what_is_wanted(rt: HostRuntime) -> Result<(), Fail> {
     let judge = speller_of(rt.alloc())?;
     assert_histories(&rt, rt.alloc(), &judge)
+}
+
+/// What is told of the finish of a paragraph with a place that is taken out before.
+fn late_finish<J: Judge + Drop>(
+    alloc: Global,
+    board: &Board<J>,
+    place: usize,
+) -> Result<Option<Refusal>, NoMemory> {
+    checks_are_fit();
+    ids_name_paragraphs();
+    runs_only_grow();
+    let Some(view) = board.para(place) else {
+        return Ok(None);
+    };
+    let (id, rev) = (view.id, view.rev);
+    let event = Event::Finish {
+        worker: 0,
+        id,
+        rev,
+        dict: board.progress().dict,
+        checked: checked_by(alloc, board.judge(), view.text)?,
+    };
+    let removal = Event::Edit {
+        session: 0,
+        edit: Edit::Remove { id, rev },
+    };
+    match board.next(alloc, removal) {
+        Ok(later) => Ok(later.next(alloc, event).err()),
+        Err(_) => Ok(None),
+    }
+}
+
+fn assert_late_finishes(rt: &impl Abort, alloc: Global, judge: &Arc<Speller>) -> Result<(), Fail> {
+    let board = opening(alloc, judge, "hello|wurk|tried")?;
+    for place in 0..3u64 {
+        let refusal = late_finish(alloc, &board, place as usize)?;
+        assert_eq!(rt; refusal, Some(Refusal::Gone { id: place }));
+    }
+    Ok(())
+}
+
+/// A check that comes when its paragraph is not there any more is refused.
+#[test]
+fn a_finish_may_come_too_late(rt: HostRuntime) -> Result<(), Fail> {
+    let judge = speller_of(rt.alloc())?;
+    assert_late_finishes(&rt, rt.alloc(), &judge)
 }
 
 /// The events of a history, with checks of the board's own texts.

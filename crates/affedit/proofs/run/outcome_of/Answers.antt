@@ -7,3 +7,6 @@ returns-in-Some-Make-clause-due g c = (record { aff = None; dic = None; document
 
 pub returns-in-None-clause-due : goal.returns-in-None-clause-due
 returns-in-None-clause-due g c = (record { aff = None; dic = None; document = None }, search rules)
+
+pub returns-in-Some-Edit-clause-due : goal.returns-in-Some-Edit-clause-due
+returns-in-Some-Edit-clause-due g c = (record { aff = None; dic = None; document = None }, search rules)

@@ -31,4 +31,4 @@ pub returns-clause-files : goal.returns-clause-files
 returns-clause-files g c = λ five.
     ⊎_elim (λ failed. inl (failed-file (asked_in (map string_bytes c.args.words.now)) _ (c.outcome_of-outcome.ensures.files failed)))
     (λ missing. inr missing)
-    (c.answer.ensures.files five)
+    (c.answer.ensures.files five c.outcome_of-outcome.ensures.input)

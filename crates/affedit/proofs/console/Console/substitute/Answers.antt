@@ -1,0 +1,13 @@
+-- What the bytes refuse has a reply, and the board that came is the one that the edit makes.
+use Rattle.affedit.proofs.ConsoleEdits.{splice-has-reply, spliced-board}
+use Rattle.affedit.proofs.console.Console.substitute.Goals as goal
+
+pub edit-requires : goal.edit-requires
+edit-requires g c =
+    splice-has-reply c.args.self.now.board 0 c.args.place c.in-Some.field-0.id c.in-Some.field-0.rev c.in-Some.field-0.size c.args.from c.args.to c.args.text
+    c.requires.whole c.requires.room c.in-Some.ensures.some
+
+pub returns-in-Some-clause-does : goal.returns-in-Some-clause-does
+returns-in-Some-clause-does g c =
+    spliced-board c.args.self.now.board c.edit.new.self.board 0 c.args.place c.in-Some.field-0.id c.in-Some.field-0.rev c.in-Some.field-0.size c.args.from c.args.to c.args.text
+    c.edit.result c.requires.whole c.requires.room c.in-Some.ensures.some c.edit.ensures.answered

@@ -1,0 +1,22 @@
+-- A board as a console: what is left of it without ids, revs, points, and who checks.
+use Rattle.std.specs.Prelude.{map}
+use Rattle.edit_core.specs.Seen.{Seen}
+use Rattle.edit_core.specs.declared.state.Standing.{Standing}
+use Rattle.edit_core.specs.declared.state.Standing.TheVariants as standing
+use Rattle.affedit.specs.Consoles.{Console, Stand, Waiting, Finished, Parked}
+
+-- how a text stands whose paragraph stands so: what a worker holds is not checked yet
+abbrev pub stand_of : Standing → Stand
+stand_of standing.Waiting = Waiting
+stand_of (standing.Held worker) = Waiting
+stand_of standing.Parked = Parked
+stand_of standing.Finished = Finished
+
+abbrev pub console_of : Seen → Console
+console_of board = record {
+  text = board.text;
+  dict = board.dict;
+  lexicon = board.lexicon;
+  texts = map (λ paragraph. paragraph.text) board.paragraphs;
+  stands = map stand_of board.standings;
+}
