@@ -1,5 +1,6 @@
 -- What a folder holds, and what a load may answer.
-use Rattle.std.specs.Prelude.{◌≡◌, ℕ, ◌<◌, List, length, Option, Some, None, IsSomeAnd, Result, Ok, Err}
+use Rattle.std.specs.Prelude.{◌≡◌, ℕ, ◌<◌, List, length, nat_le, Option, Some, None, IsSomeAnd, Result, Ok, Err, Vec, if◌then◌else◌}
+use Rattle.std.specs.declared.alloc.Global.{Global}
 use Rattle.outside.specs.declared.faults.FileFault.{FileFault}
 use Rattle.outside.specs.declared.faults.FileFault.TheVariants.{Failed, Missing, TooLong, NoMemory}
 
@@ -15,3 +16,23 @@ LoadAnswers file limit buffer (Err Failed) = Unit {0}
 LoadAnswers file limit buffer (Err Missing) = file ≡ None
 LoadAnswers file limit buffer (Err TooLong) = IsSomeAnd file (λ bytes. limit < length bytes)
 LoadAnswers file limit buffer (Err NoMemory) = Unit {0}
+
+-- what is due of a file that may have so many bytes: nothing but its bytes
+abbrev pub bytes_due : ℕ → Option (List ℕ) → Result (List ℕ) FileFault
+bytes_due limit None = Err Missing
+bytes_due limit (Some bytes) = if nat_le (length bytes) limit then Ok bytes else Err TooLong
+
+unfoldable pub file_due : ℕ → Option (List ℕ) → Result (List ℕ) FileFault
+file_due limit file = bytes_due limit file
+
+-- a fault is what is due; but a failure and want of memory may come at any file
+abbrev pub FailsAs : Result (List ℕ) FileFault → FileFault → Type 0
+FailsAs due Failed = Unit {0}
+FailsAs due Missing = due ≡ Err Missing
+FailsAs due TooLong = due ≡ Err TooLong
+FailsAs due NoMemory = Unit {0}
+
+-- a load gives the bytes that are due, or fails so
+abbrev pub GivesBytes : Result (List ℕ) FileFault → Result (Vec ℕ Global) FileFault → Type 0
+GivesBytes due (Ok given) = due ≡ Ok given.items
+GivesBytes due (Err fault) = FailsAs due fault

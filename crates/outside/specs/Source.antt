@@ -9,3 +9,8 @@ Takes (Some before) now taken = IsSomeAnd now (λ rest. before ≡ taken ++ rest
 -- a count of bytes is 0 exactly where nothing was left
 abbrev pub IsEndOf : Option (List ℕ) → ℕ → Type 0
 IsEndOf before count = IfSome before (λ bytes. (count ≡ 0) ↔ (bytes ≡ []))
+
+-- bytes are what an input tells, if it tells any
+abbrev pub IsGiven : Option (List ℕ) → List ℕ → Type 0
+IsGiven None bytes = Unit {0}
+IsGiven (Some told) bytes = bytes ≡ told
