@@ -1,15 +1,20 @@
 -- The marks of a paragraph, word by word.
-use Rattle.std.proofs.Common.{◌≡◌, ℕ, zero, suc, ◌+◌, ◌-◌, ◌<◌, Bool, true, false, not, cond, append_assoc, not-suc-le-zero, List, [], ◌∷◌, ◌++◌, map, filter, drop, take, refl, sym, ap, ◌∙◌, arith, encode_utf8_all}
+use Rattle.std.proofs.Common.{◌≡◌, ℕ, zero, suc, ◌+◌, ◌-◌, ◌<◌, ◌≤◌, Bool, true, false, not, cond, append_assoc, not-suc-le-zero, List, [], ◌∷◌, ◌++◌, map, filter, drop, take, length, length-drop, ⊎_elim, refl, sym, ap, ◌∙◌, arith, encode_utf8_all}
 use Rattle.std.specs.List.{AllByRecursion}
-use Rattle.std.proofs.lemmas.List.{map-append, drop-drop}
+use Rattle.std.specs.List.{filter_map, slice_split}
+use Rattle.std.specs.Str.{chars}
+use Rattle.std.proofs.lemmas.Bool.{cases_lt}
+use Rattle.std.proofs.lemmas.List.{map-append, drop-drop, length-map, length-take-le, nil_from_length, take_all}
+use Rattle.std.proofs.lemmas.List.Filters.{length-filter_both}
+use Rattle.std.proofs.lemmas.Str.{chars-nil}
 use Rattle.std.proofs.lemmas.List.Elements.{filter-append}
 use Rattle.spell_types.specs.declared.Lexicon.{Lexicon}
 use Rattle.spell_types.specs.Yields.{yields}
 use Rattle.mark_types.specs.Handed.{mark_of}
-use Rattle.mark_types.specs.Words.{Word, words_of, StandsIn}
+use Rattle.mark_types.specs.Words.{Word, words_of, StandsIn, placed, word_of, is_outside}
 use Rattle.mark_types.specs.Marks.{LocatedWord, located_at, located_words, is_unknown, marks_of}
 use Rattle.mark_types.specs.declared.Mark.{Mark}
-use Rattle.word_cutter.specs.Runs.{IsBehind}
+use Rattle.word_cutter.specs.Runs.{IsBehind, words_after, words_from}
 use Rattle.word_cutter.specs.declared.Rest.{Rest}
 use Rattle.paragraph_marks.specs.Paragraphs.{is_marked, mark_at, marks_among, marks_in}
 
@@ -76,6 +81,70 @@ marks-step lexicon count word rest all is_known before now whole some first know
     ∙ ap (λ b. before ++ (cond b [] (mark_at word ∷ []) ++ later)) known
     ∙ ap (λ marks. before ++ marks) (sym (among-next lexicon word (take (count - 1) rest)) ∙ ap (marks_among lexicon) (take-next count word rest some ∙ ap (take count) (sym first)))
     ∙ is
+
+-- and it is counted
+pub count-step : (words count : ℕ) (word : Word) (rest all : List Word) (whole : ℕ) → 0 < count → count ≤ words → all ≡ word ∷ rest
+    → (words - count) + length (take count all) ≡ whole → (words - (count - 1)) + length (take (count - 1) rest) ≡ whole
+count-step words count word rest all whole some within first is =
+    let one : length (take count all) ≡ suc (length (take (count - 1) rest)) = ap length (ap (take count) first ∙ sym (take-next count word rest some)) in
+    omega arith
+
+none-left : (wordchars : List ℕ) (left : Rest) → length left.text.now ≡ 0 → words_after wordchars left ≡ []
+unfolding words_after words_from
+none-left wordchars left none =
+    let empty : left.text.now ≡ [] = nil_from_length left.text.now none in
+    ap (λ text. filter_map word_of (slice_split is_outside (placed wordchars left.at left.before text))) (ap chars empty ∙ chars-nil)
+
+all-judged : (wordchars : List ℕ) (words count size : ℕ) (all : List Word) (left : Rest) → words_after wordchars left ≡ drop words all → count ≡ length (take words all)
+    → count ≤ left.at → left.at + length left.text.now ≡ size → size ≤ words → length all ≤ words
+all-judged wordchars words count size all left behind counted few whole small =
+    ⊎_elim (λ many. by many) (λ within. within) (cases_lt words (length all))
+  where
+    by : words < length all → length all ≤ words
+    by many =
+        let taken : length (take words all) ≡ words = length-take-le words all (omega (arith, many)) in
+        let none : length left.text.now ≡ 0 = omega arith in
+        let nothing : length (drop words all) ≡ 0 = ap length (sym behind ∙ none-left wordchars left none) in
+        let dropped = length-drop words all in
+        omega arith
+
+-- a paragraph has no more marks than words
+marks-few : (lexicon : Lexicon) (words : List Word) → length (marks_among lexicon words) ≤ length words
+marks-few lexicon words =
+    let marked = length-map (filter (is_marked lexicon) words) mark_at in
+    let fewer = length-filter_both (is_marked lexicon) (λ word. not (is_marked lexicon word)) (λ word. refl) words in
+    omega arith
+
+-- the words of a text are as many as were counted, and these are its marks
+pub record AreAllOf (lexicon : Lexicon) (text : List ℕ) (count : ℕ) (given : List Mark) : Type 0 where
+  pub marks : given ≡ marks_in lexicon (chars text)
+  pub words : count ≡ length (words_of lexicon.affixes.wordchars (chars text))
+  pub fewer : length given ≤ count
+
+-- where no more words may be judged than the bytes of a paragraph, all of them are
+pub all-of : (lexicon : Lexicon) (text : List ℕ) (words count : ℕ) (rest left : Rest) (none given marks : List Mark)
+    → words_after lexicon.affixes.wordchars rest ≡ words_of lexicon.affixes.wordchars (chars text) → rest.text.now ≡ text → rest.at ≡ 0 → length text < words + 1
+    → words_after lexicon.affixes.wordchars left ≡ drop words (words_after lexicon.affixes.wordchars rest)
+    → count ≡ length (take words (words_after lexicon.affixes.wordchars rest)) → rest.at + count ≤ left.at → IsBehind rest left
+    → none ≡ [] → given ≡ none ++ marks_among lexicon (take words (words_after lexicon.affixes.wordchars rest)) → marks ≡ given
+    → AllByRecursion (StandsIn (chars text)) (words_of lexicon.affixes.wordchars (chars text))
+    → located_words lexicon.affixes.wordchars (chars text ∷ []) ≡ map alone (words_of lexicon.affixes.wordchars (chars text))
+    → AreAllOf lexicon text count marks
+all-of lexicon text words count rest left none given marks is whole at small behind counted few is_behind nothing judged same each where_they_are =
+    let all = words_of lexicon.affixes.wordchars (chars text) in
+    let same_end = is_behind.same_end in
+    let size = ap length whole in
+    let within = all-judged lexicon.affixes.wordchars words count (length text) (words_after lexicon.affixes.wordchars rest) left behind counted (omega arith) (omega arith) (omega arith) in
+    let taken : take words (words_after lexicon.affixes.wordchars rest) ≡ all = take_all words (words_after lexicon.affixes.wordchars rest) within ∙ is in
+    let found : marks ≡ marks_among lexicon all = same ∙ judged ∙ ap (λ before. before ++ marks_among lexicon (take words (words_after lexicon.affixes.wordchars rest))) nothing ∙ ap (marks_among lexicon) taken in
+    let number : count ≡ length all = counted ∙ ap length taken in
+    let length_found = ap length found in
+    let most = marks-few lexicon all in
+    record {
+      marks = found ∙ marks-among-words lexicon (chars text) each where_they_are;
+      words = number;
+      fewer = omega (arith, length_found, most, number);
+    }
 
 -- what is left behind what was left
 pub behind-both : (rest left last : Rest) → IsBehind rest left → IsBehind left last → IsBehind rest last

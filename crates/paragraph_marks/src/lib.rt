@@ -6,5 +6,5 @@ mod judging;
 mod stepping;
 
 pub use asking::Plain;
-pub use judging::{Judged, check, next_judged};
+pub use judging::{Counted, check, check_counted};
 pub use stepping::{Checked, Checking};

@@ -205,9 +205,9 @@ fn go_on<K: Asker>(
     };
     let mut marks = Vec::new(alloc);
     let rest = so_far.rest(text);
-    let left = judge_words(alloc, asker, rest, words, &mut marks)?;
-    if has_word(asker.wordchars(), left) {
-        so_far.add(marks, left)?;
+    let passed = judge_words(alloc, asker, rest, words, &mut marks)?;
+    if has_word(asker.wordchars(), passed.left) {
+        so_far.add(marks, passed.left)?;
         return Ok(false);
     }
     let all = joined(alloc, &so_far.marks, marks)?;

@@ -13,9 +13,9 @@ returns-then-has_word-clause-is g c =
     let words = c.args.words in
     let so_far = c.in-Going.so_far in
     let rest = c.rest-rest.result in
-    let left = c.in_ok-left.left in
+    let left = c.in_ok-passed.passed.left in
     let marks = c.judge_words.new.marks.items in
-    let judged = c.in_ok-left.ensures in
+    let judged = c.in_ok-passed.ensures in
     let went : WentOn lexicon text so_far words rest left marks =
     went-on lexicon text c.args.progress.now so_far words rest left c.new-marks.result.items marks c.requires.is c.in-Going.is
     c.rest-rest.ensures.text c.rest-rest.ensures.at c.rest-rest.ensures.before judged.left c.new-marks.ensures.items judged.marks judged.behind in
@@ -33,9 +33,9 @@ returns-then-has_word-clause-left g c =
     let words = c.args.words in
     let so_far = c.in-Going.so_far in
     let rest = c.rest-rest.result in
-    let left = c.in_ok-left.left in
+    let left = c.in_ok-passed.passed.left in
     let marks = c.judge_words.new.marks.items in
-    let judged = c.in_ok-left.ensures in
+    let judged = c.in_ok-passed.ensures in
     let went : WentOn lexicon text so_far words rest left marks =
     went-on lexicon text c.args.progress.now so_far words rest left c.new-marks.result.items marks c.requires.is c.in-Going.is
     c.rest-rest.ensures.text c.rest-rest.ensures.at c.rest-rest.ensures.before judged.left c.new-marks.ensures.items judged.marks judged.behind in
@@ -55,9 +55,9 @@ returns-then-has_word-clause-ended g c =
     let words = c.args.words in
     let so_far = c.in-Going.so_far in
     let rest = c.rest-rest.result in
-    let left = c.in_ok-left.left in
+    let left = c.in_ok-passed.passed.left in
     let marks = c.judge_words.new.marks.items in
-    let judged = c.in_ok-left.ensures in
+    let judged = c.in_ok-passed.ensures in
     let went : WentOn lexicon text so_far words rest left marks =
     went-on lexicon text c.args.progress.now so_far words rest left c.new-marks.result.items marks c.requires.is c.in-Going.is
     c.rest-rest.ensures.text c.rest-rest.ensures.at c.rest-rest.ensures.before judged.left c.new-marks.ensures.items judged.marks judged.behind in
@@ -76,9 +76,9 @@ returns-clause-is g c =
     let words = c.args.words in
     let so_far = c.in-Going.so_far in
     let rest = c.rest-rest.result in
-    let left = c.in_ok-left.left in
+    let left = c.in_ok-passed.passed.left in
     let marks = c.judge_words.new.marks.items in
-    let judged = c.in_ok-left.ensures in
+    let judged = c.in_ok-passed.ensures in
     let went : WentOn lexicon text so_far words rest left marks =
     went-on lexicon text c.args.progress.now so_far words rest left c.new-marks.result.items marks c.requires.is c.in-Going.is
     c.rest-rest.ensures.text c.rest-rest.ensures.at c.rest-rest.ensures.before judged.left c.new-marks.ensures.items judged.marks judged.behind in
@@ -96,9 +96,9 @@ returns-clause-left g c =
     let words = c.args.words in
     let so_far = c.in-Going.so_far in
     let rest = c.rest-rest.result in
-    let left = c.in_ok-left.left in
+    let left = c.in_ok-passed.passed.left in
     let marks = c.judge_words.new.marks.items in
-    let judged = c.in_ok-left.ensures in
+    let judged = c.in_ok-passed.ensures in
     let went : WentOn lexicon text so_far words rest left marks =
     went-on lexicon text c.args.progress.now so_far words rest left c.new-marks.result.items marks c.requires.is c.in-Going.is
     c.rest-rest.ensures.text c.rest-rest.ensures.at c.rest-rest.ensures.before judged.left c.new-marks.ensures.items judged.marks judged.behind in
