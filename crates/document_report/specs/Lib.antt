@@ -1,0 +1,4 @@
+pub mod Reports
+pub mod Documents
+pub mod Given
+pub mod Texts
