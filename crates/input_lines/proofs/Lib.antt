@@ -1,0 +1,4 @@
+pub mod LineLemmas
+pub mod HeardLemmas
+pub mod TurnLemmas
+pub mod CompleteLemmas
