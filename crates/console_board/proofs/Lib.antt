@@ -1,0 +1,8 @@
+pub mod ConsoleEdits
+pub mod ConsoleChecks
+pub mod ConsoleLoads
+pub mod ConsoleSettling
+pub mod ConsoleViews
+pub mod TranscriptLemmas
+pub mod TranscriptLaws
+pub mod LineLemmas

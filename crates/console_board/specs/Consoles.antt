@@ -1,0 +1,192 @@
+-- A console: texts that are edited, checked and shown one command after another. It knows nothing of ids, of revs, or of who checks.
+use Rattle.std.specs.Prelude.{ℕ, ◌+◌, ◌-◌, ◌&&◌, List, [], ◌∷◌, length, map, nat_le, nat_lt, set, slice_get, Option, Some, None, Result, Ok, Err, if◌then◌else◌}
+use Rattle.std.specs.List.{insert, remove}
+use Rattle.std.specs.Option.{option_map_or, unwrap_or}
+use Rattle.std.specs.Str.{chars}
+use Rattle.console_lang.specs.declared.reply.Reply.{Reply}
+use Rattle.console_lang.specs.declared.reply.Reply.TheVariants.{Done, Dict, Shown, NoPlace, NoBadSpan, NoTooLong, NoFull, NoFinished, NoParked, NoNotParked, NoMissing, NoAff, NoDic, NoFiles, NoLarge}
+use Rattle.console_lang.specs.declared.reply.ShownPara.{ShownPara}
+use Rattle.console_lang.specs.declared.reply.ShownPara.TheVariants.{Pending, Finished as Marked}
+use Rattle.dictionary_swap.specs.declared.fault.LoadFault.{LoadFault}
+use Rattle.dictionary_swap.specs.declared.fault.LoadFault.TheVariants.{Failed, Missing, TooLong, Aff, Dic, NoMemory}
+use Rattle.edit_core.specs.Views.{marks_numbered}
+use Rattle.paragraph_text.specs.Edits.{is_span, spliced}
+use Rattle.spell_types.specs.declared.Lexicon.{Lexicon}
+
+-- how a text stands: it is to be checked, it is checked, or it is not to be checked before somebody asks for it
+pub data Stand : Type 0 where
+  Waiting : Stand
+  Finished : Stand
+  Parked : Stand
+
+-- what a console has come to: how many edits and how many loads it has done, its dictionary, its texts in their order, and how each stands
+pub record Console : Type 0 where
+  pub text : ℕ
+  pub dict : ℕ
+  pub lexicon : Lexicon
+  pub texts : List (List ℕ)
+  pub stands : List Stand
+
+-- a console opens without a text
+abbrev pub opened : Lexicon → Console
+opened lexicon = record { text = 0; dict = 0; lexicon = lexicon; texts = []; stands = [] }
+
+-- a reply, and the console behind it
+pub record Outcome : Type 0 where
+  pub reply : Reply
+  pub after : Console
+
+-- a refusal leaves the console as it was
+abbrev refused : Console → Reply → Outcome
+refused console reply = record { reply = reply; after = console }
+
+-- it is done, and the reply tells the text's version
+abbrev done : Console → Outcome
+done console = record { reply = Done console.text; after = console }
+
+-- ---- places, which count from 1
+
+-- which of so many, from 0 on, a place is, if it is one
+abbrev pub index_of : ℕ → ℕ → Option ℕ
+index_of place count = if nat_le 1 place && nat_le place count then Some (place - 1) else None
+
+-- what is done with the text at a place, or that there is no such place
+abbrev pub at_place : Console → ℕ → (ℕ → Outcome) → Outcome
+at_place console place does =
+    option_map_or does (index_of place (length console.texts)) (refused console (NoPlace (length console.texts)))
+
+abbrev pub text_at : Console → ℕ → List ℕ
+text_at console index = unwrap_or (slice_get console.texts index) []
+
+abbrev pub stand_at : Console → ℕ → Stand
+stand_at console index = unwrap_or (slice_get console.stands index) Waiting
+
+-- ---- edits: each raises the text's version, and tells it
+
+abbrev edited : Console → List (List ℕ) → List Stand → Outcome
+edited console texts stands = done (record console { text = console.text + 1; texts = texts; stands = stands })
+
+-- a text is put in, and waits
+abbrev pub insert_at : Console → List ℕ → ℕ → Outcome
+insert_at console put index =
+    if nat_le (length put) 65536
+    then (if nat_lt (length console.texts) 20000
+    then edited console (insert console.texts index put) (insert console.stands index Waiting)
+    else refused console (NoFull (length console.texts)))
+    else refused console (NoTooLong (length put))
+
+-- a text becomes another one, and waits
+abbrev pub replace_at : Console → List ℕ → ℕ → Outcome
+replace_at console put index =
+    if nat_le (length put) 65536
+    then edited console (set console.texts index put) (set console.stands index Waiting)
+    else refused console (NoTooLong (length put))
+
+-- bytes of a text, from one up to another, become others
+abbrev pub splice_at : Console → ℕ → ℕ → List ℕ → ℕ → Outcome
+splice_at console from to put index =
+    if is_span (text_at console index) from to
+    then replace_at console (spliced (text_at console index) from to put) index
+    else refused console (NoBadSpan (length (text_at console index)))
+
+-- a text is taken out
+abbrev pub remove_at : Console → ℕ → Outcome
+remove_at console index = edited console (remove console.texts index) (remove console.stands index)
+
+-- `ins P TEXT`: a place may be one more than there are texts
+abbrev pub inserted : Console → ℕ → List ℕ → Outcome
+inserted console place put =
+    option_map_or (insert_at console put) (index_of place (length console.texts + 1)) (refused console (NoPlace (length console.texts)))
+
+-- `put P TEXT`
+abbrev pub replaced : Console → ℕ → List ℕ → Outcome
+replaced console place put = at_place console place (replace_at console put)
+
+-- `sub P FROM TO TEXT`
+abbrev pub substituted : Console → ℕ → ℕ → ℕ → List ℕ → Outcome
+substituted console place from to put = at_place console place (splice_at console from to put)
+
+-- `del P`
+abbrev pub removed : Console → ℕ → Outcome
+removed console place = at_place console place (remove_at console)
+
+-- ---- what is to be checked
+
+abbrev with_stand : Console → ℕ → Stand → Console
+with_stand console index stand = record console { stands = set console.stands index stand }
+
+-- a text that waits is parked
+abbrev pub stopped_from : Console → ℕ → Stand → Outcome
+stopped_from console index Waiting = done (with_stand console index Parked)
+stopped_from console index Finished = refused console NoFinished
+stopped_from console index Parked = refused console NoParked
+
+-- a parked text waits again
+abbrev pub asked_from : Console → ℕ → Stand → Outcome
+asked_from console index Waiting = refused console NoNotParked
+asked_from console index Finished = refused console NoNotParked
+asked_from console index Parked = done (with_stand console index Waiting)
+
+-- `stop P`
+abbrev pub stopped : Console → ℕ → Outcome
+stopped console place = at_place console place (λ index. stopped_from console index (stand_at console index))
+
+-- `ask P`
+abbrev pub asked : Console → ℕ → Outcome
+asked console place = at_place console place (λ index. asked_from console index (stand_at console index))
+
+-- what is not parked is finished
+abbrev pub settled_stand : Stand → Stand
+settled_stand Waiting = Finished
+settled_stand Finished = Finished
+settled_stand Parked = Parked
+
+-- `settle`
+abbrev pub settled : Console → Outcome
+settled console = done (record console { stands = map settled_stand console.stands })
+
+-- ---- what is shown
+
+-- a finished text shows the marks that it has among those of all texts together, and every other text that there are none yet
+abbrev pub shown_as : Console → ℕ → Stand → ShownPara
+shown_as console number Waiting = Pending
+shown_as console number Finished = Marked (marks_numbered console.lexicon (map chars console.texts) number)
+shown_as console number Parked = Pending
+
+-- what is shown of texts that stand so, of which the first has this number
+abbrev pub shown_from : Console → ℕ → List Stand → List ShownPara
+shown_from console number [] = []
+shown_from console number (stand ∷ stands) = shown_as console number stand ∷ shown_from console (number + 1) stands
+
+-- `show`
+abbrev pub shown : Console → Outcome
+shown console = refused console (Shown console.text console.dict (shown_from console 1 console.stands))
+
+-- ---- dictionaries
+
+-- under another dictionary what is parked stays so, and all else waits
+abbrev pub reloaded_stand : Stand → Stand
+reloaded_stand Waiting = Waiting
+reloaded_stand Finished = Waiting
+reloaded_stand Parked = Parked
+
+-- a dictionary comes into force; the reply tells its version
+abbrev pub loaded : Console → Lexicon → Outcome
+loaded console lexicon = record {
+  reply = Dict (console.dict + 1);
+  after = record console { dict = console.dict + 1; lexicon = lexicon; stands = map reloaded_stand console.stands };
+}
+
+-- The reply to a dictionary's fault. Want of memory is never due, and has no reply: it ends the console.
+abbrev pub fault_reply : LoadFault → Reply
+fault_reply Missing = NoMissing
+fault_reply (TooLong limit) = NoLarge
+fault_reply (Aff line why) = NoAff line why
+fault_reply (Dic line why) = NoDic line why
+fault_reply Failed = NoFiles
+fault_reply NoMemory = NoFiles
+
+-- what is due of a dictionary comes into force, or is told
+abbrev pub load_outcome : Console → Result Lexicon LoadFault → Outcome
+load_outcome console (Ok lexicon) = loaded console lexicon
+load_outcome console (Err fault) = refused console (fault_reply fault)

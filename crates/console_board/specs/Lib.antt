@@ -1,0 +1,5 @@
+pub mod Consoles
+pub mod Boards
+pub mod BoardAnswers
+pub mod Transcripts
+pub mod Starts
