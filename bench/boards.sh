@@ -13,7 +13,7 @@ trap 'rm -rf "$work"' EXIT
 
 mkdir -p "$work/crates/board_times/src"
 cp "$top/HANDLES" "$work"
-grep -E '^[a-z_]+:' "$top/crates.txt" | grep -vE '^(console_lang|work_maker):' > "$work/crates.txt"
+grep -E '^[a-z_]+:' "$top/crates.txt" | grep -vE '^(console_lang|work_maker|document_report|input_lines|console_board):' > "$work/crates.txt"
 cut -d : -f 1 "$work/crates.txt" | while read -r crate; do
     tar -c --exclude out -C "$top/crates" "$crate" | tar -x -C "$work/crates"
 done

@@ -113,7 +113,7 @@ AFF
 printf '1\nwork/S\n' > "$work/refused/a.dic"
 printf 'works' > "$work/refused/text"
 
-# The first two dialogues of crates/affedit/src/tests/dialogues.rt, with the files that they name.
+# Two dialogues that are rows of tests in crates/whole_runs too, with the files that they name.
 cat > "$work/edits/a.aff" <<'AFF'
 SET UTF-8
 TRY esianrtolc

@@ -1,41 +1,28 @@
 //! Affedit checks the spelling of a text by a Hunspell dictionary, and prints where its words are unknown.
 #![tactic(auto)]
 
-mod check;
-mod command;
-mod console;
-mod dialogue;
-mod edit;
-mod ending;
-mod laws;
-mod make;
-mod making;
-mod report;
-mod run;
-mod stop;
-#[cfg(test)]
-mod tests;
-
-pub use laws::transcripts_are_functions;
+use command_line::{put_wanting, run};
 use outside::{FreeGate, RealFiles, StdSink, StdSource};
-pub use run::{Ended, run, run_check};
 use std::env::{self, Env};
 use std::io::{self, ErrorKind};
 use std::process::ExitCode;
-use stop::Stop;
 
-/// The arguments without the program's name.
+/// The arguments without the program's name; none where one of them is not UTF-8, so that they are of no form.
 fn words_of<R: Env + AllocGlobal>(rt: &R) -> io::Result<Vec<String>> {
+    match arguments(rt) {
+        Err(error) if !is_wanting(&error) => Ok(Vec::new(rt.alloc())),
+        words => words,
+    }
+}
+
+fn arguments<R: Env + AllocGlobal>(rt: &R) -> io::Result<Vec<String>> {
     let words: Vec<String> = env::args(rt)?.skip(1).collect(rt.alloc())?;
     Ok(words)
 }
 
-/// Why there are no words: one that is not UTF-8 is of no form.
-fn stop_of(error: io::Error) -> Stop {
-    match error.kind() {
-        ErrorKind::OutOfMemory => Stop::NoMemory,
-        _ => Stop::Words,
-    }
+/// Whether memory is wanting.
+fn is_wanting(error: &io::Error) -> bool {
+    matches!(error.kind(), ErrorKind::OutOfMemory)
 }
 
 fn main(rt: HostRuntime) -> ExitCode {
@@ -50,7 +37,7 @@ fn main(rt: HostRuntime) -> ExitCode {
             )
             .status
         }
-        Err(error) => ending::put_line(alloc, &mut out, stop_of(error)),
+        Err(_) => put_wanting(&mut out),
     };
     ExitCode::from(status)
 }

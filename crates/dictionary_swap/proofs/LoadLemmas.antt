@@ -1,11 +1,12 @@
 -- A fault of a step of what is due is the fault of all of it.
-use Rattle.std.proofs.Common.{IfSome, ◌≡◌, Option, Some, None, ℕ, ◌+◌, ◌≤◌, Result, Ok, Err, List, length, replicate, sym, ap, subst, arith}
-use Rattle.std.proofs.lemmas.Bool.Decides.{nat_tests}
-use Rattle.std.proofs.lemmas.List.{length-replicate}
-use Rattle.outside.specs.Files.{Folder}
+use Rattle.std.proofs.Common.{IfSome, ◌≡◌, Option, Some, None, ℕ, Result, Ok, Err, List, Vec, sym, ap, subst}
+use Rattle.std.specs.declared.alloc.Global.{Global}
+use Rattle.outside.specs.Files.{Folder, GivesBytes, FailsAs as FileFailsAs, file_due as loaded_due}
+use Rattle.outside.specs.declared.faults.FileFault.{FileFault}
+use Rattle.outside.specs.declared.faults.FileFault.TheVariants.{Failed as FailedFile, Missing as MissingFile, TooLong as LongFile, NoMemory as OutOfMemory}
 use Rattle.dictionary_swap.specs.declared.fault.LoadFault.{LoadFault}
 use Rattle.dictionary_swap.specs.declared.fault.LoadFault.TheVariants.{Failed, Missing, TooLong, Aff, Dic, NoMemory}
-use Rattle.dictionary_swap.specs.Loads.{◌>>=◌, FailsAs, Gives, file_due, size_limit}
+use Rattle.dictionary_swap.specs.Loads.{◌>>=◌, FailsAs, Gives, faulting, file_due, load_fault_of, size_limit}
 
 -- a step that fails ends all that follows
 pub fails-all : {A B : Type 0} (step : Result A LoadFault) (next : A → Result B LoadFault) (fault : LoadFault) → FailsAs step fault → FailsAs (step >>= next) fault
@@ -26,17 +27,19 @@ pub fails-behind : {A B : Type 0} (step : Result A LoadFault) (given : A) (next 
     → step ≡ Ok given → FailsAs (next given) fault → FailsAs (step >>= next) fault
 fails-behind step given next fault is rest = subst (λ s. FailsAs (s >>= next) fault) (sym is) rest
 
--- the bytes of a file that was loaded
-pub loaded : (limit : ℕ) (bytes : List ℕ) → length bytes ≤ limit → file_due limit (Some bytes) ≡ Ok bytes
-unfolding file_due
-loaded limit bytes few = grind (arith, nat_tests)
+-- a file that is not loaded is a fault of the load
+pub file-fails : (limit : ℕ) (due : Result (List ℕ) FileFault) (fault : FileFault) → FileFailsAs due fault → FailsAs (faulting (load_fault_of limit) due) (load_fault_of limit fault)
+file-fails limit due FailedFile is = tt
+file-fails limit due OutOfMemory is = tt
+file-fails limit due MissingFile is = ap (faulting (load_fault_of limit)) is
+file-fails limit due LongFile is = ap (faulting (load_fault_of limit)) is
 
--- some file is larger than a limit
-pub too-long : (limit : ℕ) → file_due limit (Some (replicate {A = ℕ} (limit + 1) 0)) ≡ Err (TooLong limit)
+-- what a load gives of a file is what is due of it
+pub file-given : (limit : ℕ) (file : Option (List ℕ)) (loaded : Result (Vec ℕ Global) FileFault) → GivesBytes (loaded_due limit file) loaded
+    → Gives (λ bytes. bytes.items) (file_due limit file) (faulting (load_fault_of limit) loaded)
 unfolding file_due
-too-long limit =
-    let long : length (replicate {A = ℕ} (limit + 1) 0) ≡ limit + 1 = length-replicate {A = ℕ} (limit + 1) 0 in
-    grind (arith, nat_tests)
+file-given limit file (Ok bytes) is = ap (faulting (load_fault_of limit)) is
+file-given limit file (Err fault) is = file-fails limit (loaded_due limit file) fault is
 
 -- ---- a file, and what its bytes say
 -- a file that explains the bytes explains what is read of them

@@ -1,6 +1,8 @@
 -- What is due of a dictionary, by what there is of its two files.
-use Rattle.std.specs.Prelude.{◌≡◌, ℕ, List, length, nat_le, Option, Some, None, Result, Ok, Err, if◌then◌else◌}
-use Rattle.outside.specs.Files.{Folder}
+use Rattle.std.specs.Prelude.{◌≡◌, ℕ, List, Option, Result, Ok, Err}
+use Rattle.outside.specs.Files.{Folder, file_due as loaded_due}
+use Rattle.outside.specs.declared.faults.FileFault.{FileFault}
+use Rattle.outside.specs.declared.faults.FileFault.TheVariants.{Failed as FailedFile, Missing as MissingFile, TooLong as LongFile, NoMemory as OutOfMemory}
 use Rattle.spell_types.specs.declared.Affixes.{Affixes}
 use Rattle.spell_types.specs.declared.Entry.{Entry}
 use Rattle.spell_types.specs.declared.Lexicon.{Lexicon}
@@ -20,18 +22,21 @@ abbrev pub ◌>>=◌ : {A B : Type 0} → Result A LoadFault → (A → Result B
 (Ok x) >>= f = f x
 (Err fault) >>= f = Err fault
 
--- what is due of a file: nothing but its bytes
-abbrev pub bytes_due : ℕ → Option (List ℕ) → Result (List ℕ) LoadFault
-bytes_due limit None = Err Missing
-bytes_due limit (Some bytes) = if nat_le (length bytes) limit then Ok bytes else Err (TooLong limit)
-
-unfoldable pub file_due : ℕ → Option (List ℕ) → Result (List ℕ) LoadFault
-file_due limit file = bytes_due limit file
-
--- a fault of a file's lines
+-- a fault of a file, or of its lines
 abbrev pub faulting : {A F : Type 0} → (F → LoadFault) → Result A F → Result A LoadFault
 faulting at (Ok read) = Ok read
 faulting at (Err fault) = Err (at fault)
+
+-- why a file is not loaded that may have so many bytes
+abbrev pub load_fault_of : ℕ → FileFault → LoadFault
+load_fault_of limit FailedFile = Failed
+load_fault_of limit MissingFile = Missing
+load_fault_of limit LongFile = TooLong limit
+load_fault_of limit OutOfMemory = NoMemory
+
+-- what is due of a file that may have so many bytes: nothing but its bytes
+unfoldable pub file_due : ℕ → Option (List ℕ) → Result (List ℕ) LoadFault
+file_due limit file = faulting (load_fault_of limit) (loaded_due limit file)
 
 abbrev pub at_aff : AffLineFault → LoadFault
 at_aff fault = Aff fault.line fault.why

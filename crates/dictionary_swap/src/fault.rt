@@ -1,12 +1,14 @@
 //! Why a dictionary is not loaded.
 
 ghost use Rattle.std.specs.Prelude.{◌≡◌};
+ghost use Rattle.dictionary_swap.specs.Loads.{load_fault_of};
 ghost use Rattle.dictionary_swap.specs.declared.fault.LoadFault.TheVariants.{NoMemory as OutOfMemory};
 
 use crate::causes::{aff_cause, dic_cause};
 use aff_lines::AffWhy;
 use dic_reader::DicWhy;
 use lists::NoMemory;
+use outside::FileFault;
 use thiserror::Error;
 
 /// Why a dictionary is not loaded. The messages are for people; no line that the program prints is made of one.
@@ -30,6 +32,20 @@ pub enum LoadFault {
     /// Memory for the dictionary could not be had.
     #[error("memory for the dictionary could not be had")]
     NoMemory,
+}
+
+impl LoadFault {
+    /// Why a file is not loaded that may have so many bytes.
+    pub fn of_file(fault: FileFault, limit: u64) -> LoadFault
+        ensures { result ≡ load_fault_of limit fault }
+    {
+        match fault {
+            FileFault::Failed => LoadFault::Failed,
+            FileFault::Missing => LoadFault::Missing,
+            FileFault::TooLong => LoadFault::TooLong { limit },
+            FileFault::NoMemory => LoadFault::NoMemory,
+        }
+    }
 }
 
 impl From<NoMemory> for LoadFault {

@@ -8,7 +8,7 @@ use crate::fault::LoadFault;
 use aff_lines::AffFault;
 use aff_reader::read_aff;
 use dic_reader::{DicFault, read_dic};
-use outside::{FileFault, Files};
+use outside::Files;
 use spell_types::{Affixes, Entries};
 use std::alloc::Global;
 
@@ -61,14 +61,9 @@ fn load_file<F: Files>(alloc: Global, files: &mut F, name: &str) -> Result<Vec<u
     ensures failed { IsErrOf result LoadFault.Failed → F.faults files.old < F.faults files.new }
     ensures count { F.faults files.old ≤ F.faults files.new }
 {
-    let mut bytes = Vec::new(alloc);
-    match files.load(alloc, name, SIZE_LIMIT, &mut bytes) {
-        Ok(()) => Ok(bytes),
-        Err(FileFault::Failed) => Err(LoadFault::Failed),
-        Err(FileFault::Missing) => Err(LoadFault::Missing),
-        Err(FileFault::TooLong) => Err(LoadFault::TooLong { limit: SIZE_LIMIT }),
-        Err(FileFault::NoMemory) => Err(LoadFault::NoMemory),
-    }
+    outside::load_file(alloc, files, name, SIZE_LIMIT).map_err(|fault| LoadFault::of_file(
+        fault, SIZE_LIMIT,
+    ))
 }
 
 /// What the bytes of an .aff file say.

@@ -1,0 +1,5 @@
+pub mod EndLemmas
+pub mod DueLemmas
+pub mod FormLemmas
+pub mod DialogueLemmas
+pub mod MadeLemmas

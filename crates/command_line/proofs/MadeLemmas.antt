@@ -1,0 +1,31 @@
+-- The dictionary that is made is found in memory under its names.
+use Rattle.std.proofs.Common.{◌≡◌, ap, subst, Option, None, Some, IfSome, ℕ, [], ◌∷◌, String, Vec, Global, true, false, codes}
+use Rattle.std.specs.Str.{bytes_eq}
+use Rattle.std.specs.String.{string_bytes}
+use Rattle.outside.specs.Files.{Folder}
+use Rattle.outside.specs.Memory.{file_of}
+use Rattle.dictionary_swap.specs.Loads.{DictionaryFiles, found_in}
+use Rattle.work_maker.specs.Made.{aff_bytes, dic_bytes}
+use Rattle.command_line.specs.Due.{HasMade}
+
+-- two files with these names and bytes are those of the dictionary
+pub made-found : (size : ℕ) (first second : String Global) (aff dic : Vec ℕ Global) → string_bytes first ≡ codes "made.aff" → string_bytes second ≡ codes "made.dic"
+    → aff.items ≡ aff_bytes → dic.items ≡ dic_bytes size → HasMade size (Some (file_of ((first, aff) ∷ (second, dic) ∷ [])))
+made-found size first second aff dic is_first is_second is_aff is_dic = (rw first_is (ap Some is_aff), rw first_is_not (rw second_is (ap Some is_dic)))
+  where
+    first_is : bytes_eq (string_bytes first) (codes "made.aff") ≡ true
+    first_is = ap (λ name. bytes_eq name (codes "made.aff")) is_first
+
+    first_is_not : bytes_eq (string_bytes first) (codes "made.dic") ≡ false
+    first_is_not = ap (λ name. bytes_eq name (codes "made.dic")) is_first
+
+    second_is : bytes_eq (string_bytes second) (codes "made.dic") ≡ true
+    second_is = ap (λ name. bytes_eq name (codes "made.dic")) is_second
+
+-- what is true of the files that are told is true of those that are made
+pub made-told : (size : ℕ) (told : Option Folder) (P : DictionaryFiles → Type 0) → HasMade size told
+    → IfSome told (λ folder. P (found_in folder (codes "made.aff") (codes "made.dic"))) → P (record { aff = Some aff_bytes; dic = Some (dic_bytes size) })
+made-told size None P has is = absurd has
+made-told size (Some folder) P has is =
+    subst (λ aff. P (record { aff = aff; dic = Some (dic_bytes size) })) has.0
+    (subst (λ dic. P (record { aff = folder (codes "made.aff"); dic = dic })) has.1 is)

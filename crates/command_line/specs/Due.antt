@@ -1,0 +1,97 @@
+-- What is due of files: what the program is to print of them, or why there is nothing to print.
+use Rattle.std.specs.Prelude.{◌≡◌, ℕ, List, codes, Option, Some, None, IsSomeAnd, Result, Ok, Err}
+use Rattle.outside.specs.Files.{Folder, file_due}
+use Rattle.spell_types.specs.declared.Lexicon.{Lexicon}
+use Rattle.dictionary_swap.specs.Loads.{DictionaryFiles, lexicon_due, load_fault_of}
+use Rattle.dictionary_swap.specs.declared.fault.LoadFault.TheVariants.{Failed, Missing, TooLong, Aff, Dic, NoMemory as LoadWanting}
+use Rattle.document_report.specs.Documents.{document_due}
+use Rattle.document_report.specs.Reports.{Printed, report_of, summary_of}
+use Rattle.document_report.specs.declared.fault.DocumentFault.TheVariants.{NotUtf8, TooManyParagraphs, LongParagraph, NoMemory as ReportWanting}
+use Rattle.work_maker.specs.Made.{aff_bytes, dic_bytes, text_bytes}
+use Rattle.command_line.specs.Failures.{document_failure, failure_of}
+use Rattle.command_line.specs.Requests.{CheckedFiles, StartAndSize}
+use Rattle.command_line.specs.declared.failure.Failure.{Failure}
+use Rattle.command_line.specs.declared.failure.Failure.TheVariants.{Words, Load, Document, Input, Limit, NoMemory}
+
+-- the greatest size of a document, in bytes
+abbrev pub document_limit : ℕ
+document_limit = 67108864
+
+-- what there is of the files of a dictionary and of a document: the bytes of each, if it is there
+pub record Found : Type 0 where
+  pub aff : Option (List ℕ)
+  pub dic : Option (List ℕ)
+  pub document : Option (List ℕ)
+
+-- one thing due after another, up to the first failure
+infixl 10 ◌>>=◌
+abbrev pub ◌>>=◌ : {A B : Type 0} → Result A Failure → (A → Result B Failure) → Result B Failure
+(Ok x) >>= f = f x
+(Err failure) >>= f = Err failure
+
+-- a fault is a failure
+abbrev pub failing : {A E : Type 0} → (E → Failure) → Result A E → Result A Failure
+failing to (Ok given) = Ok given
+failing to (Err fault) = Err (to fault)
+
+-- what is due of the files of a dictionary
+unfoldable pub dictionary_due : DictionaryFiles → Result Lexicon Failure
+dictionary_due files = failing failure_of (lexicon_due files)
+
+-- what is due of the file of a document
+unfoldable pub bytes_due : Option (List ℕ) → Result (List ℕ) Failure
+bytes_due file = failing (λ fault. failure_of (load_fault_of document_limit fault)) (file_due document_limit file)
+
+-- what is due of a document, by a dictionary
+unfoldable pub printed_due : (Lexicon → List (List ℕ) → Printed) → Lexicon → List ℕ → Result Printed Failure
+printed_due printed lexicon document = failing document_failure (document_due printed lexicon document)
+
+-- the document is checked by the dictionary: the first thing that stops it, or what is to be printed of it
+unfoldable pub checked_due : (Lexicon → List (List ℕ) → Printed) → Found → Result Printed Failure
+checked_due printed found = do
+  lexicon ← dictionary_due (record { aff = found.aff; dic = found.dic })
+  document ← bytes_due found.document
+  printed_due printed lexicon document
+
+-- the words of `check` ask for the report on a document
+abbrev pub check_due : Found → Result Printed Failure
+check_due found = checked_due report_of found
+
+-- the bytes that are made
+abbrev pub made_by : StartAndSize → Found
+made_by asked = record { aff = Some aff_bytes; dic = Some (dic_bytes asked.size); document = Some (text_bytes asked.start asked.size) }
+
+-- a folder is told that has the files of the dictionary that is made, under the names that they are given in memory
+abbrev pub HasMade : ℕ → Option Folder → Type 0
+HasMade size told = IsSomeAnd told (λ folder. (folder (codes "made.aff") ≡ Some aff_bytes) × (folder (codes "made.dic") ≡ Some (dic_bytes size)))
+
+-- the words of `make` ask for a summary of what is made
+abbrev pub make_due : StartAndSize → Result Printed Failure
+make_due asked = checked_due (summary_of asked.size) (made_by asked)
+
+-- what there is of these names: where a folder is told, what it has of them; where none is, anything
+abbrev pub IsFound : Option Folder → CheckedFiles → Found → Type 0
+IsFound None names found = Unit {0}
+IsFound (Some folder) names found = found ≡ record { aff = folder names.aff; dic = folder names.dic; document = folder names.document }
+
+-- A call fails for what is due; but a failed file and want of memory may come at any time. Neither words nor an input are concerned.
+abbrev pub FailsAs : {A : Type 0} → Result A Failure → Failure → Type 0
+FailsAs due Words = ⊥
+FailsAs due (Load Failed) = Unit {0}
+FailsAs due (Load Missing) = due ≡ Err (Load Missing)
+FailsAs due (Load (TooLong limit)) = due ≡ Err (Load (TooLong limit))
+FailsAs due (Load (Aff line why)) = due ≡ Err (Load (Aff line why))
+FailsAs due (Load (Dic line why)) = due ≡ Err (Load (Dic line why))
+FailsAs due (Load LoadWanting) = ⊥
+FailsAs due (Document (NotUtf8 line)) = due ≡ Err (Document (NotUtf8 line))
+FailsAs due (Document (TooManyParagraphs limit)) = due ≡ Err (Document (TooManyParagraphs limit))
+FailsAs due (Document (LongParagraph limit)) = due ≡ Err (Document (LongParagraph limit))
+FailsAs due (Document ReportWanting) = ⊥
+FailsAs due Input = ⊥
+FailsAs due (Limit limit) = ⊥
+FailsAs due NoMemory = Unit {0}
+
+-- a call gives what is due, seen by `view`, or fails so
+abbrev pub Gives : {A B : Type 0} → (A → B) → Result B Failure → Result A Failure → Type 0
+Gives view due (Ok given) = due ≡ Ok (view given)
+Gives view due (Err failure) = FailsAs due failure

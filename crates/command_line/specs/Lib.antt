@@ -1,0 +1,6 @@
+pub mod Failures
+pub mod Requests
+pub mod Due
+pub mod Ends
+pub mod Forms
+pub mod Given

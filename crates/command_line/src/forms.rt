@@ -1,0 +1,5 @@
+//! What each form of words does, a file for each.
+
+pub mod check;
+pub mod edit;
+pub mod make;

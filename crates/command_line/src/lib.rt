@@ -1,0 +1,12 @@
+//! What the words of a command line ask for: each form of words with what it does, and how a call ends.
+#![tactic(auto)]
+
+mod ending;
+mod failure;
+mod forms;
+mod making;
+mod requests;
+mod top_call;
+
+pub use ending::put_wanting;
+pub use top_call::{Ended, run, run_check};

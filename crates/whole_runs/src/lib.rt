@@ -1,0 +1,9 @@
+//! Tests of the whole: runs of the program over objects in memory, and calls of lower crates that no run shows. It has no code of its own.
+#![tactic(auto)]
+
+#[cfg(test)]
+mod rows;
+#[cfg(test)]
+mod runner;
+#[cfg(test)]
+mod tests;

@@ -1,0 +1,148 @@
+//! The tests: the rows of each topic, and beside them what no row can say.
+
+mod board_tables;
+mod derivations;
+mod early_ends;
+mod made_inputs;
+mod memory;
+mod pattern_tables;
+mod real_files;
+mod steps;
+
+use crate::rows;
+use crate::runner::run_rows;
+use std::test::Fail;
+
+/// Which parts make up a compound.
+#[test]
+fn compounds(rt: HostRuntime) -> Result<(), Fail> {
+    for rows in [
+        rows::compoundflag::ROWS,
+        rows::compoundforbidflag::ROWS,
+        rows::compoundmin::ROWS,
+        rows::compoundmoresuffixes::ROWS,
+        rows::compoundpermitflag::ROWS,
+        rows::compoundrule::ROWS,
+        rows::compoundwordmax::ROWS,
+        rows::forceucase::ROWS,
+        rows::onlyincompound::ROWS,
+    ] {
+        run_rows(&rt, rt.alloc(), rows)?;
+    }
+    Ok(())
+}
+
+/// Which parts may meet, and which compounds are misspellings.
+#[test]
+fn joints(rt: HostRuntime) -> Result<(), Fail> {
+    for rows in [
+        rows::checkcompoundcase::ROWS,
+        rows::checkcompounddup::ROWS,
+        rows::checkcompoundpattern::ROWS,
+        rows::checkcompoundrep::ROWS,
+        rows::checkcompoundtriple::ROWS,
+        rows::joints_together::ROWS,
+        rows::rep::ROWS,
+    ] {
+        run_rows(&rt, rt.alloc(), rows)?;
+    }
+    Ok(())
+}
+
+/// Which affixes a word has.
+#[test]
+fn affixes(rt: HostRuntime) -> Result<(), Fail> {
+    for rows in [
+        rows::circumfix::ROWS,
+        rows::conditions::ROWS,
+        rows::fullstrip::ROWS,
+        rows::licences::ROWS,
+        rows::needaffix::ROWS,
+        rows::pfx_sfx::ROWS,
+        rows::stripping::ROWS,
+    ] {
+        run_rows(&rt, rt.alloc(), rows)?;
+    }
+    Ok(())
+}
+
+/// Which entries are words, and in which spellings.
+#[test]
+fn spellings(rt: HostRuntime) -> Result<(), Fail> {
+    for rows in [
+        rows::breaks::ROWS,
+        rows::forbiddenword::ROWS,
+        rows::iconv::ROWS,
+        rows::ignore::ROWS,
+        rows::keepcase::ROWS,
+        rows::cases::ROWS,
+        rows::long_words::ROWS,
+        rows::numbers::ROWS,
+        rows::warn::ROWS,
+    ] {
+        run_rows(&rt, rt.alloc(), rows)?;
+    }
+    Ok(())
+}
+
+/// The lines of files.
+#[test]
+fn files(rt: HostRuntime) -> Result<(), Fail> {
+    for rows in [
+        rows::af::ROWS,
+        rows::dic_file::ROWS,
+        rows::document::ROWS,
+        rows::first_fault::ROWS,
+        rows::flag::ROWS,
+        rows::left_out::ROWS,
+        rows::set::ROWS,
+        rows::switches::ROWS,
+        rows::unknown_lines::ROWS,
+        rows::wordchars::ROWS,
+    ] {
+        run_rows(&rt, rt.alloc(), rows)?;
+    }
+    Ok(())
+}
+
+/// The command line.
+#[test]
+fn words_and_files(rt: HostRuntime) -> Result<(), Fail> {
+    for rows in [
+        rows::make::ROWS,
+        rows::missing_and_failing::ROWS,
+        rows::words::ROWS,
+    ] {
+        run_rows(&rt, rt.alloc(), rows)?;
+    }
+    Ok(())
+}
+
+/// Dialogues of `edit`.
+#[test]
+fn dialogues(rt: HostRuntime) -> Result<(), Fail> {
+    for rows in [
+        rows::del::ROWS,
+        rows::early_ends::ROWS,
+        rows::ins::ROWS,
+        rows::lines::ROWS,
+        rows::load::ROWS,
+        rows::put_and_sub::ROWS,
+        rows::quit::ROWS,
+        rows::settle::ROWS,
+        rows::show::ROWS,
+        rows::stop_and_ask::ROWS,
+    ] {
+        run_rows(&rt, rt.alloc(), rows)?;
+    }
+    Ok(())
+}
+
+/// The largest files, and the longest lines.
+#[test]
+fn limits(rt: HostRuntime) -> Result<(), Fail> {
+    for rows in [rows::limits::ROWS, rows::long_lines::ROWS] {
+        run_rows(&rt, rt.alloc(), rows)?;
+    }
+    Ok(())
+}
