@@ -1,4 +1,4 @@
-//! Tests of the whole: runs of the program over objects in memory, and calls of lower crates that no run shows. It has no code of its own.
+//! Tests of the whole: runs of the program over objects in memory. It has no code of its own.
 #![tactic(auto)]
 
 #[cfg(test)]

@@ -1,13 +1,8 @@
 //! The tests: the rows of each topic, and beside them what no row can say.
 
-mod board_tables;
-mod derivations;
 mod early_ends;
 mod made_inputs;
 mod memory;
-mod pattern_tables;
-mod real_files;
-mod steps;
 
 use crate::rows;
 use crate::runner::run_rows;

@@ -3,7 +3,7 @@ use Rattle.std.proofs.Common.{Result, Ok, Err, IfOk}
 use Rattle.edit_core.specs.Events.{event_of}
 use Rattle.edit_core.specs.Seen.{Seen}
 use Rattle.edit_core.specs.Steps.{IsFit}
-use Rattle.whole_runs.proofs.tests.board_tables.event_in.Goals as goal
+use Rattle.part_tests.proofs.tests.board_tables.event_in.Goals as goal
 
 at-board : {E A : Type 0} (P : Seen → A → Type 0) (r : Result A E) (board : Seen) → IfOk r (λ a. (board : Seen) → P board a) → IfOk r (P board)
 at-board P (Ok a) board all = all board

@@ -1,0 +1,7 @@
+//! The tests, a file for each part.
+
+mod board_tables;
+mod derivations;
+mod pattern_tables;
+mod real_files;
+mod steps;
