@@ -4,4 +4,5 @@ mod board_tables;
 mod derivations;
 mod pattern_tables;
 mod real_files;
+mod spellers;
 mod steps;

@@ -8,8 +8,7 @@ ghost use Rattle.edit_core.specs.Runs.{IsOfBoard};
 ghost use Rattle.edit_core.specs.Seen.{Seen};
 ghost use Rattle.edit_core.specs.Steps.{IsFit};
 
-use aff_reader::read_aff;
-use dic_reader::read_dic;
+use super::spellers::speller_of;
 use edit_core::{
     Board, Event, ParaView, Refusal, Shown, checks_are_fit, ids_name_paragraphs, runs_only_grow,
 };
@@ -24,10 +23,10 @@ use std::test::Fail;
 use text_lines::Text;
 use word_verdict::Speller;
 
-const AFF: &[u8] =
-    b"SET UTF-8\nTRY esianrtolc\nPFX A Y 1\nPFX A 0 re .\nSFX B Y 2\nSFX B 0 ed [^y]\nSFX B y ied y\n";
+const AFF: &str =
+    "SET UTF-8\nTRY esianrtolc\nPFX A Y 1\nPFX A 0 re .\nSFX B Y 2\nSFX B 0 ed [^y]\nSFX B y ied y\n";
 
-const DIC: &[u8] = b"3\nhello\ntry/B\nwork/AB\n";
+const DIC: &str = "3\nhello\ntry/B\nwork/AB\n";
 
 /// A line that opens a board has its texts, parted by bars. Each line behind it has an event, and behind ` = ` why it is refused, or
 /// the board that it makes: its point and its versions, and of each paragraph its id, its rev and its marks, or `?` where it waits,
@@ -105,13 +104,6 @@ del 4 1 = 17 6 1|0.0 ?|1.3 ?|3.0 ?|5.2 ?
 ins - y = 18 7 1|0.0 ?|1.3 ?|3.0 ?|5.2 ?|6.7 ?
 ";
 
-fn speller_of(alloc: Global) -> Result<Arc<Speller>, NoMemory> {
-    let affixes = read_aff(alloc, AFF).map_err(|_| NoMemory)?;
-    let entries = read_dic(alloc, &affixes, DIC).map_err(|_| NoMemory)?;
-    let speller = Speller::build(alloc, affixes, entries)?;
-    Ok(Arc::new(alloc, speller)?)
-}
-
 fn word(line: &str, place: usize) -> &str {
     line.split(' ').nth(place).unwrap_or("")
 }
@@ -133,12 +125,21 @@ fn text_of(alloc: Global, written: &str) -> Result<Text, NoMemory> {
     Text::from_str(alloc, made.as_str())
 }
 
-fn opening(alloc: Global, judge: &Arc<Speller>, line: &str) -> Result<Board<Speller>, NoMemory> {
+fn texts_of(alloc: Global, line: &str) -> Result<Vec<Text>, NoMemory> {
     let mut texts = Vec::new(alloc);
     for text in line.split('|') {
         texts.push(Text::from_str(alloc, text)?)?;
     }
-    Board::opening(alloc, Arc::try_clone(judge)?, texts).map_err(|_| NoMemory)
+    Ok(texts)
+}
+
+fn opening(alloc: Global, judge: &Arc<Speller>, line: &str) -> Result<Board<Speller>, NoMemory> {
+    let texts = texts_of(alloc, line)?;
+    let judge = Arc::try_clone(judge)?;
+    match Board::opening(alloc, judge, texts) {
+        Ok(board) => Ok(board),
+        Err(_) => Err(NoMemory),
+    }
 }
 
 /// A text, checked by a judge. It has fewer than a hundred bytes.
@@ -436,7 +437,7 @@ fn assert_histories(rt: &impl Abort, alloc: Global, judge: &Arc<Speller>) -> Res
 /// Each event is made of the board before it, and behind it stands what the line says.
 #[test]
 fn events_make_what_is_wanted(rt: HostRuntime) -> Result<(), Fail> {
-    let judge = speller_of(rt.alloc())?;
+    let judge = speller_of(rt.alloc(), AFF, DIC)?;
     assert_histories(&rt, rt.alloc(), &judge)
 }
 
@@ -482,7 +483,7 @@ fn assert_late_finishes(rt: &impl Abort, alloc: Global, judge: &Arc<Speller>) ->
 /// A check that comes when its paragraph is not there any more is refused.
 #[test]
 fn a_finish_may_come_too_late(rt: HostRuntime) -> Result<(), Fail> {
-    let judge = speller_of(rt.alloc())?;
+    let judge = speller_of(rt.alloc(), AFF, DIC)?;
     assert_late_finishes(&rt, rt.alloc(), &judge)
 }
 
@@ -526,6 +527,6 @@ fn assert_replay(rt: &impl Abort, alloc: Global, judge: &Arc<Speller>) -> Result
 /// The first history as one list of events.
 #[test]
 fn a_list_of_events_is_a_history(rt: HostRuntime) -> Result<(), Fail> {
-    let judge = speller_of(rt.alloc())?;
+    let judge = speller_of(rt.alloc(), AFF, DIC)?;
     assert_replay(&rt, rt.alloc(), &judge)
 }

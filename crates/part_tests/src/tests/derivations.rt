@@ -15,9 +15,13 @@ const DERIVATIONS: &str =
 
 fn lexicon_of(alloc: Global) -> Result<Lexicon, NoMemory> {
     let aff = b"PFX U Y 1\nPFX U 0 un\nSFX S Y 1\nSFX S 0 s\nSFX A Y 1\nSFX A 0 able/S\n";
-    let affixes = read_aff(alloc, aff).map_err(|_| NoMemory)?;
-    let entries = read_dic(alloc, &affixes, b"1\ndo/USA\n").map_err(|_| NoMemory)?;
-    Ok(Lexicon { affixes, entries })
+    let Ok(affixes) = read_aff(alloc, aff) else {
+        return Err(NoMemory);
+    };
+    match read_dic(alloc, &affixes, b"1\ndo/USA\n") {
+        Ok(entries) => Ok(Lexicon { affixes, entries }),
+        Err(_) => Err(NoMemory),
+    }
 }
 
 /// The place in a field with a number from 0, if it is one.

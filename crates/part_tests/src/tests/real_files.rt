@@ -2,6 +2,7 @@
 
 use lists::Items;
 use outside::{FileFault, Files, RealFiles, Source, StdSource};
+use std::alloc::{AllocError, Global};
 use std::collections::HashMap;
 use std::fs;
 use std::test::Fail;
@@ -34,15 +35,31 @@ fn reads_what_is_there(rt: HostRuntime) -> Result<(), Fail> {
     Ok(())
 }
 
+fn list_of(alloc: Global, text: &str) -> Result<Items<char>, AllocError> {
+    let items = text.chars().collect(alloc)?;
+    Ok(Items::from_vec(items))
+}
+
+/// Two lists of the same items, and the place of each.
+fn places_of(alloc: Global) -> Result<HashMap<Items<char>, usize>, AllocError> {
+    let mut places = HashMap::new(alloc);
+    places.insert(list_of(alloc, "ab")?, 0)?;
+    places.insert(list_of(alloc, "ba")?, 1)?;
+    Ok(places)
+}
+
+fn place_in(
+    alloc: Global,
+    places: &HashMap<Items<char>, usize>,
+) -> Result<Option<usize>, AllocError> {
+    let key = list_of(alloc, "ba")?;
+    Ok(places.get(&key).copied())
+}
+
 // A list is a key of maps by its items.
 #[test]
 fn finds_lists_by_their_items(rt: HostRuntime) -> Result<(), Fail> {
-    let alloc = rt.alloc();
-    let mut places = HashMap::new(alloc);
-    for (place, text) in [['a', 'b'], ['b', 'a']].iter().enumerate() {
-        places.insert(Items::from_vec(text.to_vec(alloc)?), place)?;
-    }
-    let key = Items::from_vec(['b', 'a'].to_vec(alloc)?);
-    assert_eq!(rt; places.get(&key).copied(), Some(1));
+    let places = places_of(rt.alloc())?;
+    assert_eq!(rt; place_in(rt.alloc(), &places)?, Some(1));
     Ok(())
 }

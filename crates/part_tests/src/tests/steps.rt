@@ -1,9 +1,8 @@
 //! A paragraph that is checked whole, and some words at a time.
 
-use dictionary_swap::load;
+use super::spellers::speller_of;
 use lists::NoMemory;
 use mark_types::Marks;
-use outside::SureFiles;
 use paragraph_marks::{Checked, Checking, Plain, check};
 use std::alloc::Global;
 use std::process::Abort;
@@ -27,25 +26,12 @@ a b c d e f g=0 1 a,2 3 b,4 5 c,6 7 d,8 9 e,10 11 f,12 13 g,
 hello hello hello hello hello a hello hello=30 31 a,
 hello hello hello hello hello hello hello hello hello hello hello hello hello hello hello hello hello hello hello hello hello hello hello hello hello hello hello hello hello hello hello hello a=192 193 a,";
 
+const AFF: &str = "SET UTF-8\n";
+
+const DIC: &str = "2\nhello\ndon't\n";
+
 /// So many words at a time.
 const STEPS: [u32; 4] = [1, 2, 3, 32];
-
-fn judge_of(alloc: Global) -> Result<Arc<Speller>, Fail> {
-    let mut folder = SureFiles::new(files(alloc)?);
-    let speller = load(alloc, &mut folder, "a.aff", "a.dic")?;
-    Ok(Arc::new(alloc, speller)?)
-}
-
-fn files(alloc: Global) -> Result<Vec<(String, Vec<u8>)>, NoMemory> {
-    let aff_name = String::from_str(alloc, "a.aff")?;
-    let dic_name = String::from_str(alloc, "a.dic")?;
-    let aff = Vec::from_slice(alloc, b"SET UTF-8\n")?;
-    let dic = Vec::from_slice(alloc, b"2\nhello\ndon't\n")?;
-    let mut files = Vec::new(alloc);
-    files.push((aff_name, aff))?;
-    files.push((dic_name, dic))?;
-    Ok(files)
-}
 
 /// The marks as they stand in the table.
 fn told(alloc: Global, marks: &Marks) -> Result<String, Fail> {
@@ -151,12 +137,12 @@ fn assert_longest(rt: &impl Abort, alloc: Global, judge: &Arc<Speller>) -> Resul
 
 #[test]
 fn steps_come_to_all_marks(rt: HostRuntime) -> Result<(), Fail> {
-    let judge = judge_of(rt.alloc())?;
+    let judge = speller_of(rt.alloc(), AFF, DIC)?;
     assert_table(&rt, rt.alloc(), &judge)
 }
 
 #[test]
 fn steps_go_through_the_longest_paragraph(rt: HostRuntime) -> Result<(), Fail> {
-    let judge = judge_of(rt.alloc())?;
+    let judge = speller_of(rt.alloc(), AFF, DIC)?;
     assert_longest(&rt, rt.alloc(), &judge)
 }
