@@ -1,4 +1,3 @@
 pub mod LineLemmas
-pub mod HeardLemmas
 pub mod TurnLemmas
 pub mod CompleteLemmas

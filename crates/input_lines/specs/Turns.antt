@@ -1,33 +1,53 @@
 -- An input in the midst of its reading: what was heard so far, and what was answered.
-use Rattle.std.specs.Prelude.{◌≡◌, ℕ, ◌+◌, ◌<◌, ◌==◌, Bool, true, false, List, [], ◌∷◌, ◌++◌, length, Option, Result, Ok, Err}
+use Rattle.std.specs.Prelude.{◌≡◌, ℕ, ◌+◌, ◌<◌, ◌≤◌, Bool, true, false, List, [], ◌∷◌, ◌++◌, length, Option, Result, Ok, Err}
 use Rattle.std.specs.String.{string_bytes}
 use Rattle.outside.specs.Sink.{Appends, AppendsFront}
 use Rattle.outside.specs.Source.{Takes}
 use Rattle.text_lines.specs.Lines.{line_texts}
 use Rattle.input_lines.specs.Answers.{HasNoBreak, LeadsOn, line_limit}
 use Rattle.input_lines.specs.Ends.{AreAnswered, EndsOn, HasEnded, IsWritten, Reading}
-use Rattle.input_lines.specs.Lines.{EndsLine, IsShort}
+use Rattle.input_lines.specs.Laws.{Told}
+use Rattle.input_lines.specs.Lines.{IsShort, input_limit, piece_text}
 use Rattle.input_lines.specs.declared.reading_end.ReadingEnd.{ReadingEnd}
-use Rattle.input_lines.specs.declared.reading_end.ReadingEnd.TheVariants.{Finished, Interrupted, TooMuch, LongLine, NoMemory, SinkFailed}
+use Rattle.input_lines.specs.declared.reading_end.ReadingEnd.TheVariants.{Finished, LongLine, NoMemory, SinkFailed}
 use Rattle.input_lines.specs.declared.listener.Listener.{Listener}
 
+-- A front of an input: nothing of it, and then a byte order mark may follow; or it ends with a line feed.
+pub data IsFront : List ℕ → Bool → Type 0 where
+  start : IsFront [] true
+  behind : (before : List ℕ) → IsFront (before ++ 10 ∷ []) false
+
 -- Between two pieces: the lines that were whole in what was heard were answered, and the bytes behind them are kept.
-pub record IsHeard (quits : List ℕ → Bool) (answered : List (List ℕ) → List ℕ → Type 0) (heard pending : List ℕ) (is_first : Bool) (said : List ℕ) : Type 0 where
+pub record IsHeard (quits : List ℕ → Bool) (answered : Told) (heard pending : List ℕ) (is_first : Bool) (said : List ℕ) : Type 0 where
   pub front : List ℕ
   pub parts : heard ≡ front ++ pending
-  pub ends : EndsLine front
+  pub begins : IsFront front is_first
   pub no_more : HasNoBreak pending
-  pub first : is_first ≡ (length front == 0)
   pub answers : AreAnswered quits answered (line_texts front) said
 
+-- what an input or a sink tells: its bytes, if it tells them, and how often it has failed
+pub record Side : Type 0 where
+  pub bytes : Option (List ℕ)
+  pub faults : ℕ
+
+abbrev pub side : Option (List ℕ) → ℕ → Side
+side bytes faults = record { bytes = bytes; faults = faults }
+
 -- a front of what was said is written, and the rest of it is gathered
-pub record IsGathered (before now : Option (List ℕ)) (gathered said : List ℕ) : Type 0 where
+pub record IsGathered (before now : Side) (gathered said : List ℕ) : Type 0 where
   pub put : List ℕ
   pub said_is : said ≡ put ++ gathered
-  pub written : Appends before now put
+  pub written : Appends before.bytes now.bytes put
+  pub count : before.faults ≤ now.faults
+
+-- a front of what was said went into a sink that failed, and nothing is gathered
+pub record IsCut (before now : Side) (gathered said : List ℕ) : Type 0 where
+  pub failed : before.faults < now.faults
+  pub front : AppendsFront before.bytes now.bytes said
+  pub empty : gathered ≡ []
 
 -- reading is under way: this was heard and answered; the answers are written, or gathered
-pub record IsUnderWay (quits : List ℕ → Bool) (answered : List (List ℕ) → List ℕ → Type 0) (heard : List ℕ) (before now : Option (List ℕ)) (listener : Listener) : Type 0 where
+pub record IsUnderWay (quits : List ℕ → Bool) (answered : Told) (before now : Side) (listener : Listener) (heard : List ℕ) : Type 0 where
   pub said : List ℕ
   pub hears : IsHeard quits answered heard listener.pending.items listener.is_first said
   pub gathered : IsGathered before now (string_bytes listener.answers) said
@@ -35,75 +55,111 @@ pub record IsUnderWay (quits : List ℕ → Bool) (answered : List (List ℕ) �
 -- why a line is not answered
 abbrev pub WhyNot : (List ℕ → Bool) → List ℕ → ReadingEnd → Type 0
 WhyNot quits line Finished = quits line ≡ true
-WhyNot quits line Interrupted = ⊥
-WhyNot quits line TooMuch = ⊥
 WhyNot quits line LongLine = line_limit < length line
 WhyNot quits line NoMemory = Unit {0}
-WhyNot quits line SinkFailed = ⊥
+WhyNot quits line ended = ⊥
+
+-- Why a piece without a line feed is not kept: memory is wanting, or it is too long even if its last byte is a carriage return.
+abbrev pub IsNotKept : List ℕ → ReadingEnd → Type 0
+IsNotKept bare LongLine = line_limit + 1 < length bare
+IsNotKept bare NoMemory = Unit {0}
+IsNotKept bare ended = ⊥
+
+-- what lines and their answers have to do with the states before and behind them: of a responder, and of what stands beside it
+abbrev pub Leading : Type 0 → Type 0 → Type 1
+Leading S B = S → B → List (List ℕ) → List ℕ → S → B → Type 0
 
 -- a line was answered
-pub record IsAnswered {S B : Type 0} (quits : List ℕ → Bool) (Leads : S → B → List (List ℕ) → List ℕ → S → B → Type 0)
-    (here : S) (beside : B) (there : S) (beside_there : B) (line text_before text_after : List ℕ) : Type 0 where
+pub record IsAnswered {S B : Type 0} (quits : List ℕ → Bool) (Leads : Leading S B)
+    (here there : S × B) (line text_before text_after : List ℕ) : Type 0 where
   pub goes_on : quits line ≡ false
   pub short : IsShort line
   pub added : List ℕ
   pub text : text_after ≡ text_before ++ added
-  pub leads : LeadsOn Leads here beside there beside_there (line ∷ []) added
+  pub leads : LeadsOn Leads here.0 here.1 there.0 there.1 (line ∷ []) added
+
+-- the line that a listener has heard with these bytes
+abbrev pub line_of : Listener → List ℕ → List ℕ
+line_of listener bytes = piece_text listener.is_first (listener.pending.items ++ bytes)
 
 -- a line was not answered, and reading ends with it
-pub record IsNotAnswered {S B : Type 0} (quits : List ℕ → Bool) (Leads : S → B → List (List ℕ) → List ℕ → S → B → Type 0)
-    (here : S) (beside : B) (there : S) (beside_there : B) (line text_before text_after : List ℕ) (ended : ReadingEnd) : Type 0 where
+pub record IsNotAnswered {S B : Type 0} (quits : List ℕ → Bool) (Leads : Leading S B)
+    (here there : S × B) (line text_before text_after : List ℕ) (ended : ReadingEnd) : Type 0 where
   pub why : WhyNot quits line ended
   pub text : text_after ≡ text_before
-  pub leads : LeadsOn Leads here beside there beside_there [] []
+  pub leads : LeadsOn Leads here.0 here.1 there.0 there.1 [] []
 
 -- what comes of a line
-abbrev pub Turns : {S B T : Type 0} → (List ℕ → Bool) → (S → B → List (List ℕ) → List ℕ → S → B → Type 0)
-    → S → B → S → B → List ℕ → List ℕ → List ℕ → Result T ReadingEnd → Type 0
-Turns quits Leads here beside there beside_there line text_before text_after (Ok done) = IsAnswered quits Leads here beside there beside_there line text_before text_after
-Turns quits Leads here beside there beside_there line text_before text_after (Err ended) =
-    IsNotAnswered quits Leads here beside there beside_there line text_before text_after ended
+abbrev pub Turns : {S B T : Type 0} → (List ℕ → Bool) → Leading S B → S × B → S × B
+    → List ℕ → List ℕ → List ℕ → Result T ReadingEnd → Type 0
+Turns quits Leads here there line text_before text_after (Ok done) = IsAnswered quits Leads here there line text_before text_after
+Turns quits Leads here there line text_before text_after (Err ended) = IsNotAnswered quits Leads here there line text_before text_after ended
 
--- Why a piece without a line feed is not kept: memory is wanting, or it is too long even if its last byte is a carriage return.
-abbrev pub IsNotKept : List ℕ → ReadingEnd → Type 0
-IsNotKept bare Finished = ⊥
-IsNotKept bare Interrupted = ⊥
-IsNotKept bare TooMuch = ⊥
-IsNotKept bare LongLine = line_limit + 1 < length bare
-IsNotKept bare NoMemory = Unit {0}
-IsNotKept bare SinkFailed = ⊥
+-- what was said is written or gathered, or a front of it went into a sink that failed
+abbrev pub IsLeft : ReadingEnd → Side → Side → List ℕ → List ℕ → Type 0
+IsLeft SinkFailed before now gathered said = IsCut before now gathered said
+IsLeft ended before now gathered said = IsGathered before now gathered said
 
--- what was said is written or gathered, or a front of it went into a sink that failed, and nothing is gathered
-abbrev pub IsLeft : ReadingEnd → Type 0 → Option (List ℕ) → Option (List ℕ) → List ℕ → List ℕ → Type 0
-IsLeft Finished sink_failed before now gathered said = IsGathered before now gathered said
-IsLeft Interrupted sink_failed before now gathered said = IsGathered before now gathered said
-IsLeft TooMuch sink_failed before now gathered said = IsGathered before now gathered said
-IsLeft LongLine sink_failed before now gathered said = IsGathered before now gathered said
-IsLeft NoMemory sink_failed before now gathered said = IsGathered before now gathered said
-IsLeft SinkFailed sink_failed before now gathered said = sink_failed × AppendsFront before now said × (gathered ≡ [])
+-- What a put does with what is gathered, whatever is left by then: it is written, or gathered as before; or the sink fails.
+abbrev pub Puts : {T : Type 0} → Side → Side → List ℕ → List ℕ → Result T ReadingEnd → Type 0
+Puts middle now gathered left (Ok done) =
+    (before : Side) (said : List ℕ) (ended : ReadingEnd) → IsLeft ended before middle gathered said → IsLeft ended before now left said
+Puts middle now gathered left (Err failed) = (failed ≡ SinkFailed)
+    × ((before : Side) (said : List ℕ) (ended : ReadingEnd) → IsLeft ended before middle gathered said → IsCut before now left said)
 
--- what comes of a piece behind what was heard: reading is under way, or it ends so on whatever comes behind the piece
-abbrev pub Hears : {T : Type 0} → (List ℕ → Bool) → (List (List ℕ) → List ℕ → Type 0) → List ℕ → Type 0 → Option (List ℕ) → Option (List ℕ) → Listener
-    → Result T ReadingEnd → Type 0
-Hears quits answered heard sink_failed before now listener (Ok done) = IsUnderWay quits answered heard before now listener
-Hears quits answered heard sink_failed before now listener (Err ended) =
-    (said : List ℕ) × ((rest : List ℕ) → EndsOn quits answered (heard ++ rest) ended said)
-    × IsLeft ended sink_failed before now (string_bytes listener.answers) said
+-- reading ends so on an input, and this is left of what was said
+pub record Stops (quits : List ℕ → Bool) (answered : Told) (before now : Side) (gathered input : List ℕ) (ended : ReadingEnd) : Type 0 where
+  pub said : List ℕ
+  pub ends : EndsOn quits answered input ended said
+  pub left : IsLeft ended before now gathered said
 
--- all that was gathered was written, or the sink failed
-abbrev pub IsPut : {T : Type 0} → Type 0 → Option (List ℕ) → Option (List ℕ) → List ℕ → List ℕ → Result T ReadingEnd → Type 0
-IsPut sink_failed before now gathered said (Ok done) = IsGathered before now gathered said
-IsPut sink_failed before now gathered said (Err ended) = (ended ≡ SinkFailed) × sink_failed × AppendsFront before now said × (gathered ≡ [])
+-- what comes of bytes that were heard: reading is under way, or it ends so on whatever comes behind them
+abbrev pub Hears : {T : Type 0} → (List ℕ → Bool) → Told → Side → Side → Listener → List ℕ → Result T ReadingEnd → Type 0
+Hears quits answered before now listener heard (Ok done) = IsUnderWay quits answered before now listener heard
+Hears quits answered before now listener heard (Err ended) =
+    (rest : List ℕ) → Stops quits answered before now (string_bytes listener.answers) (heard ++ rest) ended
+
+-- what was said from the first states to those here
+abbrev pub Since : {S B : Type 0} → Leading S B → S × B → S × B → Told
+Since Leads first here = λ lines said. Leads first.0 first.1 lines said here.0 here.1
+
+-- where reading stands: with a responder and what stands beside it, a sink and a listener
+pub record Stand (S B : Type 0) : Type 0 where
+  pub states : S × B
+  pub sink : Side
+  pub listener : Listener
+
+abbrev pub stand : {S B : Type 0} → S × B → Side → Listener → Stand S B
+stand states sink listener = record { states = states; sink = sink; listener = listener }
+
+-- what comes of a piece between two stands, whatever was heard before it
+pub record IsHeardAs {S B T : Type 0} (quits : List ℕ → Bool) (Leads : Leading S B)
+    (here there : Stand S B) (piece : List ℕ) (result : Result T ReadingEnd) : Type 0 where
+  pub on : (first : S × B) (before : Side) (heard : List ℕ) → length heard + length piece ≤ input_limit
+      → IsUnderWay quits (Since Leads first here.states) before here.sink here.listener heard
+      → Hears quits (Since Leads first there.states) before there.sink there.listener (heard ++ piece) result
 
 -- how reading has ended
 abbrev pub IsOver : (List ℕ → Bool) → (List (List ℕ) → List ℕ → Type 0) → Reading → Type 0 → Option (List ℕ) → Option (List ℕ) → ReadingEnd → Type 0
 IsOver quits answered reading sink_failed before now ended =
     (said : List ℕ) × HasEnded quits answered reading ended said × IsWritten ended sink_failed before now said
 
+-- what was read between two states of an input
+abbrev pub read_between : Side → Side → Reading
+read_between begun source = record { before = begun.bytes; after = source.bytes; faults_before = begun.faults; faults_after = source.faults }
+
+-- so many bytes were taken of an input and heard, and all that was answered is written
+pub record IsTaken (quits : List ℕ → Bool) (answered : Told) (before now : Side) (listener : Listener) (begun source : Side) (count : ℕ) : Type 0 where
+  pub heard : List ℕ
+  pub counted : length heard ≡ count
+  pub takes : Takes begun.bytes source.bytes heard
+  pub since : begun.faults ≤ source.faults
+  pub put : string_bytes listener.answers ≡ []
+  pub under : IsUnderWay quits answered before now listener heard
+
 -- what comes of a turn: more bytes were taken and heard, or reading has ended
-abbrev pub Comes : (List ℕ → Bool) → (List (List ℕ) → List ℕ → Type 0) → Reading → List ℕ → Type 0 → Option (List ℕ) → Option (List ℕ) → Listener
-    → Result ℕ ReadingEnd → Type 0
-Comes quits answered reading taken sink_failed before now listener (Ok count) =
-    (more : List ℕ) × (length more ≡ count) × (0 < count) × Takes reading.before reading.after (taken ++ more)
-    × IsUnderWay quits answered (taken ++ more) before now listener
-Comes quits answered reading taken sink_failed before now listener (Err ended) = IsOver quits answered reading sink_failed before now ended
+abbrev pub Comes : (List ℕ → Bool) → Told → Side → Side → Listener → Side → Side → ℕ → Result ℕ ReadingEnd → Type 0
+Comes quits answered before now listener begun source taken (Ok count) =
+    IsTaken quits answered before now listener begun source (taken + count)
+Comes quits answered before now listener begun source taken (Err ended) =
+    IsOver quits answered (read_between begun source) (before.faults < now.faults) before.bytes now.bytes ended

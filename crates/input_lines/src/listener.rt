@@ -1,11 +1,10 @@
 //! What hears an input piece by piece, and has each line answered as soon as it is whole.
 
-ghost use Rattle.std.specs.Prelude.{◌≡◌, ◌+◌, ◌<◌, ◌≤◌, ◌++◌, [], List, Option, ℕ, true, false, length, Ok, OnOk, IfErr};
+ghost use Rattle.std.specs.Prelude.{◌≡◌, ◌+◌, ◌≤◌, ◌++◌, [], List, ℕ, true, false, length, OnOk, IfErr};
 ghost use Rattle.std.specs.String.{string_bytes};
 ghost use Rattle.input_lines.specs.Answers.{HasNoBreak, line_limit};
-ghost use Rattle.input_lines.specs.Ends.{EndsOn};
-ghost use Rattle.input_lines.specs.Lines.{input_limit, piece_text, unmarked};
-ghost use Rattle.input_lines.specs.Turns.{Hears, IsGathered, IsNotKept, IsLeft, IsPut, IsUnderWay, Turns};
+ghost use Rattle.input_lines.specs.Lines.{input_limit, unmarked};
+ghost use Rattle.input_lines.specs.Turns.{IsHeardAs, IsNotKept, IsUnderWay, Puts, Side, Since, Stops, Turns, line_of, side, stand};
 
 use crate::pieces::{piece_text, split_line, unmarked};
 use crate::reading_end::ReadingEnd;
@@ -57,10 +56,10 @@ impl Listener {
     ) -> Result<(), ReadingEnd>
         requires no_more { HasNoBreak self.old.pending.items }
         requires room { length piece.now ≤ R.room responder.old }
-        ensures hears { (first : R) (beside_first : B) (heard : List ℕ) (before : Option (List ℕ)) → length heard + length piece.now ≤ input_limit
-            → IsUnderWay R.quits (λ lines said. R.Leads first beside_first lines said responder.old beside.old) heard before (K.written out.old) self.old
-            → Hears R.quits (λ lines said. R.Leads first beside_first lines said responder.new beside.new) (heard ++ piece.now)
-            (K.faults out.old < K.faults out.new) before (K.written out.new) self.new result }
+        ensures hears { IsHeardAs R.quits R.Leads
+            (stand (responder.old, beside.old) (side (K.written out.old) (K.faults out.old)) self.old)
+            (stand (responder.new, beside.new) (side (K.written out.new) (K.faults out.new)) self.new)
+            piece.now result }
         ensures empty { string_bytes self.new.answers ≡ [] }
         ensures no_more { OnOk result (HasNoBreak self.new.pending.items) }
         ensures room { R.room responder.old ≤ R.room responder.new + length piece.now }
@@ -81,10 +80,12 @@ impl Listener {
     ) -> ReadingEnd
         requires room { 1 ≤ R.room responder.old }
         requires no_more { HasNoBreak self.old.pending.items }
-        ensures ends { (first : R) (beside_first : B) (heard : List ℕ) (before : Option (List ℕ)) → length heard ≤ input_limit
-            → IsUnderWay R.quits (λ lines said. R.Leads first beside_first lines said responder.old beside.old) heard before (K.written out.old) self.old
-            → (said : List ℕ) × EndsOn R.quits (λ lines said. R.Leads first beside_first lines said responder.new beside.new) heard result said
-            × IsLeft result (K.faults out.old < K.faults out.new) before (K.written out.new) [] said }
+        ensures ends { (first : R × B) (before : Side) (heard : List ℕ) → length heard ≤ input_limit
+            → IsUnderWay R.quits (Since R.Leads first (responder.old, beside.old)) before
+            (side (K.written out.old) (K.faults out.old)) self.old heard
+            → Stops R.quits (Since R.Leads first (responder.new, beside.new)) before
+            (side (K.written out.new) (K.faults out.new)) (string_bytes self.new.answers) heard result }
+        ensures empty { string_bytes self.new.answers ≡ [] }
         ensures count { K.faults out.old ≤ K.faults out.new }
     {
         let ended = self.end_input(alloc, responder, beside);
@@ -105,10 +106,10 @@ impl Listener {
     ) -> Result<(), ReadingEnd>
         requires no_more { HasNoBreak self.old.pending.items }
         requires room { length piece.now ≤ R.room responder.old }
-        ensures hears { (first : R) (beside_first : B) (heard : List ℕ) (before : Option (List ℕ)) → length heard + length piece.now ≤ input_limit
-            → IsUnderWay R.quits (λ lines said. R.Leads first beside_first lines said responder.old beside.old) heard before (K.written out.old) self.old
-            → Hears R.quits (λ lines said. R.Leads first beside_first lines said responder.new beside.new) (heard ++ piece.now)
-            (K.faults out.old < K.faults out.new) before (K.written out.new) self.new result }
+        ensures hears { IsHeardAs R.quits R.Leads
+            (stand (responder.old, beside.old) (side (K.written out.old) (K.faults out.old)) self.old)
+            (stand (responder.new, beside.new) (side (K.written out.new) (K.faults out.new)) self.new)
+            piece.now result }
         ensures no_more { OnOk result (HasNoBreak self.new.pending.items) }
         ensures room { R.room responder.old ≤ R.room responder.new + length piece.now }
         ensures count { K.faults out.old ≤ K.faults out.new }
@@ -131,10 +132,10 @@ impl Listener {
     ) -> ReadingEnd
         requires room { 1 ≤ R.room responder.old }
         requires no_more { HasNoBreak self.old.pending.items }
-        ensures ends { (first : R) (beside_first : B) (heard : List ℕ) (before now : Option (List ℕ)) → length heard ≤ input_limit
-            → IsUnderWay R.quits (λ lines said. R.Leads first beside_first lines said responder.old beside.old) heard before now self.old
-            → (said : List ℕ) × EndsOn R.quits (λ lines said. R.Leads first beside_first lines said responder.new beside.new) heard result said
-            × IsLeft result ⊥ before now (string_bytes self.new.answers) said }
+        ensures ends { (first : R × B) (before now : Side) (heard : List ℕ) → length heard ≤ input_limit
+            → IsUnderWay R.quits (Since R.Leads first (responder.old, beside.old)) before now self.old heard
+            → Stops R.quits (Since R.Leads first (responder.new, beside.new)) before now
+            (string_bytes self.new.answers) heard result }
     {
         if unmarked(&self.pending, self.is_first).is_empty() {
             return ReadingEnd::Finished;
@@ -155,8 +156,8 @@ impl Listener {
     ) -> Result<(), ReadingEnd>
         requires whole { HasNoBreak (self.old.pending.items ++ bytes.now) }
         requires room { 1 ≤ R.room responder.old }
-        ensures turns { Turns R.quits R.Leads responder.old beside.old responder.new beside.new
-            (piece_text self.old.is_first (self.old.pending.items ++ bytes.now)) (string_bytes self.old.answers) (string_bytes self.new.answers) result }
+        ensures turns { Turns R.quits R.Leads (responder.old, beside.old) (responder.new, beside.new)
+            (line_of self.old bytes.now) (string_bytes self.old.answers) (string_bytes self.new.answers) result }
         ensures empty { OnOk result (self.new.pending.items ≡ []) }
         ensures later { OnOk result (self.new.is_first ≡ false) }
         ensures room { R.room responder.old ≤ R.room responder.new + 1 }
@@ -196,8 +197,8 @@ impl Listener {
 
     /// Writes the answers that are gathered, if they are many.
     fn put_many<K: Sink>(&mut self, out: &mut K) -> Result<(), ReadingEnd>
-        ensures puts { (before : Option (List ℕ)) (said : List ℕ) → IsGathered before (K.written out.old) (string_bytes self.old.answers) said
-            → IsPut (K.faults out.old < K.faults out.new) before (K.written out.new) (string_bytes self.new.answers) said result }
+        ensures puts { Puts (side (K.written out.old) (K.faults out.old)) (side (K.written out.new) (K.faults out.new))
+            (string_bytes self.old.answers) (string_bytes self.new.answers) result }
         ensures pending { self.new.pending ≡ self.old.pending }
         ensures first { self.new.is_first ≡ self.old.is_first }
         ensures count { K.faults out.old ≤ K.faults out.new }
@@ -210,10 +211,9 @@ impl Listener {
 
     /// Writes the answers that are gathered.
     fn put_all<K: Sink>(&mut self, out: &mut K) -> Result<(), ReadingEnd>
-        ensures puts { (before : Option (List ℕ)) (said : List ℕ) → IsGathered before (K.written out.old) (string_bytes self.old.answers) said
-            → IsPut (K.faults out.old < K.faults out.new) before (K.written out.new) (string_bytes self.new.answers) said result }
+        ensures puts { Puts (side (K.written out.old) (K.faults out.old)) (side (K.written out.new) (K.faults out.new))
+            (string_bytes self.old.answers) (string_bytes self.new.answers) result }
         ensures empty { string_bytes self.new.answers ≡ [] }
-        ensures none { string_bytes self.old.answers ≡ [] → (K.written out.new ≡ K.written out.old) × (result ≡ Ok tt) }
         ensures pending { self.new.pending ≡ self.old.pending }
         ensures first { self.new.is_first ≡ self.old.is_first }
         ensures count { K.faults out.old ≤ K.faults out.new }
@@ -240,7 +240,8 @@ fn answer_line<B, R: Responder<B>>(
 ) -> Result<(), ReadingEnd>
     requires whole { HasNoBreak line.now }
     requires room { 1 ≤ R.room responder.old }
-    ensures turns { Turns R.quits R.Leads responder.old beside.old responder.new beside.new line.now (string_bytes answers.old) (string_bytes answers.new) result }
+    ensures turns { Turns R.quits R.Leads (responder.old, beside.old) (responder.new, beside.new) line.now
+        (string_bytes answers.old) (string_bytes answers.new) result }
     ensures room { R.room responder.old ≤ R.room responder.new + 1 }
 {
     if line.len() > LINE_LIMIT {

@@ -1,12 +1,10 @@
 //! Reads an input turn by turn.
 
-ghost use Rattle.std.specs.Prelude.{◌≡◌, ◌+◌, ◌<◌, ◌≤◌, [], List, Option, ℕ, length, IfOk, IfSome, OnOk};
-ghost use Rattle.std.specs.String.{string_bytes};
-ghost use Rattle.outside.specs.Source.{Takes};
+ghost use Rattle.std.specs.Prelude.{◌≡◌, ◌+◌, ◌<◌, ◌≤◌, ℕ, length, IfOk, IfSome, OnOk};
 ghost use Rattle.input_lines.specs.Answers.{HasNoBreak};
 ghost use Rattle.input_lines.specs.Ends.{Reading};
 ghost use Rattle.input_lines.specs.Lines.{input_limit};
-ghost use Rattle.input_lines.specs.Turns.{Comes, IsOver, IsUnderWay};
+ghost use Rattle.input_lines.specs.Turns.{Comes, IsOver, IsTaken, Side, Since, read_between, side};
 
 use crate::listener::Listener;
 use crate::reading_end::ReadingEnd;
@@ -103,20 +101,17 @@ impl Listener {
         requires some { 0 < length piece.old }
         requires room { length piece.old + 1 ≤ R.room responder.old }
         requires no_more { HasNoBreak self.old.pending.items }
-        requires put { string_bytes self.old.answers ≡ [] }
-        ensures comes { (first : R) (beside_first : B) (taken : List ℕ) (left_first before : Option (List ℕ)) (faults_first : ℕ)
-            → length taken + length piece.old ≤ input_limit → Takes left_first (S.left input.old) taken → faults_first ≤ S.Source.faults input.old
-            → IsUnderWay R.quits (λ lines said. R.Leads first beside_first lines said responder.old beside.old) taken before (K.written out.old) self.old
-            → Comes R.quits (λ lines said. R.Leads first beside_first lines said responder.new beside.new) (record {
-              before = left_first;
-              after = S.left input.new;
-              faults_before = faults_first;
-              faults_after = S.Source.faults input.new;
-            }) taken (K.Sink.faults out.old < K.Sink.faults out.new) before (K.written out.new) self.new result }
+        ensures comes { (first : R × B) (before begun : Side) (taken : ℕ) → taken + length piece.old ≤ input_limit
+            → IsTaken R.quits (Since R.Leads first (responder.old, beside.old)) before
+            (side (K.written out.old) (K.Sink.faults out.old)) self.old
+            begun (side (S.left input.old) (S.Source.faults input.old)) taken
+            → Comes R.quits (Since R.Leads first (responder.new, beside.new)) before
+            (side (K.written out.new) (K.Sink.faults out.new)) self.new
+            begun (side (S.left input.new) (S.Source.faults input.new)) taken result }
+        ensures some { IfOk result (λ count. 0 < count) }
         ensures few { IfOk result (λ count. count ≤ length piece.old) }
         ensures room { IfOk result (λ count. R.room responder.old ≤ R.room responder.new + count) }
         ensures no_more { OnOk result (HasNoBreak self.new.pending.items) }
-        ensures put { OnOk result (string_bytes self.new.answers ≡ []) }
         ensures input_count { S.Source.faults input.old ≤ S.Source.faults input.new }
         ensures sink_count { K.Sink.faults out.old ≤ K.Sink.faults out.new }
     {
@@ -141,16 +136,13 @@ impl Listener {
     ) -> ReadingEnd
         requires room { 1 ≤ R.room responder.old }
         requires no_more { HasNoBreak self.old.pending.items }
-        requires put { string_bytes self.old.answers ≡ [] }
-        ensures over { (first : R) (beside_first : B) (taken : List ℕ) (left_first before : Option (List ℕ)) (faults_first : ℕ)
-            → length taken ≡ input_limit → Takes left_first (S.left input.old) taken → faults_first ≤ S.Source.faults input.old
-            → IsUnderWay R.quits (λ lines said. R.Leads first beside_first lines said responder.old beside.old) taken before (K.written out.old) self.old
-            → IsOver R.quits (λ lines said. R.Leads first beside_first lines said responder.new beside.new) (record {
-              before = left_first;
-              after = S.left input.new;
-              faults_before = faults_first;
-              faults_after = S.Source.faults input.new;
-            }) (K.Sink.faults out.old < K.Sink.faults out.new) before (K.written out.new) result }
+        ensures over { (first : R × B) (before begun : Side)
+            → IsTaken R.quits (Since R.Leads first (responder.old, beside.old)) before
+            (side (K.written out.old) (K.Sink.faults out.old)) self.old
+            begun (side (S.left input.old) (S.Source.faults input.old)) input_limit
+            → IsOver R.quits (Since R.Leads first (responder.new, beside.new))
+            (read_between begun (side (S.left input.new) (S.Source.faults input.new)))
+            (before.faults < K.Sink.faults out.new) before.bytes (K.written out.new) result }
         ensures input_count { S.Source.faults input.old ≤ S.Source.faults input.new }
         ensures sink_count { K.Sink.faults out.old ≤ K.Sink.faults out.new }
     {

@@ -1,9 +1,8 @@
 -- Each line of a piece turns what was heard of it so far.
-use Rattle.std.proofs.Common.{◌≡◌, ◌∙◌, ◌+◌, ◌<◌, ◌∷◌, [], ap, arith, length, length-append, subst, suc, sym}
-use Rattle.std.specs.String.{string_bytes}
-use Rattle.input_lines.specs.Answers.{HasNoBreak}
+use Rattle.std.proofs.Common.{◌≡◌, ◌∙◌, ◌∷◌, [], ap, append_assoc, arith, length, length-append, sym}
+use Rattle.std.proofs.lemmas.Result.{err_from_is_err_and}
 use Rattle.input_lines.proofs.LineLemmas.{no-break-both}
-use Rattle.input_lines.proofs.TurnLemmas.{so-far-cut, so-far-kept, so-far-on, so-far-start, so-far-stops}
+use Rattle.input_lines.proofs.TurnLemmas.{hears-cut, hears-put, hears-then, line-on, line-stops, rest-kept}
 use Rattle.input_lines.proofs.listener.Listener.hear_lines.Goals as goal
 
 pub loop-bytes-init : goal.loop-bytes-init
@@ -11,70 +10,54 @@ loop-bytes-init g c = record {
   no_more = c.requires.no_more;
   room = omega arith;
   count = omega arith;
-  so_far = so-far-start g.R.Responder.quits g.R.Responder.Leads c.args.responder.now c.args.beside.now c.args.piece.now (g.K.Sink.written c.args.out.now) c.args.self.now;
+  so_far = λ there result is. is;
 }
 
 pub end_line-requires : goal.end_line-requires
 end_line-requires g c =
     let l = c.loop-bytes in
-    let long : length l.rest.now ≡ length c.in-Some.bytes.now + suc (length c.in-Some.behind.now) =
-    ap length c.in-Some.ensures.some ∙ length-append c.in-Some.bytes.now (10 ∷ c.in-Some.behind.now) in
+    let part = c.in-Some in
     let has = l.invariant.room in
-    let enough = c.requires.room in record {
-      whole = no-break-both l.self.pending.items c.in-Some.bytes.now l.invariant.no_more c.in-Some.ensures.whole;
-      room = omega (arith, long, has, enough);
+    record {
+      whole = no-break-both l.self.pending.items part.bytes.now l.invariant.no_more part.ensures.whole;
+      room = omega (arith, has, c.requires.room, ap length part.ensures.some, length-append part.bytes.now (10 ∷ part.behind.now));
     }
 
 pub returns-in_err-end_line-clause-hears : goal.returns-in_err-end_line-clause-hears
 returns-in_err-end_line-clause-hears g c =
-    let l = c.loop-bytes in
-    so-far-stops g.R.Responder.quits g.R.Responder.Leads c.args.responder.now c.args.beside.now l.responder l.beside c.end_line.new.responder c.end_line.new.beside
-    c.args.piece.now l.rest.now c.in-Some.bytes.now c.in-Some.behind.now (g.K.Sink.faults c.args.out.now < g.K.Sink.faults l.out)
-    (g.K.Sink.written c.args.out.now) (g.K.Sink.written l.out) c.args.self.now l.self c.end_line.new.self c.in_err-end_line.field-0.0 c.from_residual.result
-    l.invariant.so_far c.in-Some.ensures.some
-    (no-break-both l.self.pending.items c.in-Some.bytes.now l.invariant.no_more c.in-Some.ensures.whole) c.in_err-end_line.ensures.turns c.from_residual.ensures.1
+    let part = c.in-Some in
+    let p = err_from_is_err_and c.from_residual.result c.from_residual.ensures.1 in
+    rw (p.1, p.2) (c.loop-bytes.invariant.so_far _ _
+    (line-stops part.bytes.now part.behind.now part.ensures.some part.ensures.whole c.in_err-end_line.ensures.turns))
 
 pub returns-in_err-put_many-clause-hears : goal.returns-in_err-put_many-clause-hears
 returns-in_err-put_many-clause-hears g c =
-    let l = c.loop-bytes in
-    let counted = l.invariant.count in
-    so-far-cut g.R.Responder.quits g.R.Responder.Leads c.args.responder.now c.args.beside.now l.responder l.beside c.end_line.new.responder c.end_line.new.beside
-    c.args.piece.now l.rest.now c.in-Some.bytes.now c.in-Some.behind.now
-    (g.K.Sink.faults l.out < g.K.Sink.faults c.put_many.new.out) (g.K.Sink.faults c.args.out.now < g.K.Sink.faults c.put_many.new.out)
-    (g.K.Sink.written c.args.out.now) (g.K.Sink.written l.out) (g.K.Sink.written c.put_many.new.out) c.args.self.now l.self c.put_many.new.self
-    (string_bytes c.end_line.new.self.answers) c.in_err-put_many.field-0.0 c.from_residual-in_err-put_many.result
-    l.invariant.so_far c.in-Some.ensures.some
-    (no-break-both l.self.pending.items c.in-Some.bytes.now l.invariant.no_more c.in-Some.ensures.whole) c.in_ok-end_line.ensures.turns
-    c.in_err-put_many.ensures.puts (λ failed. omega (arith, failed, counted)) c.from_residual-in_err-put_many.ensures.1
+    let part = c.in-Some in
+    let line = c.in_ok-end_line.ensures in
+    let p = err_from_is_err_and c.from_residual-in_err-put_many.result c.from_residual-in_err-put_many.ensures.1 in
+    rw (p.1, p.2) (c.loop-bytes.invariant.so_far _ _
+    (hears-cut part.behind.now (part.ensures.some ∙ sym (append_assoc part.bytes.now (10 ∷ []) part.behind.now)) (line-on c.end_line.new.self part.bytes.now part.ensures.whole line.turns line.empty line.later)
+    c.in_err-put_many.ensures.puts))
 
 pub loop-bytes-preserved : goal.loop-bytes-preserved
 loop-bytes-preserved g c =
-    let l = c.loop-bytes in
-    let long : length l.rest.now ≡ length c.in-Some.bytes.now + suc (length c.in-Some.behind.now) =
-    ap length c.in-Some.ensures.some ∙ length-append c.in-Some.bytes.now (10 ∷ c.in-Some.behind.now) in
-    let had = l.invariant.room in
-    let has = c.in_ok-end_line.ensures.room in
-    let counted = l.invariant.count in
-    let more = c.in_ok-put_many.ensures.count in
-    let empty : c.put_many.new.self.pending.items ≡ [] = ap (λ p. p.items) c.in_ok-put_many.ensures.pending ∙ c.in_ok-end_line.ensures.empty in
+    let l = c.loop-bytes.invariant in
+    let part = c.in-Some in
+    let line = c.in_ok-end_line.ensures in
+    let put = c.in_ok-put_many.ensures in
+    let long = ap length part.ensures.some ∙ length-append part.bytes.now (10 ∷ part.behind.now) in
+    let empty : c.put_many.new.self.pending.items ≡ [] = ap (λ p. p.items) put.pending ∙ line.empty in
     record {
-      no_more = subst HasNoBreak (sym empty) tt;
-      room = omega (arith, long, had, has);
-      count = omega (arith, counted, more);
-      so_far = so-far-on g.R.Responder.quits g.R.Responder.Leads c.args.responder.now c.args.beside.now l.responder l.beside c.end_line.new.responder c.end_line.new.beside
-          c.args.piece.now l.rest.now c.in-Some.bytes.now c.in-Some.behind.now (g.K.Sink.faults l.out < g.K.Sink.faults c.put_many.new.out)
-          (g.K.Sink.written c.args.out.now) (g.K.Sink.written l.out) (g.K.Sink.written c.put_many.new.out) c.args.self.now l.self c.put_many.new.self
-          (string_bytes c.end_line.new.self.answers)
-          l.invariant.so_far c.in-Some.ensures.some
-          (no-break-both l.self.pending.items c.in-Some.bytes.now l.invariant.no_more c.in-Some.ensures.whole) c.in_ok-end_line.ensures.turns
-          c.in_ok-put_many.ensures.puts empty (c.in_ok-put_many.ensures.first ∙ c.in_ok-end_line.ensures.later);
+      no_more = rw empty tt;
+      room = omega (arith, long, l.room, line.room);
+      count = omega (arith, l.count, put.count);
+      so_far = λ there result is. l.so_far there result (rw (part.ensures.some, ← append_assoc part.bytes.now (10 ∷ []) part.behind.now)
+          (hears-then (hears-put (line-on c.end_line.new.self part.bytes.now part.ensures.whole line.turns line.empty line.later)
+          put.puts put.pending put.first) is));
     }
 
 pub returns-clause-hears : goal.returns-clause-hears
 returns-clause-hears g c =
-    let l = c.loop-bytes in
-    so-far-kept g.R.Responder.quits g.R.Responder.Leads c.args.responder.now c.args.beside.now l.responder l.beside
-    c.args.piece.now l.rest.now (g.K.Sink.faults c.args.out.now < g.K.Sink.faults l.out)
-    (g.K.Sink.written c.args.out.now) (g.K.Sink.written l.out) c.args.self.now l.self c.keep.new.self c.keep.result
-    l.invariant.so_far (no-break-both l.self.pending.items l.rest.now l.invariant.no_more c.in_default.ensures.none)
-    c.keep.ensures.kept c.keep.ensures.stopped c.keep.ensures.first c.keep.ensures.answers
+    let keep = c.keep.ensures in
+    c.loop-bytes.invariant.so_far _ _
+    (rest-kept c.loop-bytes.rest.now c.in_default.ensures.none keep.kept keep.stopped keep.first keep.answers)

@@ -1,7 +1,8 @@
 -- A front of the piece was heard.
 use Rattle.std.proofs.Common.{◌≤◌, ◌+◌, length}
 use Rattle.input_lines.specs.Answers.{HasNoBreak}
-use Rattle.input_lines.proofs.TurnLemmas.{IsHeardSoFar}
+use Rattle.input_lines.specs.Turns.{side, stand}
+use Rattle.input_lines.proofs.TurnLemmas.{GoesOn}
 use Rattle.input_lines.proofs.listener.Listener.hear_lines.Given as goal
 
 abbrev pub invariant-loop-bytes : goal.invariant-loop-bytes
@@ -9,8 +10,9 @@ invariant-loop-bytes g l = record {
   no_more : HasNoBreak l.self.pending.items;
   room : g.R.Responder.room l.fn.responder + length l.rest ≤ g.R.Responder.room l.responder + length l.piece;
   count : g.K.Sink.faults l.fn.out ≤ g.K.Sink.faults l.out;
-  so_far : IsHeardSoFar g.R.Responder.quits g.R.Responder.Leads l.fn.responder l.fn.beside l.responder l.beside l.piece l.rest
-      (g.K.Sink.written l.fn.out) (g.K.Sink.written l.out) l.fn.self l.self;
+  so_far : GoesOn g.R.Responder.quits g.R.Responder.Leads
+      (stand (l.fn.responder, l.fn.beside) (side (g.K.Sink.written l.fn.out) (g.K.Sink.faults l.fn.out)) l.fn.self)
+      (stand (l.responder, l.beside) (side (g.K.Sink.written l.out) (g.K.Sink.faults l.out)) l.self) l.piece l.rest;
 }
 
 abbrev pub decreases-loop-bytes : goal.decreases-loop-bytes

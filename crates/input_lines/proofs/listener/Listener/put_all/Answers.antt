@@ -1,22 +1,19 @@
 -- What is gathered is put behind what was put before.
-use Rattle.std.proofs.Common.{refl, sym, subst}
-use Rattle.std.specs.String.{string_bytes}
-use Rattle.outside.specs.Sink.{Appends, AppendsFront}
-use Rattle.input_lines.specs.Turns.{IsGathered}
-use Rattle.input_lines.proofs.TurnLemmas.{gathered-cut, gathered-put}
+use Rattle.std.proofs.Common.{◌∙◌, ap, length, sym}
+use Rattle.std.proofs.lemmas.Bool.{eqb-false}
+use Rattle.input_lines.proofs.TurnLemmas.{left-cut, left-put}
 use Rattle.input_lines.proofs.listener.Listener.put_all.Goals as goal
 
 pub returns-in-Ok-clause-puts : goal.returns-in-Ok-clause-puts
-returns-in-Ok-clause-puts g c = λ before said gathered.
-    subst (λ text. IsGathered before (g.K.Sink.written c.put-put.new.self) text said) (sym c.clear.ensures.bytes)
-    (gathered-put before (g.K.Sink.written c.args.out.now) (g.K.Sink.written c.put-put.new.self) (string_bytes c.args.self.now.answers) said gathered
-    (subst (Appends (g.K.Sink.written c.args.out.now) (g.K.Sink.written c.put-put.new.self)) c.as_bytes.ensures.value c.in-Ok.ensures.ok))
+returns-in-Ok-clause-puts g c =
+    let put = c.in-Ok.ensures in
+    let text = c.as_bytes.ensures in
+    left-put _ _ _ _ (λ none. eqb-false _ 0 (sym c.if-is_empty.ensures) (sym text.len ∙ ap length (text.value ∙ none)))
+    (rw text.value at put.ok) put.count c.clear.ensures.bytes
 
 pub returns-in-Err-clause-puts : goal.returns-in-Err-clause-puts
-returns-in-Err-clause-puts g c = λ before said gathered. (
-  refl,
-  c.in-Err.ensures.rose,
-  gathered-cut before (g.K.Sink.written c.args.out.now) (g.K.Sink.written c.put-put.new.self) (string_bytes c.args.self.now.answers) said gathered
-      (subst (AppendsFront (g.K.Sink.written c.args.out.now) (g.K.Sink.written c.put-put.new.self)) c.as_bytes.ensures.value c.in-Err.ensures.failed),
-  c.clear.ensures.bytes,
-)
+returns-in-Err-clause-puts g c =
+    let put = c.in-Err.ensures in
+    let text = c.as_bytes.ensures in
+    left-cut _ _ _ _ (λ none. eqb-false _ 0 (sym c.if-is_empty.ensures) (sym text.len ∙ ap length (text.value ∙ none)))
+    (rw text.value at put.failed) put.rose c.clear.ensures.bytes

@@ -1,45 +1,42 @@
 -- A turn goes on from what the input gives.
-use Rattle.std.proofs.Common.{◌≡◌, ◌≤◌, ◌<◌, ◌+◌, arith, rules, subst, sym, length, take, length-take}
-use Rattle.outside.specs.Source.{Takes, IsEndOf}
+use Rattle.std.proofs.Common.{◌≡◌, ◌≤◌, ◌+◌, ◌++◌, arith, rules, subst, length, take, length-append, length-take}
+use Rattle.std.proofs.lemmas.Result.{err_from_is_err_and}
+use Rattle.outside.specs.Source.{IsEndOf}
 use Rattle.input_lines.specs.Lines.{input_limit}
-use Rattle.outside.specs.Laws.{takes-more}
-use Rattle.input_lines.proofs.TurnLemmas.{over-at-end, over-in-piece, over-interrupted}
+use Rattle.outside.specs.Laws.{takes-all, takes-front, takes-more}
+use Rattle.input_lines.proofs.TurnLemmas.{over-interrupted, over-stops}
 use Rattle.input_lines.proofs.listener.Listener.take_turn.Goals as goal
 
 pub returns-in-Ok-eq0-clause-comes : goal.returns-in-Ok-eq0-clause-comes
-returns-in-Ok-eq0-clause-comes g c = λ first beside_first taken left_first before faults_first few takes fewer under.
-    over-at-end g.R.Responder.quits (λ lines said. g.R.Responder.Leads first beside_first lines said c.end.new.responder c.end.new.beside)
-    (record { before = left_first; after = g.S.Source.left c.read.new.self; faults_before = faults_first; faults_after = g.S.Source.faults c.read.new.self })
-    taken (g.S.Source.left c.args.input.now) (g.K.Sink.faults c.args.out.now < g.K.Sink.faults c.end.new.out) before (g.K.Sink.written c.end.new.out) c.end.result takes
-    (subst (IsEndOf (g.S.Source.left c.args.input.now)) (search rules) c.in-Ok-eq0.ensures.end)
-    (c.end.ensures.ends first beside_first taken before (omega (arith, few)) under)
+returns-in-Ok-eq0-clause-comes g c = λ first before begun taken few is.
+    let left = g.S.Source.left c.args.input.now in
+    over-stops _ (c.end.ensures.ends first before is.heard (omega (arith, few, is.counted)) is.under) c.end.ensures.empty
+    (takes-all begun.bytes left is.heard is.takes (subst (IsEndOf left) (search rules) c.in-Ok-eq0.ensures.end))
 
 pub returns-in_err-hear-in-Ok-clause-comes : goal.returns-in_err-hear-in-Ok-clause-comes
-returns-in_err-hear-in-Ok-clause-comes g c = λ first beside_first taken left_first before faults_first few takes fewer under.
-    let count = c.in-Ok.count in
-    let short : length taken + length (take count c.read.new.into) ≤ input_limit = omega (arith, few, length-take count c.read.new.into, c.read.auto.into) in
-    over-in-piece g.R.Responder.quits (λ lines said. g.R.Responder.Leads first beside_first lines said c.hear.new.responder c.hear.new.beside)
-    (record { before = left_first; after = g.S.Source.left c.read.new.self; faults_before = faults_first; faults_after = g.S.Source.faults c.read.new.self })
-    taken (take count c.read.new.into) (g.K.Sink.faults c.args.out.now < g.K.Sink.faults c.hear.new.out) before (g.K.Sink.written c.hear.new.out) c.hear.new.self
-    c.in_err-hear-in-Ok.field-0.0 c.from_residual.result
-    (takes-more left_first (g.S.Source.left c.args.input.now) (g.S.Source.left c.read.new.self) taken (take count c.read.new.into) takes c.in-Ok.ensures.taken)
-    c.in_err-hear-in-Ok.ensures.empty (c.in_err-hear-in-Ok.ensures.hears first beside_first taken before short under) c.from_residual.ensures.1
+returns-in_err-hear-in-Ok-clause-comes g c = λ first before begun taken few is.
+    let more = take c.in-Ok.count c.read.new.into in
+    let short : length is.heard + length more ≤ input_limit = omega (arith, few, is.counted, length-take c.in-Ok.count c.read.new.into, c.read.auto.into) in
+    let all = takes-more begun.bytes _ (g.S.Source.left c.read.new.self) is.heard more is.takes c.in-Ok.ensures.taken in
+    let given = takes-front begun.bytes _ (is.heard ++ more) all in
+    let heard = c.in_err-hear-in-Ok.ensures in
+    let p = err_from_is_err_and c.from_residual.result c.from_residual.ensures.1 in
+    rw (p.1, p.2) (over-stops _ (heard.hears.on first before is.heard short is.under given.0) heard.empty given.1)
 
 pub returns-in_ok-hear-in-Ok-clause-comes : goal.returns-in_ok-hear-in-Ok-clause-comes
-returns-in_ok-hear-in-Ok-clause-comes g c = λ first beside_first taken left_first before faults_first few takes fewer under.
-    let count = c.in-Ok.count in
-    let long : length (take count c.read.new.into) ≡ count = omega (arith, length-take count c.read.new.into, c.in-Ok.ensures.bounded) in
-    let short : length taken + length (take count c.read.new.into) ≤ input_limit = omega (arith, few, length-take count c.read.new.into, c.read.auto.into) in (
-      take count c.read.new.into,
-      long,
-      search rules,
-      takes-more left_first (g.S.Source.left c.args.input.now) (g.S.Source.left c.read.new.self) taken (take count c.read.new.into) takes c.in-Ok.ensures.taken,
-      c.in_ok-hear-in-Ok.ensures.hears first beside_first taken before short under,
-    )
+returns-in_ok-hear-in-Ok-clause-comes g c = λ first before begun taken few is.
+    let more = take c.in-Ok.count c.read.new.into in
+    let long : length more ≡ c.in-Ok.count = omega (arith, length-take c.in-Ok.count c.read.new.into, c.in-Ok.ensures.bounded) in
+    let short : length is.heard + length more ≤ input_limit = omega (arith, few, is.counted, length-take c.in-Ok.count c.read.new.into, c.read.auto.into) in
+    record {
+      heard = is.heard ++ more;
+      counted = omega (arith, is.counted, long, length-append is.heard more);
+      takes = takes-more begun.bytes _ (g.S.Source.left c.read.new.self) is.heard more is.takes c.in-Ok.ensures.taken;
+      since = omega (arith, is.since, c.in-Ok.ensures.count);
+      put = c.in_ok-hear-in-Ok.ensures.empty;
+      under = c.in_ok-hear-in-Ok.ensures.hears.on first before is.heard short is.under;
+    }
 
 pub returns-in-Err-clause-comes : goal.returns-in-Err-clause-comes
-returns-in-Err-clause-comes g c = λ first beside_first taken left_first before faults_first few takes fewer under.
-    over-interrupted g.R.Responder.quits (λ lines said. g.R.Responder.Leads first beside_first lines said c.args.responder.now c.args.beside.now)
-    (record { before = left_first; after = g.S.Source.left c.read.new.self; faults_before = faults_first; faults_after = g.S.Source.faults c.read.new.self })
-    taken (g.K.Sink.faults c.args.out.now < g.K.Sink.faults c.args.out.now) before (g.K.Sink.written c.args.out.now) c.args.self.now under c.requires.put
-    (subst (λ left. Takes left_first left taken) (sym c.in-Err.ensures.failed) takes) (omega (arith, few)) (omega (arith, fewer, c.in-Err.ensures.rose))
+returns-in-Err-clause-comes g c = λ first before begun taken few is.
+    over-interrupted is _ c.in-Err.ensures.failed c.in-Err.ensures.rose (omega (arith, few))
