@@ -83,8 +83,7 @@ lines-texts bytes number place (piece ∷ []) is = by (length piece == 0)
 lines-texts bytes number place (piece ∷ next ∷ more) is =
     let rest : List ℕ = join_with_byte 10 (next ∷ more) in
     let later : drop (place + length piece + 1) bytes ≡ rest =
-    ap (λ n. drop n bytes) (omega arith)
-    ∙ sym (drop-drop (length piece + 1) place bytes)
+    ap (λ n. drop n bytes) (omega arith) ∙ sym (drop-drop (length piece + 1) place bytes)
     ∙ ap (drop (length piece + 1)) (is ∙ sym (append_assoc piece (10 ∷ []) rest))
     ∙ drop_at (piece ++ 10 ∷ []) rest (length piece + 1) (length_push piece 10) in
     (λ i. line-text bytes number place piece (10 ∷ rest) is i
@@ -212,9 +211,7 @@ pub lines-behind : {front : List ℕ} {is_first : Bool} (more : List ℕ) → Is
     → line_texts (front ++ more) ≡ line_texts front ++ raw_lines (unmarked is_first more)
 lines-behind more start = lines-raw more ∙ ap (λ texts. texts ++ raw_lines (unmarked true more)) (sym no-lines)
 lines-behind more (behind before) =
-    ap line_texts (append_assoc before (10 ∷ []) more)
-    ∙ lines more
-    ∙ raw-behind (unmarked true before) more
+    ap line_texts (append_assoc before (10 ∷ []) more) ∙ lines more ∙ raw-behind (unmarked true before) more
     ∙ ap (λ texts. texts ++ raw_lines more) (sym (lines []))
   where
     lines : (rest : List ℕ) → line_texts (before ++ 10 ∷ rest) ≡ raw_lines (unmarked true before ++ 10 ∷ rest)

@@ -14,7 +14,7 @@ use Rattle.input_lines.specs.Answers.{HasNoBreak, line_limit}
 use Rattle.input_lines.specs.Ends.{AreAnswered, AreAnsweredFirst, AreAnsweredWhole, EndsOn, HasLongLine, Reading}
 use Rattle.input_lines.specs.Laws.{Told}
 use Rattle.input_lines.specs.Lines.{IsBounded, IsShort, before_quit, input_limit, piece_text, unmarked}
-use Rattle.input_lines.specs.Turns.{Hears, IsAnswered, IsCut, IsGathered, IsHeard, IsHeardAs, IsLeft, IsNotAnswered, IsNotKept, IsOver, IsTaken, IsUnderWay, Leading, Puts, Side, Since, Stand, Stops, WhyNot, line_of, read_between, stand, start}
+use Rattle.input_lines.specs.Turns.{GoesBy, Hears, IsAnswered, IsCut, IsGathered, IsHeard, IsHeardAs, IsLeft, IsNotAnswered, IsNotKept, IsOver, IsTaken, IsUnderWay, Leading, Puts, Side, Since, Stand, Stops, WhyNot, line_of, read_between, stand, start}
 use Rattle.input_lines.specs.declared.reading_end.ReadingEnd.{ReadingEnd}
 use Rattle.input_lines.specs.declared.reading_end.ReadingEnd.TheVariants.{Finished, Interrupted, TooMuch, LongLine, NoMemory, SinkFailed}
 use Rattle.input_lines.specs.declared.listener.Listener.{Listener}
@@ -141,6 +141,10 @@ first-of-ends ended ends = ends
 
 -- ---- a piece, line by line
 
+heard-as : {S B T : Type 0} {quits : List ℕ → Bool} {Leads : Leading S B} {here there : Stand S B} {piece : List ℕ}
+    {result : Result T ReadingEnd} → GoesBy quits Leads here there piece result → IsHeardAs quits Leads here there piece result
+heard-as goes = record { on = goes }
+
 module _ {S B : Type 0} {quits : List ℕ → Bool} {Leads : Leading S B} where
   -- one line more is answered
   answered-on : {here there first : S × B} {line before after said : List ℕ} {lines : List (List ℕ)}
@@ -173,16 +177,14 @@ module _ {S B : Type 0} {quits : List ℕ → Bool} {Leads : Leading S B} where
   pub hears-then : {T : Type 0} {here middle there : Stand S B} {front rest : List ℕ} {result : Result T ReadingEnd}
       → IsHeardAs {T = Unit {0}} quits Leads here middle front (Ok tt) → IsHeardAs quits Leads middle there rest result
       → IsHeardAs quits Leads here there (front ++ rest) result
-  hears-then {there} {front} {rest} {result} one two = record {
-    on = λ first before heard few under.
-        let long = length-append front rest in
-        let short : length heard + length front ≤ input_limit = omega (arith, few, long) in
-        let enough : length (heard ++ front) + length rest ≤ input_limit =
-        omega (arith, few, long, length-append heard front) in
-        let Heard = λ (h : List ℕ). Hears quits (Since Leads first there.states) before there.sink there.listener h result in
-        subst Heard (append_assoc heard front rest)
-        (two.on first before (heard ++ front) enough (one.on first before heard short under));
-  }
+  hears-then {there} {front} {rest} {result} one two = heard-as (λ first before heard few under.
+      let long = length-append front rest in
+      let short : length heard + length front ≤ input_limit = omega (arith, few, long) in
+      let enough : length (heard ++ front) + length rest ≤ input_limit =
+      omega (arith, few, long, length-append heard front) in
+      let Heard = λ (h : List ℕ). Hears quits (Since Leads first there.states) before there.sink there.listener h result in
+      subst Heard (append_assoc heard front rest)
+      (two.on first before (heard ++ front) enough (one.on first before heard short under)))
 
   -- a line was answered
   pub line-on : {here : Stand S B} {there : S × B} (listener : Listener) (bytes : List ℕ) → HasNoBreak bytes
@@ -190,23 +192,21 @@ module _ {S B : Type 0} {quits : List ℕ → Bool} {Leads : Leading S B} where
       (string_bytes here.listener.answers) (string_bytes listener.answers)
       → listener.pending.items ≡ [] → listener.is_first ≡ false
       → IsHeardAs {T = Unit {0}} quits Leads here (stand there here.sink listener) (bytes ++ 10 ∷ []) (Ok tt)
-  line-on {here} listener bytes whole is empty later = record {
-    on = λ first before heard few under.
-        let hears = under.hears in
-        let piece : List ℕ = here.listener.pending.items ++ bytes in
-        let lines = line-then hears.begins piece (no-break-both _ bytes hears.no_more whole) [] in
-        record {
-          said = under.said ++ is.added;
-          hears = rw (empty, later) (record {
-            front = hears.front ++ (piece ++ 10 ∷ []);
-            parts = rw hears.parts (simp (append_assoc, append-nil));
-            begins = front-longer hears.front piece;
-            no_more = tt;
-            answers = rw lines (answered-on is hears.answers);
-          });
-          gathered = gathered-more is.added under.gathered is.text;
-        };
-  }
+  line-on {here} listener bytes whole is empty later = heard-as (λ first before heard few under.
+      let hears = under.hears in
+      let piece : List ℕ = here.listener.pending.items ++ bytes in
+      let lines = line-then hears.begins piece (no-break-both _ bytes hears.no_more whole) [] in
+      record {
+        said = under.said ++ is.added;
+        hears = rw (empty, later) (record {
+          front = hears.front ++ (piece ++ 10 ∷ []);
+          parts = rw hears.parts (simp (append_assoc, append-nil));
+          begins = front-longer hears.front piece;
+          no_more = tt;
+          answers = rw lines (answered-on is hears.answers);
+        });
+        gathered = gathered-more is.added under.gathered is.text;
+      })
 
   -- it was not, and reading ends
   pub line-stops : {T : Type 0} {here : Stand S B} {there : S × B} {listener : Listener} {ended : ReadingEnd}
@@ -214,27 +214,24 @@ module _ {S B : Type 0} {quits : List ℕ → Bool} {Leads : Leading S B} where
       → IsNotAnswered quits Leads here.states there (line_of here.listener bytes)
       (string_bytes here.listener.answers) (string_bytes listener.answers) ended
       → IsHeardAs {T = T} quits Leads here (stand there here.sink listener) whole (Err ended)
-  line-stops {here} {ended} {whole} bytes behind all no_more is = record {
-    on = λ first before heard few under rest.
-        let hears = heard-same is under.hears in
-        let pending : List ℕ = here.listener.pending.items in
-        let piece : List ℕ = pending ++ bytes in
-        let more : List ℕ = behind ++ rest in
-        let lines = line-then hears.begins piece (no-break-both pending bytes hears.no_more no_more) in
-        let long = ap length hears.parts ∙ length-append hears.front pending in
-        let parts : (heard ++ whole) ++ rest ≡ hears.front ++ (piece ++ 10 ∷ more) =
-        ap (λ w. (heard ++ w) ++ rest) all ∙ ap (λ h. (h ++ (bytes ++ 10 ∷ behind)) ++ rest) hears.parts ∙ simp append_assoc in
-        stops-here hears (piece ++ 10 ∷ more) parts (omega (arith, few))
-        (record { later = raw_lines more; lines_are = lines more })
-        (λ quit. inr (record {
-          front = hears.front ++ (piece ++ 10 ∷ []);
-          later = more;
-          parts = parts ∙ simp append_assoc;
-          ends = ends-line (front-longer hears.front piece);
-          few = omega (arith, few, long, ap length all, length-append {A = ℕ});
-          quits_there = rw (lines [], list_any-append quits (line_texts hears.front) _, quit) (or_right _ true refl);
-        })) (rw is.text under.gathered) ended is.why;
-  }
+  line-stops {here} {ended} {whole} bytes behind all no_more is = heard-as (λ first before heard few under rest.
+      let hears = heard-same is under.hears in
+      let pending : List ℕ = here.listener.pending.items in
+      let piece : List ℕ = pending ++ bytes in
+      let more : List ℕ = behind ++ rest in
+      let lines = line-then hears.begins piece (no-break-both pending bytes hears.no_more no_more) in
+      let long = ap length hears.parts ∙ length-append hears.front pending in
+      let parts : (heard ++ whole) ++ rest ≡ hears.front ++ (piece ++ 10 ∷ more) =
+      ap (λ w. (heard ++ w) ++ rest) all ∙ ap (λ h. (h ++ (bytes ++ 10 ∷ behind)) ++ rest) hears.parts ∙ simp append_assoc in
+      stops-here hears (piece ++ 10 ∷ more) parts (omega (arith, few))
+      (record { later = raw_lines more; lines_are = lines more }) (λ quit. inr (record {
+        front = hears.front ++ (piece ++ 10 ∷ []);
+        later = more;
+        parts = parts ∙ simp append_assoc;
+        ends = ends-line (front-longer hears.front piece);
+        few = omega (arith, few, long, ap length all, length-append {A = ℕ});
+        quits_there = rw (lines [], list_any-append quits (line_texts hears.front) _, quit) (or_right _ true refl);
+      })) (rw is.text under.gathered) ended is.why)
 
   -- bytes that end no line are kept, or they are not
   pub rest-kept : {T : Type 0} {here : Stand S B} {listener : Listener} {result : Result T ReadingEnd}
@@ -243,35 +240,29 @@ module _ {S B : Type 0} {quits : List ℕ → Bool} {Leads : Leading S B} where
       → IfErr result (IsNotKept (unmarked here.listener.is_first (here.listener.pending.items ++ bytes)))
       → listener.is_first ≡ here.listener.is_first → listener.answers ≡ here.listener.answers
       → IsHeardAs quits Leads here (stand here.states here.sink listener) bytes result
-  rest-kept {here} {result = Ok done} bytes whole kept stopped is_first answers = record {
-    on = λ first before heard few under.
-        let hears = under.hears in
-        record {
-          said = under.said;
-          hears = rw (kept, is_first) (record {
-            front = hears.front;
-            parts = rw hears.parts (append_assoc hears.front here.listener.pending.items bytes);
-            begins = hears.begins;
-            no_more = no-break-both here.listener.pending.items bytes hears.no_more whole;
-            answers = hears.answers;
-          });
-          gathered = rw answers under.gathered;
-        };
-  }
-  rest-kept {here} {result = Err LongLine} bytes whole kept stopped is_first answers = record {
-    on = λ first before heard few under rest.
-        let hears = under.hears in
-        let piece : List ℕ = here.listener.pending.items ++ bytes in
-        let line = line-too-long piece rest hears.begins (no-break-both _ bytes hears.no_more whole) stopped in
-        let ends = long-line hears (piece ++ rest) (rw hears.parts (simp append_assoc)) (omega (arith, few)) line.1 line.2 in
-        record { said = under.said; ends = ends; left = rw answers under.gathered };
-  }
-  rest-kept {here} {result = Err NoMemory} bytes whole kept stopped is_first answers = record {
-    on = λ first before heard few under rest.
-        let behind : List ℕ = (here.listener.pending.items ++ bytes) ++ rest in
-        let ends = first-lines under.hears behind (rw under.hears.parts (simp append_assoc)) in
-        record { said = under.said; ends = ends; left = rw answers under.gathered };
-  }
+  rest-kept {here} {result = Ok done} bytes whole kept stopped is_first answers = heard-as (λ first before heard few under.
+      let hears = under.hears in
+      record {
+        said = under.said;
+        hears = rw (kept, is_first) (record {
+          front = hears.front;
+          parts = rw hears.parts (append_assoc hears.front here.listener.pending.items bytes);
+          begins = hears.begins;
+          no_more = no-break-both here.listener.pending.items bytes hears.no_more whole;
+          answers = hears.answers;
+        });
+        gathered = rw answers under.gathered;
+      })
+  rest-kept {here} {result = Err LongLine} bytes whole kept stopped is_first answers = heard-as (λ first before heard few under rest.
+      let hears = under.hears in
+      let piece : List ℕ = here.listener.pending.items ++ bytes in
+      let line = line-too-long piece rest hears.begins (no-break-both _ bytes hears.no_more whole) stopped in
+      let ends = long-line hears (piece ++ rest) (rw hears.parts (simp append_assoc)) (omega (arith, few)) line.1 line.2 in
+      record { said = under.said; ends = ends; left = rw answers under.gathered })
+  rest-kept {here} {result = Err NoMemory} bytes whole kept stopped is_first answers = heard-as (λ first before heard few under rest.
+      let behind : List ℕ = (here.listener.pending.items ++ bytes) ++ rest in
+      let ends = first-lines under.hears behind (rw under.hears.parts (simp append_assoc)) in
+      record { said = under.said; ends = ends; left = rw answers under.gathered })
   rest-kept {result = Err ended} bytes whole kept stopped is_first answers = absurd stopped
 
 -- what comes of the rest of a piece comes of the whole
@@ -312,32 +303,26 @@ module _ {S B T : Type 0} {quits : List ℕ → Bool} {Leads : Leading S B} {her
       → Puts {T = Unit {0}} middle now (string_bytes listener.answers) (string_bytes last.answers) (Ok tt)
       → last.pending ≡ listener.pending → last.is_first ≡ listener.is_first
       → IsHeardAs quits Leads here (stand states now last) piece result
-  hears-put {result = Ok done} is put pending is_first = record {
-    on = λ first before heard few under.
-        let so = is.on first before heard few under in
-        record {
-          said = so.said;
-          hears = rw (pending, is_first) so.hears;
-          gathered = put before so.said NoMemory so.gathered;
-        };
-  }
-  hears-put {result = Err ended} is put pending is_first = record {
-    on = λ first before heard few under rest.
-        stops-put (is.on first before heard few under rest) put;
-  }
+  hears-put {result = Ok done} is put pending is_first = heard-as (λ first before heard few under.
+      let so = is.on first before heard few under in
+      record {
+        said = so.said;
+        hears = rw (pending, is_first) so.hears;
+        gathered = put before so.said NoMemory so.gathered;
+      })
+  hears-put {result = Err ended} is put pending is_first = heard-as (λ first before heard few under rest.
+      stops-put (is.on first before heard few under rest) put)
 
   -- or it cannot be, and reading ends
   pub hears-cut : {U : Type 0} {result : Result T ReadingEnd} {failed : ReadingEnd} {whole : List ℕ} (behind : List ℕ)
       → whole ≡ piece ++ behind → IsHeardAs quits Leads here (stand states middle listener) piece result
       → Puts {T = Unit {0}} middle now (string_bytes listener.answers) (string_bytes last.answers) (Err failed)
       → IsHeardAs {T = U} quits Leads here (stand states now last) whole (Err failed)
-  hears-cut {result} behind all is put = record {
-    on = λ first before heard few under rest.
-        let short : length heard + length piece ≤ input_limit =
-        omega (arith, few, ap length all, length-append piece behind) in
-        let so = may-end listener (heard ++ piece) result (is.on first before heard short under) (behind ++ rest) in
-        rw all (simp append_assoc (simp append_assoc at (stops-cut so.1 put)));
-  }
+  hears-cut {result} behind all is put = heard-as (λ first before heard few under rest.
+      let short : length heard + length piece ≤ input_limit =
+      omega (arith, few, ap length all, length-append piece behind) in
+      let so = may-end listener (heard ++ piece) result (is.on first before heard short under) (behind ++ rest) in
+      rw all (simp append_assoc (simp append_assoc at (stops-cut so.1 put))))
 
 -- ---- the end of an input
 

@@ -133,11 +133,15 @@ abbrev pub stand : {S B : Type 0} → S × B → Side → Listener → Stand S B
 stand states sink listener = record { states = states; sink = sink; listener = listener }
 
 -- what comes of a piece between two stands, whatever was heard before it
-pub record IsHeardAs {S B T : Type 0} (quits : List ℕ → Bool) (Leads : Leading S B)
-    (here there : Stand S B) (piece : List ℕ) (result : Result T ReadingEnd) : Type 0 where
-  pub on : (first : S × B) (before : Side) (heard : List ℕ) → length heard + length piece ≤ input_limit
-      → IsUnderWay quits (Since Leads first here.states) before here.sink here.listener heard
-      → Hears quits (Since Leads first there.states) before there.sink there.listener (heard ++ piece) result
+abbrev pub GoesBy : {S B T : Type 0} → (List ℕ → Bool) → Leading S B → Stand S B → Stand S B → List ℕ → Result T ReadingEnd → Type 0
+GoesBy {S} {B} quits Leads here there piece result =
+    (first : S × B) (before : Side) (heard : List ℕ) → length heard + length piece ≤ input_limit
+    → IsUnderWay quits (Since Leads first here.states) before here.sink here.listener heard
+    → Hears quits (Since Leads first there.states) before there.sink there.listener (heard ++ piece) result
+
+pub record IsHeardAs {S B T : Type 0} (quits : List ℕ → Bool) (Leads : Leading S B) (here there : Stand S B) (piece : List ℕ)
+    (result : Result T ReadingEnd) : Type 0 where
+  pub on : GoesBy quits Leads here there piece result
 
 -- how reading has ended
 abbrev pub IsOver : (List ℕ → Bool) → (List (List ℕ) → List ℕ → Type 0) → Reading → Type 0 → Option (List ℕ) → Option (List ℕ) → ReadingEnd → Type 0
