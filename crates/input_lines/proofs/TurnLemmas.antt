@@ -113,31 +113,15 @@ module _ {quits : List ℕ → Bool} {answered : Told} {heard pending said : Lis
         ∙ rw why (append-nil (line_texts hears.front)) in
         record {
           said = said;
+          first = first-lines;
           ends = record { bounded = bounded why; answers = rw front hears.answers };
           left = text;
         }
-    stops-here bounded text LongLine why = record { said = said; ends = long-line why; left = text }
-    stops-here bounded text NoMemory why = record { said = said; ends = first-lines; left = text }
+    stops-here bounded text LongLine why =
+        record { said = said; first = first-lines; ends = long-line why; left = text }
+    stops-here bounded text NoMemory why =
+        record { said = said; first = first-lines; ends = first-lines; left = text }
     stops-here bounded text ended why = absurd why
-
--- what ends on an input has answered its first lines
-first-of-ends : {quits : List ℕ → Bool} {answered : Told} {input said : List ℕ} (ended : ReadingEnd)
-    → EndsOn quits answered input ended said → AreAnsweredFirst quits answered input said
-first-of-ends {quits} {input} Finished ends = record {
-  lines = before_quit quits (line_texts input);
-  later = drop (prefix_len _ (line_texts input)) (line_texts input);
-  lines_are = sym (take-append-drop _ (line_texts input));
-  answers = ends.answers;
-}
-first-of-ends Interrupted ends = absurd ends
-first-of-ends TooMuch ends = absurd ends
-first-of-ends LongLine ends = record {
-  lines = line_texts ends.front;
-  later = ends.long ∷ ends.later;
-  lines_are = ends.lines_are;
-  answers = ends.answers;
-}
-first-of-ends ended ends = ends
 
 -- ---- a piece, line by line
 
@@ -257,12 +241,14 @@ module _ {S B : Type 0} {quits : List ℕ → Bool} {Leads : Leading S B} where
       let hears = under.hears in
       let piece : List ℕ = here.listener.pending.items ++ bytes in
       let line = line-too-long piece rest hears.begins (no-break-both _ bytes hears.no_more whole) stopped in
-      let ends = long-line hears (piece ++ rest) (rw hears.parts (simp append_assoc)) (omega (arith, few)) line.1 line.2 in
-      record { said = under.said; ends = ends; left = rw answers under.gathered })
+      let parts : (heard ++ bytes) ++ rest ≡ hears.front ++ (piece ++ rest) = rw hears.parts (simp append_assoc) in
+      let first = first-lines hears (piece ++ rest) parts in
+      let ends = long-line hears (piece ++ rest) parts (omega (arith, few)) line.1 line.2 in
+      record { said = under.said; first = first; ends = ends; left = rw answers under.gathered })
   rest-kept {here} {result = Err NoMemory} bytes whole kept stopped is_first answers = heard-as (λ first before heard few under rest.
       let behind : List ℕ = (here.listener.pending.items ++ bytes) ++ rest in
       let ends = first-lines under.hears behind (rw under.hears.parts (simp append_assoc)) in
-      record { said = under.said; ends = ends; left = rw answers under.gathered })
+      record { said = under.said; first = ends; ends = ends; left = rw answers under.gathered })
   rest-kept {result = Err ended} bytes whole kept stopped is_first answers = absurd stopped
 
 -- what comes of the rest of a piece comes of the whole
@@ -276,14 +262,15 @@ module _ {quits : List ℕ → Bool} {answered : Told} {before middle now : Side
     {ended : ReadingEnd} (stops : Stops quits answered before middle gathered input ended) where
   -- what is left where reading ended is put
   pub stops-put : Puts {T = Unit {0}} middle now gathered left (Ok tt) → Stops quits answered before now left input ended
-  stops-put put = record { said = stops.said; ends = stops.ends; left = put before stops.said ended stops.left }
+  stops-put put =
+      record { said = stops.said; first = stops.first; ends = stops.ends; left = put before stops.said ended stops.left }
 
   -- or it cannot be
   pub stops-cut : {failed : ReadingEnd} → Puts {T = Unit {0}} middle now gathered left (Err failed)
       → Stops quits answered before now left input failed
   stops-cut put =
       let left = put.1 before stops.said ended stops.left in
-      rw put.0 (record { said = stops.said; ends = first-of-ends ended stops.ends; left = left })
+      rw put.0 (record { said = stops.said; first = stops.first; ends = stops.first; left = left })
 
 -- whatever was heard, reading may end then
 may-end : {T : Type 0} {quits : List ℕ → Bool} {answered : Told} {before now : Side} (listener : Listener) (heard : List ℕ)
@@ -293,7 +280,7 @@ may-end listener heard (Ok done) under rest =
     let hears = under.hears in
     let parts = ap (λ h. h ++ rest) hears.parts ∙ append_assoc hears.front listener.pending.items rest in
     let ends = first-lines hears (listener.pending.items ++ rest) parts in
-    (NoMemory, record { said = under.said; ends = ends; left = under.gathered })
+    (NoMemory, record { said = under.said; first = ends; ends = ends; left = under.gathered })
 may-end listener heard (Err ended) stops rest = (ended, stops rest)
 
 module _ {S B T : Type 0} {quits : List ℕ → Bool} {Leads : Leading S B} {here : Stand S B} {states : S × B}
@@ -339,6 +326,7 @@ ends-silent {quits} {listener} {heard} under few none =
     let all = ap (before_quit quits) lines ∙ quit-never quits (line_texts hears.front) hears.answers.going in
     record {
       said = under.said;
+      first = first-lines hears listener.pending.items hears.parts;
       ends = record { bounded = inl few; answers = rw all hears.answers };
       left = under.gathered;
     }
@@ -354,9 +342,11 @@ module _ {S B : Type 0} {quits : List ℕ → Bool} {Leads : Leading S B} {here 
       let hears = under.hears in
       let answers = answered-on is hears.answers in
       let last = rw some at (line-last hears.begins listener.pending.items hears.no_more) in
-      let all = ap (before_quit quits) (ap line_texts hears.parts ∙ last) ∙ quit-never quits _ answers.going in
+      let lines = ap line_texts hears.parts ∙ last in
+      let all = ap (before_quit quits) lines ∙ quit-never quits _ answers.going in
       record {
         said = under.said ++ is.added;
+        first = record { lines = _; later = []; lines_are = lines ∙ sym (append-nil _); answers = answers };
         ends = record { bounded = inl few; answers = rw all answers };
         left = gathered-more is.added under.gathered is.text;
       }

@@ -5,7 +5,7 @@ use Rattle.outside.specs.Sink.{Appends, AppendsFront}
 use Rattle.outside.specs.Source.{Takes}
 use Rattle.text_lines.specs.Lines.{line_texts}
 use Rattle.input_lines.specs.Answers.{HasNoBreak, LeadsOn, line_limit}
-use Rattle.input_lines.specs.Ends.{AreAnswered, EndsOn, HasEnded, IsWritten, Reading}
+use Rattle.input_lines.specs.Ends.{AreAnswered, AreAnsweredFirst, EndsOn, HasEnded, IsWritten, Reading}
 use Rattle.input_lines.specs.Laws.{Told}
 use Rattle.input_lines.specs.Lines.{IsShort, input_limit, piece_text}
 use Rattle.input_lines.specs.declared.reading_end.ReadingEnd.{ReadingEnd}
@@ -107,9 +107,10 @@ Puts middle now gathered left (Ok done) =
 Puts middle now gathered left (Err failed) = (failed ≡ SinkFailed)
     × ((before : Side) (said : List ℕ) (ended : ReadingEnd) → IsLeft ended before middle gathered said → IsCut before now left said)
 
--- reading ends so on an input, and this is left of what was said
+-- reading ends so on an input, whose first lines were answered, and this is left of what was said
 pub record Stops (quits : List ℕ → Bool) (answered : Told) (before now : Side) (gathered input : List ℕ) (ended : ReadingEnd) : Type 0 where
   pub said : List ℕ
+  pub first : AreAnsweredFirst quits answered input said
   pub ends : EndsOn quits answered input ended said
   pub left : IsLeft ended before now gathered said
 

@@ -231,6 +231,7 @@ impl Listener {
 }
 
 /// Answers one line, if it is not too long.
+#[tactic(auto, unfolding(crate::specs::Answers::AnswersLine))]
 fn answer_line<B, R: Responder<B>>(
     alloc: Global,
     responder: &mut R,

@@ -9,7 +9,6 @@ loop-taken-init g c =
     let new = c.new-listener.ensures in record {
       few = omega arith;
       room = omega (arith, c.requires.room);
-      no_more = rw new.pending tt;
       by_now = taken-none (g.met.R.Responder.starts c.args.responder.now c.args.beside.now) new.pending new.first new.answers;
     }
 
@@ -22,7 +21,6 @@ loop-taken-preserved g c =
     record {
       few = omega (arith, turn.few, short);
       room = omega (arith, l.invariant.room, turn.room);
-      no_more = turn.no_more;
       by_now = turn.comes _ _ _ l.taken short l.invariant.by_now;
     }
 

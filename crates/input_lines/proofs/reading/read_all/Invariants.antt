@@ -1,6 +1,5 @@
 -- What was taken by now was heard.
 use Rattle.std.proofs.Common.{◌≤◌, ◌+◌, ◌-◌}
-use Rattle.input_lines.specs.Answers.{HasNoBreak}
 use Rattle.input_lines.specs.Lines.{input_limit}
 use Rattle.input_lines.specs.Turns.{IsTaken, Since, side}
 use Rattle.input_lines.proofs.reading.read_all.Given as goal
@@ -9,7 +8,6 @@ abbrev pub invariant-loop-taken : goal.invariant-loop-taken
 invariant-loop-taken g l = record {
   few : l.taken ≤ input_limit;
   room : input_limit + 1 ≤ g.R.Responder.room l.responder + l.taken;
-  no_more : HasNoBreak l.listener.pending.items;
   by_now : IsTaken g.R.Responder.quits (Since g.R.Responder.Leads (l.fn.responder, l.fn.beside) (l.responder, l.beside))
       (side (g.K.Sink.written l.fn.out) (g.K.Sink.faults l.fn.out)) (side (g.K.Sink.written l.out) (g.K.Sink.faults l.out)) l.listener
       (side (g.S.Source.left l.fn.input) (g.S.Source.faults l.fn.input)) (side (g.S.Source.left l.input) (g.S.Source.faults l.input)) l.taken;

@@ -6,22 +6,12 @@ use Rattle.input_lines.proofs.TurnLemmas.{hears-cut, hears-put, hears-then, line
 use Rattle.input_lines.proofs.listener.Listener.hear_lines.Goals as goal
 
 pub loop-bytes-init : goal.loop-bytes-init
-loop-bytes-init g c = record {
-  no_more = c.requires.no_more;
-  room = omega arith;
-  count = omega arith;
-  so_far = λ there result is. is;
-}
+loop-bytes-init g c =
+    record { no_more = c.requires.no_more; room = omega arith; count = omega arith; so_far = λ there result is. is }
 
-pub end_line-requires : goal.end_line-requires
-end_line-requires g c =
-    let l = c.loop-bytes in
-    let part = c.in-Some in
-    let has = l.invariant.room in
-    record {
-      whole = no-break-both l.self.pending.items part.bytes.now l.invariant.no_more part.ensures.whole;
-      room = omega (arith, has, c.requires.room, ap length part.ensures.some, length-append part.bytes.now (10 ∷ part.behind.now));
-    }
+pub end_line-requires-clause-whole : goal.end_line-requires-clause-whole
+end_line-requires-clause-whole g c =
+    no-break-both c.loop-bytes.self.pending.items c.in-Some.bytes.now c.loop-bytes.invariant.no_more c.in-Some.ensures.whole
 
 pub returns-in_err-end_line-clause-hears : goal.returns-in_err-end_line-clause-hears
 returns-in_err-end_line-clause-hears g c =
