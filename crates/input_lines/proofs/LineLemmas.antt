@@ -112,17 +112,7 @@ onto-append byte (piece ∷ pieces) others some = refl
 split-feed : (before more : List ℕ)
     → slice_split is_line_feed (before ++ 10 ∷ more) ≡ slice_split is_line_feed before ++ slice_split is_line_feed more
 split-feed [] more = refl
-split-feed (byte ∷ before) more =
-    ap (λ pieces. cond (is_line_feed byte) ([] ∷ pieces) (onto_first byte pieces)) (split-feed before more)
-    ∙ by (is_line_feed byte) (slice_split is_line_feed before) (omega (arith, length-slice_split is_line_feed before))
-  where
-    later : List (List ℕ)
-    later = slice_split is_line_feed more
-
-    by : (test : Bool) (pieces : List (List ℕ)) → 0 < length pieces → cond test ([] ∷ (pieces ++ later)) (onto_first byte (pieces ++ later))
-        ≡ cond test ([] ∷ pieces) (onto_first byte pieces) ++ later
-    by true pieces some = refl
-    by false pieces some = onto-append byte pieces later some
+split-feed (byte ∷ before) more = grind (arith, split-feed before more, onto-append, length-slice_split)
 
 texts-append : (pieces others : List (List ℕ)) → 0 < length others
     → texts_of (pieces ++ others) ≡ map strip_carriage_return pieces ++ texts_of others

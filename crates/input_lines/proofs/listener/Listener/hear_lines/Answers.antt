@@ -26,7 +26,8 @@ returns-in_err-put_many-clause-hears g c =
     let line = c.in_ok-end_line.ensures in
     let p = err_from_is_err_and c.from_residual-in_err-put_many.result c.from_residual-in_err-put_many.ensures.1 in
     rw (p.1, p.2) (c.loop-bytes.invariant.so_far _ _
-    (hears-cut part.behind.now (part.ensures.some ∙ sym (append_assoc part.bytes.now (10 ∷ []) part.behind.now)) (line-on c.end_line.new.self part.bytes.now part.ensures.whole line.turns line.empty line.later)
+    (hears-cut part.behind.now (part.ensures.some ∙ sym (append_assoc part.bytes.now (10 ∷ []) part.behind.now))
+    (line-on c.end_line.new.self part.bytes.now part.ensures.whole line.turns line.empty line.later)
     c.in_err-put_many.ensures.puts))
 
 pub loop-bytes-preserved : goal.loop-bytes-preserved

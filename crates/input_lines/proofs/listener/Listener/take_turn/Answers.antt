@@ -16,25 +16,27 @@ returns-in-Ok-eq0-clause-comes g c = λ first before begun taken few is.
 pub returns-in_err-hear-in-Ok-clause-comes : goal.returns-in_err-hear-in-Ok-clause-comes
 returns-in_err-hear-in-Ok-clause-comes g c = λ first before begun taken few is.
     let more = take c.in-Ok.count c.read.new.into in
-    let short : length is.heard + length more ≤ input_limit = omega (arith, few, is.counted, length-take c.in-Ok.count c.read.new.into, c.read.auto.into) in
     let all = takes-more begun.bytes _ (g.S.Source.left c.read.new.self) is.heard more is.takes c.in-Ok.ensures.taken in
     let given = takes-front begun.bytes _ (is.heard ++ more) all in
     let heard = c.in_err-hear-in-Ok.ensures in
     let p = err_from_is_err_and c.from_residual.result c.from_residual.ensures.1 in
-    rw (p.1, p.2) (over-stops _ (heard.hears.on first before is.heard short is.under given.0) heard.empty given.1)
+    rw (p.1, p.2) (over-stops _ (heard.hears.on first before is.heard
+    (omega (arith, few, is.counted, length-take c.in-Ok.count c.read.new.into, c.read.auto.into)) is.under given.0) heard.empty given.1)
 
 pub returns-in_ok-hear-in-Ok-clause-comes : goal.returns-in_ok-hear-in-Ok-clause-comes
 returns-in_ok-hear-in-Ok-clause-comes g c = λ first before begun taken few is.
     let more = take c.in-Ok.count c.read.new.into in
-    let long : length more ≡ c.in-Ok.count = omega (arith, length-take c.in-Ok.count c.read.new.into, c.in-Ok.ensures.bounded) in
-    let short : length is.heard + length more ≤ input_limit = omega (arith, few, is.counted, length-take c.in-Ok.count c.read.new.into, c.read.auto.into) in
+    let long : length more ≡ c.in-Ok.count =
+    omega (arith, length-take c.in-Ok.count c.read.new.into, c.in-Ok.ensures.bounded) in
+    let heard = c.in_ok-hear-in-Ok.ensures in
     record {
       heard = is.heard ++ more;
       counted = omega (arith, is.counted, long, length-append is.heard more);
       takes = takes-more begun.bytes _ (g.S.Source.left c.read.new.self) is.heard more is.takes c.in-Ok.ensures.taken;
       since = omega (arith, is.since, c.in-Ok.ensures.count);
-      put = c.in_ok-hear-in-Ok.ensures.empty;
-      under = c.in_ok-hear-in-Ok.ensures.hears.on first before is.heard short is.under;
+      put = heard.empty;
+      under = heard.hears.on first before is.heard
+          (omega (arith, few, is.counted, length-take c.in-Ok.count c.read.new.into, c.read.auto.into)) is.under;
     }
 
 pub returns-in-Err-clause-comes : goal.returns-in-Err-clause-comes
