@@ -46,8 +46,7 @@ quit-within {quits} {input} {lines} early whole = elim early.ends [
       let all : lines ≡ line_texts early.front ++ raw_lines within.0 =
       whole.lines_are ∙ ap line_texts within.1 ∙ lines-behind within.0 (behind before)
       ∙ ap (λ f. line_texts f ++ raw_lines within.0) (sym is) in
-      ap (list_any quits) all ∙ list_any-append quits (line_texts early.front) (raw_lines within.0)
-      ∙ ap (λ b. b || list_any quits (raw_lines within.0)) early.quits_there
+      rw (all, list_any-append quits (line_texts early.front) (raw_lines within.0), early.quits_there)
 ]
 
 -- an input of which not too much is read has not too many bytes

@@ -128,9 +128,7 @@ raw-feed before more =
     ∙ texts-append (slice_split is_line_feed before) (slice_split is_line_feed more) (omega (arith, length-slice_split is_line_feed more))
 
 raw-behind : (before more : List ℕ) → raw_lines (before ++ 10 ∷ more) ≡ raw_lines (before ++ 10 ∷ []) ++ raw_lines more
-raw-behind before more =
-    let front : raw_lines (before ++ 10 ∷ []) ≡ map strip_carriage_return (slice_split is_line_feed before) = raw-feed before [] ∙ append-nil _ in
-    raw-feed before more ∙ ap (λ texts. texts ++ raw_lines more) (sym front)
+raw-behind before more = rw (raw-feed before more, raw-feed before [], append-nil)
 
 -- bytes without a line feed are one line, if there are any
 raw-last : (piece : List ℕ) → HasNoBreak piece
@@ -140,8 +138,8 @@ raw-last piece whole = ap texts_of (slice_split_none is_line_feed piece (no-brea
 -- a line feed behind them ends the line
 raw-first : (piece more : List ℕ) → HasNoBreak piece
     → raw_lines (piece ++ 10 ∷ more) ≡ strip_carriage_return piece ∷ raw_lines more
-raw-first piece more whole = raw-feed piece more
-    ∙ ap (λ pieces. map strip_carriage_return pieces ++ raw_lines more) (slice_split_none is_line_feed piece (no-break-none piece whole))
+raw-first piece more whole =
+    rw (raw-feed piece more, slice_split_none is_line_feed piece (no-break-none piece whole))
 
 -- ---- a mark at the very start
 
@@ -216,10 +214,11 @@ module _ {front : List ℕ} {is_first : Bool} (begins : IsFront front is_first) 
   -- a piece with a line feed behind it is the next line, whatever follows
   pub line-then : (more : List ℕ)
       → line_texts (front ++ (piece ++ 10 ∷ more)) ≡ line_texts front ++ piece_text is_first piece ∷ raw_lines more
-  line-then more =
-      lines-behind (piece ++ 10 ∷ more) begins
-      ∙ ap (λ rest. line_texts front ++ raw_lines rest) (unmarked-feed is_first piece more)
-      ∙ ap (λ texts. line_texts front ++ texts) (raw-first (unmarked is_first piece) more (unmarked-no-break is_first piece whole))
+  line-then more = rw (
+    lines-behind (piece ++ 10 ∷ more) begins,
+    unmarked-feed is_first piece more,
+    raw-first (unmarked is_first piece) more (unmarked-no-break is_first piece whole),
+  )
 
   -- at the end of the input it is one line more, unless nothing is left of it without a mark
   pub line-last : line_texts (front ++ piece)
@@ -267,9 +266,7 @@ pub quit-later : (quits : List ℕ → Bool) (lines later : List (List ℕ)) →
 quit-later quits [] later none = refl
 quit-later quits (line ∷ lines) later none =
     let parts = or_parts (quits line) (list_any quits lines) none in
-    take_while-cons (λ line. not (quits line)) line (lines ++ later)
-    ∙ ap (λ stop. cond (not stop) (line ∷ before_quit quits (lines ++ later)) []) parts.0
-    ∙ ap (λ rest. line ∷ rest) (quit-later quits lines later parts.1)
+    rw (take_while-cons (λ line. not (quits line)) line (lines ++ later), parts.0, quit-later quits lines later parts.1)
 
 -- all lines stand before it where none is it
 pub quit-never : (quits : List ℕ → Bool) (lines : List (List ℕ)) → list_any quits lines ≡ false
