@@ -162,13 +162,10 @@ module _ {S B : Type 0} {quits : List ℕ → Bool} {Leads : Leading S B} where
       → IsHeardAs {T = Unit {0}} quits Leads here middle front (Ok tt) → IsHeardAs quits Leads middle there rest result
       → IsHeardAs quits Leads here there (front ++ rest) result
   hears-then {there} {front} {rest} {result} one two = heard-as (λ first before heard few under.
-      let long = length-append front rest in
-      let short : length heard + length front ≤ input_limit = omega (arith, few, long) in
-      let enough : length (heard ++ front) + length rest ≤ input_limit =
-      omega (arith, few, long, length-append heard front) in
       let Heard = λ (h : List ℕ). Hears quits (Since Leads first there.states) before there.sink there.listener h result in
       subst Heard (append_assoc heard front rest)
-      (two.on first before (heard ++ front) enough (one.on first before heard short under)))
+      (two.on first before (heard ++ front) (omega (arith, few, length-append front rest, length-append heard front))
+      (one.on first before heard (omega (arith, few, length-append front rest)) under)))
 
   -- a line was answered
   pub line-on : {here : Stand S B} {there : S × B} (listener : Listener) (bytes : List ℕ) → HasNoBreak bytes
@@ -306,9 +303,8 @@ module _ {S B T : Type 0} {quits : List ℕ → Bool} {Leads : Leading S B} {her
       → Puts {T = Unit {0}} middle now (string_bytes listener.answers) (string_bytes last.answers) (Err failed)
       → IsHeardAs {T = U} quits Leads here (stand states now last) whole (Err failed)
   hears-cut {result} behind all is put = heard-as (λ first before heard few under rest.
-      let short : length heard + length piece ≤ input_limit =
-      omega (arith, few, ap length all, length-append piece behind) in
-      let so = may-end listener (heard ++ piece) result (is.on first before heard short under) (behind ++ rest) in
+      let so = may-end listener (heard ++ piece) result
+      (is.on first before heard (omega (arith, few, ap length all, length-append piece behind)) under) (behind ++ rest) in
       rw all (simp append_assoc (simp append_assoc at (stops-cut so.1 put))))
 
 -- ---- the end of an input
@@ -321,8 +317,7 @@ pub ends-silent : {quits : List ℕ → Bool} {answered : Told} {before now : Si
 ends-silent {quits} {listener} {heard} under few none =
     let hears = under.hears in
     let last = rw none at (line-last hears.begins listener.pending.items hears.no_more) in
-    let lines : line_texts heard ≡ line_texts hears.front =
-    ap line_texts hears.parts ∙ last ∙ append-nil (line_texts hears.front) in
+    let lines = ap line_texts hears.parts ∙ last ∙ append-nil (line_texts hears.front) in
     let all = ap (before_quit quits) lines ∙ quit-never quits (line_texts hears.front) hears.answers.going in
     record {
       said = under.said;
