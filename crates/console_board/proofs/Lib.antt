@@ -1,5 +1,4 @@
-pub mod ConsoleEdits
-pub mod ConsoleChecks
+pub mod ConsoleCommands
 pub mod ConsoleLoads
 pub mod ConsoleSettling
 pub mod ConsoleViews

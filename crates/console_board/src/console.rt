@@ -3,13 +3,13 @@
 ghost use Rattle.std.specs.Prelude.{◌≡◌, ◌+◌, ◌≤◌, ◌^◌, [], ◌∷◌, None, IfOk};
 ghost use Rattle.console_lang.specs.declared.command.Command.{Command};
 ghost use Rattle.edit_core.specs.Runs.{furthest_point};
+ghost use Rattle.edit_core.specs.Seen.{IsValidBoard};
 ghost use Rattle.console_board.specs.Boards.{board_after, console_of};
 ghost use Rattle.console_board.specs.Consoles.{opened};
 ghost use Rattle.console_board.specs.Transcripts.{Does, HasWholeText, failures_in};
 
 mod answer;
-mod checks;
-mod edits;
+mod events;
 mod loading;
 mod settling;
 mod showing;
@@ -68,6 +68,13 @@ impl<J: Judge + Drop> Console<J> {
             self.board = board;
         }
     }
+
+    /// Every board is valid.
+    fn board_is_valid(&self)
+        ensures { IsValidBoard self.now.board }
+    {
+        let _judge = self.board.judge();
+    }
 }
 
 impl Console<Speller> {
@@ -89,21 +96,11 @@ impl Console<Speller> {
         ensures count { F.faults files.old ≤ F.faults files.new }
     {
         match command {
-            Command::Ins { place, text } => self.insert(alloc, place, text),
-            Command::Put { place, text } => self.replace(alloc, place, text),
-            Command::Sub {
-                place,
-                from,
-                to,
-                text,
-            } => self.substitute(alloc, place, from, to, text),
-            Command::Del { place } => self.remove(alloc, place),
             Command::Load { aff, dic } => self.load(alloc, files, aff.as_str(), dic.as_str()),
-            Command::Stop { place } => self.stop(alloc, place),
-            Command::Ask { place } => self.ask(alloc, place),
             Command::Show => self.show(alloc),
             Command::Settle => self.settle(alloc),
             Command::Quit => unreachable!(),
+            command => self.carry_out(alloc, command),
         }
     }
 }

@@ -6,7 +6,7 @@ ghost use Rattle.console_board.specs.Boards.{board_after, console_of};
 ghost use Rattle.console_board.specs.Consoles.{fault_reply, loaded};
 ghost use Rattle.console_board.specs.Transcripts.{Is, Loads, failures_in};
 
-use super::settling::made;
+use super::answer::made;
 use super::{Console, Response};
 use console_lang::Reply;
 use dictionary_swap::LoadFault;

@@ -1,19 +1,17 @@
 //! How a console checks all that is to be checked.
 
-ghost use Rattle.std.specs.Prelude.{◌≡◌, ◌+◌, ◌<◌, ◌≤◌, ◌^◌, None, false, length, set, IfOk};
+ghost use Rattle.std.specs.Prelude.{◌≡◌, ◌+◌, ◌<◌, ◌≤◌, ◌^◌, false, length, set, IfOk};
 ghost use Rattle.std.specs.Arc.{arc_value};
-ghost use Rattle.edit_core.specs.Events.{event_of};
 ghost use Rattle.edit_core.specs.Runs.{furthest_point};
-ghost use Rattle.edit_core.specs.Steps.{IsFit, Step, first_refusal};
 ghost use Rattle.console_board.specs.Boards.{board_after, console_of};
 ghost use Rattle.console_board.specs.Consoles.{settled, settled_stand, stand_at};
 ghost use Rattle.console_board.specs.Transcripts.{Is, is_no_files};
 
+use super::answer::made;
 use super::{Console, Response};
 use console_lang::Reply;
 use edit_core::{
-    Board, Event, Refusal, Shown, checks_are_fit, events_are_decided, ids_name_paragraphs,
-    runs_are_short,
+    Board, Event, Shown, checks_are_fit, events_are_decided, ids_name_paragraphs, runs_are_short,
 };
 use lists::NoMemory;
 use mark_types::Judge;
@@ -104,23 +102,6 @@ fn settled_at<J: Judge + Drop>(
         checked: check_all(alloc, board.judge(), view.text)?,
     };
     Ok(Some(made(alloc, board, event)?))
-}
-
-/// The board that an event makes. The event is one that is not refused.
-pub(super) fn made<J: Judge + Drop>(
-    alloc: Global,
-    board: &Board<J>,
-    event: Event<J>,
-) -> Result<Board<J>, NoMemory>
-    requires fit { IsFit board.now (event_of J.lexicon event) }
-    requires not_refused { first_refusal board.now (event_of J.lexicon event) ≡ None }
-    ensures { IfOk result (λ next. Step board.now (event_of J.lexicon event) next) }
-{
-    match board.next(alloc, event) {
-        Ok(next) => Ok(next),
-        Err(Refusal::NoMemory) => Err(NoMemory),
-        Err(_) => unreachable!(),
-    }
 }
 
 /// The check of all words of a text.

@@ -1,9 +1,10 @@
 //! What a console shows.
 
-ghost use Rattle.std.specs.Prelude.{◌≡◌, ◌<◌, false, None, Some, length, slice_get, IfOk};
-ghost use Rattle.edit_core.specs.Seen.{IsValidBoard};
+ghost use Rattle.std.specs.Prelude.{◌≡◌, ◌<◌, false, None, Some, length, map, slice_get, IfOk};
+ghost use Rattle.edit_core.specs.Views.{reply_of};
+ghost use Rattle.console_board.specs.BoardAnswers.{look_reply, shown_para};
 ghost use Rattle.console_board.specs.Boards.{console_of};
-ghost use Rattle.console_board.specs.Consoles.{shown, shown_from};
+ghost use Rattle.console_board.specs.Consoles.{shown};
 ghost use Rattle.console_board.specs.Transcripts.{is_no_files};
 
 use super::{Console, Response};
@@ -16,6 +17,7 @@ use std::alloc::Global;
 impl<J: Judge + Drop> Console<J> {
     /// `show`: the versions, and for each text its marks, or that it is not checked.
     pub(super) fn show(&self, alloc: Global) -> Result<Response<J>, NoMemory>
+        ensures look { IfOk result (λ response. response.reply ≡ look_reply self.now.board) }
         ensures does { IfOk result (λ response. response.reply ≡ (shown (console_of self.now.board)).reply) }
         ensures stays { IfOk result (λ response. response.next ≡ None) }
         ensures files { IfOk result (λ response. is_no_files response.reply ≡ false) }
@@ -36,8 +38,7 @@ impl<J: Judge + Drop> Console<J> {
     /// What is shown of the text with a place, from 0.
     fn shown_at(&self, alloc: Global, place: usize) -> Result<ShownPara, NoMemory>
         requires { place < length self.now.board.paragraphs }
-        ensures { IfOk result (λ para. let console = console_of self.now.board in
-            slice_get (shown_from console 1 console.stands) place ≡ Some para) }
+        ensures { IfOk result (λ para. slice_get (map shown_para (reply_of self.now.board).shown) place ≡ Some para) }
     {
         let Some(view) = self.board.para(place) else {
             unreachable!()
@@ -46,12 +47,5 @@ impl<J: Judge + Drop> Console<J> {
             Shown::Marks(marks) => Ok(ShownPara::Finished(marks.copy(alloc)?)),
             Shown::Pending { .. } => Ok(ShownPara::Pending),
         }
-    }
-
-    /// Every board is valid.
-    pub(super) fn board_is_valid(&self)
-        ensures { IsValidBoard self.now.board }
-    {
-        let _judge = self.board.judge();
     }
 }

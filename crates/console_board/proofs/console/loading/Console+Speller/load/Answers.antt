@@ -2,7 +2,7 @@
 use Rattle.std.proofs.Common.{◌∙◌, ap}
 use Rattle.console_board.specs.Boards.{board_after, console_of}
 use Rattle.console_board.proofs.ConsoleLoads.{faults-load, loads-read}
-use Rattle.console_board.proofs.ConsoleEdits.{if-ok}
+use Rattle.console_board.proofs.ConsoleCommands.{if-ok}
 use Rattle.console_board.proofs.console.loading.Console+Speller.load.Goals as goal
 
 pub returns-in-Ok-clause-does : goal.returns-in-Ok-clause-does
