@@ -1,17 +1,18 @@
 -- A command does what its event makes of the board, and each refusal of such an event has a reply.
-use Rattle.std.proofs.Common.{◌≡◌, ◌∙◌, inl, inr, refl, sym, ap, subst, ℕ, zero, suc, ◌+◌, ◌-◌, ◌*◌, ◌<◌, ◌≤◌, ◌^◌, ◌==◌, ◌&&◌, ◌||◌, Bool, true, false, cond, not, List, [], ◌∷◌, ◌++◌, length, map, set, take, drop, get_or, position, slice_get, ltb, leb, unwrap_or, Option, None, Some, option_and_then, Result, Ok, Err, IfOk, append-nil, drop-cons, arith}
+use Rattle.std.proofs.Common.{◌≡◌, ◌∙◌, inl, inr, refl, sym, ap, subst, ℕ, zero, suc, ◌+◌, ◌-◌, ◌*◌, ◌<◌, ◌≤◌, ◌^◌, ◌==◌, Bool, true, false, cond, List, [], ◌∷◌, ◌++◌, length, map, set, take, drop, get_or, position, slice_get, ltb, leb, Option, None, Some, Result, Ok, Err, IfOk, append-nil, arith}
 use Rattle.std.proofs.Math.Seq.{drop-length}
-use Rattle.std.specs.List.{count_by, insert, position_or_len, remove, zip}
-use Rattle.std.specs.Option.{is_some, option_map, option_map_or, option_or}
+use Rattle.std.specs.List.{count_by, find, insert, position_or_len, remove, zip}
+use Rattle.std.specs.Option.{option_map, option_map_or, option_or}
 use Rattle.std.specs.Str.{IsUtf8}
-use Rattle.std.proofs.lemmas.Bool.{and_from, and_parts, eq-eqb, eqb-true, false≢true, le-leb, leb-true, lt-ltb}
+use Rattle.std.proofs.lemmas.Bool.{eq-eqb, eqb-true, false≢true, leb-true, lt-ltb}
 use Rattle.std.proofs.lemmas.Bool.Decides.{nat_tests}
+use Rattle.std.proofs.lemmas.Grind.{common_steps}
 use Rattle.std.proofs.lemmas.List.{drop-map, length-map, map-append, map-set, set_split, take-append-drop, take-map}
 use Rattle.std.proofs.lemmas.List.Edits.{insert_end}
 use Rattle.std.proofs.lemmas.List.Elements.{All-from_recursion}
 use Rattle.std.proofs.lemmas.List.Folds.{find_at}
 use Rattle.std.proofs.lemmas.List.Quantifiers.{position-Some}
-use Rattle.std.proofs.lemmas.Option.{cond_some, get_or_from_slice_get, none-some, option_and_then_some, same_Some, slice_get-get_or, slice_get-map, slice_get_past, slice_get_within}
+use Rattle.std.proofs.lemmas.Option.{cond_some, gets, none-some, option_and_then_some, same_Some, slice_get-get_or, slice_get-map, slice_get_past, slice_get_within}
 use Rattle.std.proofs.lemmas.Str.{IsCharBoundary-start}
 use Rattle.outside.specs.Files.{Folder}
 use Rattle.console_lang.specs.declared.command.Command.{Command}
@@ -19,7 +20,7 @@ use Rattle.console_lang.specs.declared.command.Command.TheVariants.{Ins, Put, Su
 use Rattle.console_lang.specs.declared.reply.Reply.{Reply}
 use Rattle.console_lang.specs.declared.reply.Reply.TheVariants.{Done, NoPlace, NoBadSpan, NoTooLong, NoFull, NoFinished, NoParked, NoNotParked}
 use Rattle.paragraph_text.specs.Paragraphs.{Paragraph, HasNoBreak}
-use Rattle.paragraph_text.specs.Edits.{Applies, BeginsWith, bad_span, behind, break_in, entry_refusal, first_refusal as edit_refusal, full, gone_before, is_edge, is_span, splice_refusal, spliced, too_long, unless as unless_edit, with_id}
+use Rattle.paragraph_text.specs.Edits.{Applies, BeginsWith, behind, break_in, first_refusal as edit_refusal, gone_before, is_span, spliced, unless as unless_edit, with_id}
 use Rattle.paragraph_text.specs.declared.edits.Edit.{Edit}
 use Rattle.paragraph_text.specs.declared.edits.Edit.TheVariants.{Insert, Remove, Replace}
 use Rattle.paragraph_text.specs.declared.edits.EditRefusal.{EditRefusal}
@@ -27,14 +28,14 @@ use Rattle.paragraph_text.specs.declared.edits.EditRefusal.TheVariants as edits
 use Rattle.edit_core.specs.Events.{SeenEvent, AnEdit, AFinish, APark, AnAsk}
 use Rattle.edit_core.specs.Runs.{furthest_point, is_held, is_waiting}
 use Rattle.edit_core.specs.Seen.{Seen, IsValidBoard}
-use Rattle.edit_core.specs.Steps.{IsAt, IsDecided, IsFit, Makes, Step, event_refusal, first_refusal, found, is_open, kept_after, not_parked, place_of, refusal_of, settled, unless}
+use Rattle.edit_core.specs.Steps.{IsAt, IsDecided, IsFit, Makes, Moves, Step, event_refusal, first_refusal, found, kept_after, not_parked, place_of, refusal_of, settled, unless}
 use Rattle.edit_core.specs.declared.refusal.Refusal.{Refusal}
 use Rattle.edit_core.specs.declared.refusal.Refusal.TheVariants.{Gone, Spent}
 use Rattle.edit_core.specs.declared.state.Standing.{Standing}
 use Rattle.edit_core.specs.declared.state.Standing.TheVariants as standing
-use Rattle.console_board.specs.BoardAnswers.{HasReply, IsAnswered, IsAsked, IsTaken, IsWholeAt, PutsWhole, event_for, gap_at, names_place, paragraph_at, reply_for}
+use Rattle.console_board.specs.BoardAnswers.{HasReply, IsAnswered, IsAsked, IsWholeAt, PutsWhole, event_for, gap_at, names_place, paragraph_at, reply_for}
 use Rattle.console_board.specs.Boards.{console_of, stand_of}
-use Rattle.console_board.specs.Consoles.{Console, Outcome, Stand, Waiting, asked_from, at_place, index_of, insert_at, inserted, remove_at, replace_at, splice_at, stand_at, stopped_from, text_at}
+use Rattle.console_board.specs.Consoles.{Console, Outcome, Stand, Waiting, asked_from, at_place, index_of, inserted, remove_at, replace_at, splice_at, stand_at, stopped_from, text_at}
 use Rattle.console_board.specs.Transcripts.{Does, HasWholeText, Is}
 
 -- what follows of a value, if there is one
@@ -50,63 +51,29 @@ mapped f None y is goes = absurd (none-some y is)
 mapped f (Some x) y is goes = goes x refl (same_Some (f x) y is)
 
 unmapped : {X Y : Type 0} (f : X → Y) (o : Option X) → option_map f o ≡ None → o ≡ None
-unmapped f None is = refl
-unmapped f (Some x) is = absurd (none-some (f x) (sym is))
+unmapped f o is = grind arith
 
 -- ---- places
 
--- a place that is one of so many has an index
-index-made : (place count index : ℕ) → place ≡ index + 1 → index < count
-    → index_of place count ≡ Some index
-index-made place count index is within =
-    let low : 1 ≤ place = omega arith in
-    let high : place ≤ count = omega arith in
-    let same : place - 1 ≡ index = omega arith in
-    rw (le-leb 1 place low, le-leb place count high) (ap (λ n. Some n) same)
-
 index-within : (place count index : ℕ) → index_of place count ≡ Some index → index < count
-index-within place count index is =
-    let made = cond_some (leb 1 place && leb place count) (place - 1) index is in
-    let both = and_parts (leb 1 place) (leb place count) made.0 in
-    omega (arith, made.1, leb-true 1 place both.0, leb-true place count both.1)
+index-within place count index is = grind (arith, nat_tests)
 
 pub paragraph-made : (board : Seen) (place index : ℕ) (paragraph : Paragraph) → place ≡ index + 1
     → slice_get board.paragraphs index ≡ Some paragraph → paragraph_at board place ≡ Some paragraph
-paragraph-made board place index paragraph is here =
-    let within = slice_get_within board.paragraphs index paragraph here in
-    rw (index-made place (length board.paragraphs) index is within) here
+paragraph-made board place index paragraph is here = grind (arith, nat_tests, gets)
 
 -- where there is no paragraph, the place has no index
-not-within : {X : Type 0} (xs : List X) (k : ℕ) → slice_get xs k ≡ None → length xs ≤ k
-not-within [] k is = omega arith
-not-within (x ∷ xs) zero is = absurd (none-some x (sym is))
-not-within (x ∷ xs) (suc k) is = omega (arith, not-within xs k is)
-
 no-index : (board : Seen) (place : ℕ) → paragraph_at board place ≡ None
     → index_of place (length board.paragraphs) ≡ None
-no-index board place none = by (index_of place (length board.paragraphs)) refl none
-  where
-    by : (found : Option ℕ) → index_of place (length board.paragraphs) ≡ found
-        → option_and_then (slice_get board.paragraphs) found ≡ None → found ≡ None
-    by None is none = refl
-    by (Some index) is none =
-        absurd (omega (arith, index-within place _ index is, not-within board.paragraphs index none))
+no-index board place none = grind (arith, nat_tests, gets)
 
--- ---- a text in UTF-8 is whole characters
-
-edge-start : (text : List ℕ) → IsUtf8 text → is_edge text 0 ≡ true
-edge-start [] utf8 = refl
-edge-start (byte ∷ rest) utf8 =
-    let begins : 128 ≤ byte → 192 ≤ byte = (IsCharBoundary-start (byte ∷ rest) utf8).1 (omega arith) in
-    grind (arith, nat_tests)
-
-edge-end : (text : List ℕ) → is_edge text (length text) ≡ true
-edge-end text =
-    rw (slice_get_past text (length text) (omega arith)) (eq-eqb (length text) (length text) refl)
-
+-- a text in UTF-8 is whole characters
 whole-text : (text : List ℕ) → IsUtf8 text → is_span text 0 (length text) ≡ true
-whole-text text utf8 =
-    rw (le-leb 0 (length text) (omega arith), edge-start text utf8) (edge-end text)
+whole-text [] utf8 = refl
+whole-text (byte ∷ rest) utf8 =
+    let begins : 128 ≤ byte → 192 ≤ byte =
+    (IsCharBoundary-start (byte ∷ rest) utf8).1 (omega arith) in
+    grind (arith, nat_tests, slice_get_past)
 
 pub whole-at : (board : Seen) (place : ℕ) (paragraph : Paragraph)
     → paragraph_at board place ≡ Some paragraph → IsUtf8 paragraph.text → IsWholeAt board place
@@ -116,26 +83,20 @@ whole-at board place paragraph at utf8 other is =
 
 -- ---- what is found of a paragraph by its id
 
-place-beside : {X Y : Type 0} (p : X → Bool) (xs : List X) (ys : List Y) → length ys ≡ length xs
-    → position_or_len (λ (row : X × Y). p row.0) (zip xs ys) ≡ position_or_len p xs
-place-beside p [] ys long = refl
-place-beside p (x ∷ xs) [] long = absurd (omega (arith, long))
-place-beside p (x ∷ xs) (y ∷ ys) long =
-    let fewer : length ys ≡ length xs = omega (arith, long) in
-    ap (λ n. cond (not (p x)) (1 + n) 0) (place-beside p xs ys fewer)
-
-get-beside : {X Y : Type 0} (xs : List X) (ys : List Y) (k : ℕ) (x : X) (y : Y)
-    → slice_get xs k ≡ Some x → slice_get ys k ≡ Some y → slice_get (zip xs ys) k ≡ Some (x, y)
-get-beside [] ys k x y here beside = cc
-get-beside (z ∷ xs) [] k x y here beside = cc
-get-beside (z ∷ xs) (w ∷ ys) zero x y here beside =
-    ap (λ v. Some (v, w)) (same_Some z x here) ∙ ap (λ v. Some (x, v)) (same_Some w y beside)
-get-beside (z ∷ xs) (w ∷ ys) (suc k) x y here beside = get-beside xs ys k x y here beside
+find-beside : {X Y : Type 0} (p : X → Bool) (xs : List X) (ys : List Y) (k : ℕ) (x : X) (y : Y)
+    → position_or_len p xs ≡ k → slice_get xs k ≡ Some x → slice_get ys k ≡ Some y
+    → find (λ (row : X × Y). p row.0) (zip xs ys) ≡ Some (x, y)
+find-beside p [] ys k x y is here beside = cc
+find-beside p (z ∷ xs) [] k x y is here beside = cc
+find-beside p (z ∷ xs) (w ∷ ys) zero x y is here beside = grind arith
+find-beside p (z ∷ xs) (w ∷ ys) (suc k) x y is here beside =
+    grind (arith, find-beside p xs ys k x y)
 
 -- what the core says of each board: a paragraph stands at the place of its id
 abbrev pub IdsArePlaces : Type 0
 IdsArePlaces = (board : Seen) (index : ℕ) (paragraph : Paragraph) → IsValidBoard board
-    → slice_get board.paragraphs index ≡ Some paragraph → place_of paragraph.id board.paragraphs ≡ Some index
+    → slice_get board.paragraphs index ≡ Some paragraph
+    → place_of paragraph.id board.paragraphs ≡ Some index
 
 -- how the paragraph with an index, from 0, stands, and that it is found by its id
 record IsHere (board : Seen) (index : ℕ) (paragraph : Paragraph) : Type 0 where
@@ -150,45 +111,43 @@ here-is board index paragraph ids valid here =
     let paragraphs = board.paragraphs in
     let standings = board.standings in
     let named = λ (p : Paragraph). p.id == paragraph.id in
-    let within : index < length standings = omega (arith, valid.standings, slice_get_within paragraphs index paragraph here) in
+    let inside = slice_get_within paragraphs index paragraph here in
+    let within : index < length standings = omega (arith, valid.standings) in
     let beside = slice_get-get_or standings index standing.Waiting within in
     let place-is = ids board index paragraph valid here in
     let first : position_or_len named paragraphs ≡ index = (cond_some _ _ index place-is).1 in
-    let rows = zip paragraphs standings in
     record {
       stands = get_or standings index standing.Waiting;
       at = record { place_is = place-is; paragraph_is = here; standing_is = beside };
       named = find_at named paragraphs ∙ ap (slice_get paragraphs) first ∙ here;
-      found_is = find_at (λ (row : Paragraph × Standing). named row.0) rows
-          ∙ ap (slice_get rows) (place-beside named paragraphs standings valid.standings ∙ first)
-          ∙ get-beside paragraphs standings index paragraph _ here beside;
+      found_is = find-beside named paragraphs standings index paragraph _ first here beside;
     }
 
--- what the core asks of the index, from 0, at which a text is put in, and what is kept of each paragraph
+-- what the core asks of the index at which a text is put in, and what is kept of each paragraph
 record IsGap (board : Seen) (index : ℕ) (before : Option ℕ) : Type 0 where
   begins : BeginsWith before (drop index board.paragraphs)
   gone : gone_before board.paragraphs before ≡ None
-  kept : (put : List ℕ) → kept_after standing.Waiting board.paragraphs board.standings (Insert before put)
+  kept : (put : List ℕ)
+      → kept_after standing.Waiting board.paragraphs board.standings (Insert before put)
       ≡ insert board.standings index standing.Waiting
 
 -- ---- lists
 
 drop-at : {X : Type 0} (xs : List X) (k : ℕ) (x : X) → slice_get xs k ≡ Some x
     → drop k xs ≡ x ∷ drop (suc k) xs
-drop-at xs k x is =
-    drop-cons xs k x (slice_get_within xs k x is)
-    ∙ ap (λ y. y ∷ drop (suc k) xs) (get_or_from_slice_get xs k x x is)
+drop-at xs k x is = grind (arith, common_steps, gets)
 
 -- a list is what stands before an item, the item, and what stands behind it
 split-at : {X : Type 0} (xs : List X) (k : ℕ) (x : X) → slice_get xs k ≡ Some x
     → xs ≡ take k xs ++ x ∷ drop (suc k) xs
-split-at xs k x is = rw (← drop-at xs k x is) (sym (take-append-drop k xs))
+split-at xs k x is = grind (arith, common_steps, gets)
 
 map-insert : {X Y : Type 0} (f : X → Y) (xs : List X) (k : ℕ) (x : X)
     → map f (insert xs k x) ≡ insert (map f xs) k (f x)
 map-insert f xs k x = simp (map-append, take-map, drop-map)
 
-map-remove : {X Y : Type 0} (f : X → Y) (xs : List X) (k : ℕ) → map f (remove xs k) ≡ remove (map f xs) k
+map-remove : {X Y : Type 0} (f : X → Y) (xs : List X) (k : ℕ)
+    → map f (remove xs k) ≡ remove (map f xs) k
 map-remove f xs k = simp (map-append, take-map, drop-map)
 
 -- all bytes of a text become others
@@ -238,7 +197,7 @@ module _ (told : Option Folder) (by : ℕ) (board after : Seen) (reply : Reply) 
 
   -- nor is there one of a line feed
   past-break : (event : SeenEvent) (at : Option ℕ) (rest : Option EditRefusal)
-      → Told event (option_map refusal_of (option_or (option_map (λ at. edits.HasBreak at) at) rest))
+      → Told event (option_map refusal_of (option_or (option_map edits.HasBreak at) rest))
       → Told event (option_map refusal_of rest)
   past-break event None rest answered = answered
   past-break event (Some at) rest answered = absurd (none-some reply answered.0)
@@ -304,23 +263,26 @@ module _ (told : Option Folder) (by : ℕ) (board after : Seen) (reply : Reply) 
         (rw here.at.place_is (map-remove stand_of board.standings index))
 
     text-here : text_at console index ≡ paragraph.text
-    text-here = rw (slice_get-map (λ (p : Paragraph). p.text) board.paragraphs index, here.at.paragraph_is)
+    text-here =
+        rw (slice_get-map (λ (p : Paragraph). p.text) board.paragraphs index, here.at.paragraph_is)
 
     -- `sub P FROM TO TEXT`
     spliced-here : (from to : ℕ) (put : List ℕ)
         → Answered (AnEdit by (Replace paragraph.id paragraph.rev from to put))
         → Becomes (splice_at console from to put index)
     spliced-here from to put answered =
-        let edit = Replace paragraph.id paragraph.rev from to put in
-        let made = spliced paragraph.text from to put in
+        let event = AnEdit by (Replace paragraph.id paragraph.rev from to put) in
+        let text = paragraph.text in
+        let made = spliced text from to put in
+        let inside = slice_get_within board.paragraphs index paragraph here.at.paragraph_is in
         let changed : Paragraph = record { id = paragraph.id; rev = board.text + 1; text = made } in
         rw text-here (
-        tested (AnEdit by edit) (is_span paragraph.text from to) (edits.BadSpan (length paragraph.text)) (NoBadSpan (length paragraph.text)) _ _ refl
-        (rw (here.named, own-rev) at answered)
-        (λ span rest. last-tested (AnEdit by edit) (leb (length made) 65536) (edits.TooLong (length made)) (NoTooLong (length made)) _ refl
-        (past-break (AnEdit by edit) _ _ rest)
-        (λ short is. taken edit (set board.paragraphs index changed)
-        (set console.texts index made) (set console.stands index Waiting) is
+        tested event (is_span text from to) (edits.BadSpan (length text)) (NoBadSpan (length text))
+        _ _ refl (rw (here.named, own-rev) at answered)
+        (λ span rest. last-tested event (leb (length made) 65536) (edits.TooLong (length made))
+        (NoTooLong (length made)) _ refl (past-break event _ _ rest)
+        (λ short is. taken (Replace paragraph.id paragraph.rev from to put)
+        (set board.paragraphs index changed) (set console.texts index made) (set console.stands index Waiting) is
         (record {
           front = take index board.paragraphs;
           touched = paragraph;
@@ -331,7 +293,7 @@ module _ (told : Option Folder) (by : ℕ) (board after : Seen) (reply : Reply) 
           span = span;
           whole = is.step.makes.applied.whole;
           short = leb-true (length made) 65536 short;
-          after_is = set_split board.paragraphs index changed (slice_get_within board.paragraphs index paragraph here.at.paragraph_is);
+          after_is = set_split board.paragraphs index changed inside;
         })
         (map-set (λ p. p.text) board.paragraphs index changed)
         (rw here.at.place_is (map-set stand_of board.standings index standing.Waiting))))
@@ -342,18 +304,38 @@ module _ (told : Option Folder) (by : ℕ) (board after : Seen) (reply : Reply) 
         → Answered (AnEdit by (Replace paragraph.id paragraph.rev 0 (length paragraph.text) put))
         → Becomes (replace_at console put index)
     whole-here put whole answered =
-        rw (text-here, whole, all-spliced paragraph.text put) at (spliced-here 0 (length paragraph.text) put answered)
+        rw (text-here, whole, all-spliced paragraph.text put)
+        at (spliced-here 0 (length paragraph.text) put answered)
 
     -- a board that differs in how the paragraph stands
     abbrev moved : Standing → Seen
-    moved becomes = record board { point = board.point + 1; standings = set board.standings index becomes }
+    moved becomes =
+        record board { point = board.point + 1; standings = set board.standings index becomes }
 
-    moves : (event : SeenEvent) (becomes : Standing) → Told event None → Makes board event (moved becomes)
-        → Becomes (record { reply = Done board.text; after = record console { stands = set console.stands index (stand_of becomes) } })
+    abbrev stood : Stand → Outcome
+    stood stand = record {
+      reply = Done board.text;
+      after = record console { stands = set console.stands index stand };
+    }
+
+    makes-moved : {may : Paragraph → Standing → Type 0} {becomes stands : Standing}
+        → IsAt board paragraph.id index paragraph stands → may paragraph stands
+        → Moves board paragraph.id may becomes (moved becomes)
+    makes-moved {may} {becomes} {stands} at allowed = record {
+      place = index;
+      paragraph = paragraph;
+      stands = stands;
+      here = at;
+      allowed = allowed;
+      after_is = refl;
+    }
+
+    moves : (event : SeenEvent) (becomes : Standing) → Told event None
+        → Makes board event (moved becomes) → Becomes (stood (stand_of becomes))
     moves event becomes is makes =
-        let same = sym (is.only (moved becomes) (record { goes_on = is.step.goes_on; makes = makes })) in (
+        let same = sym (is.only _ (record { goes_on = is.step.goes_on; makes = makes })) in (
           is.reply_is ∙ ap (λ (b : Seen). Done b.text) same,
-          ap console_of same ∙ ap (λ ss. record console { stands = ss }) (map-set stand_of board.standings index becomes),
+          ap console_of same ∙ cc (map-set stand_of board.standings index becomes),
         )
 
     stand-here : stand_at console index ≡ stand_of here.stands
@@ -364,35 +346,37 @@ module _ (told : Option Folder) (by : ℕ) (board after : Seen) (reply : Reply) 
         → Told (APark by paragraph.id) (settled paragraph.rev stands)
         → Becomes (stopped_from console index (stand_of stands))
     parked standing.Waiting at answered = moves (APark by paragraph.id) standing.Parked answered
-        (record { place = index; paragraph = paragraph; stands = _; here = at; allowed = refl; after_is = refl })
-    parked (standing.Held worker) at answered = moves (APark by paragraph.id) standing.Parked answered
-        (record { place = index; paragraph = paragraph; stands = _; here = at; allowed = refl; after_is = refl })
+        (makes-moved at refl)
+    parked (standing.Held worker) at answered = moves (APark by paragraph.id) standing.Parked
+        answered (makes-moved at refl)
     parked standing.Finished at answered = replied NoFinished answered.0 answered.1
     parked standing.Parked at answered = replied NoParked answered.0 answered.1
 
     stopped-here : Answered (APark by paragraph.id)
         → Becomes (stopped_from console index (stand_at console index))
-    stopped-here answered = rw stand-here (parked here.stands here.at (rw here.found_is at answered))
+    stopped-here answered =
+        rw stand-here (parked here.stands here.at (rw here.found_is at answered))
 
     -- `ask P`
     waits-again : (stands : Standing) → IsAt board paragraph.id index paragraph stands
         → Told (AnAsk by paragraph.id) (not_parked paragraph.rev stands)
         → Becomes (asked_from console index (stand_of stands))
-    waits-again standing.Parked at answered = moves (AnAsk by paragraph.id) standing.Waiting answered
-        (record { place = index; paragraph = paragraph; stands = _; here = at; allowed = refl; after_is = refl })
+    waits-again standing.Parked at answered = moves (AnAsk by paragraph.id) standing.Waiting
+        answered (makes-moved at refl)
     waits-again standing.Waiting at answered = replied NoNotParked answered.0 answered.1
     waits-again (standing.Held worker) at answered = replied NoNotParked answered.0 answered.1
     waits-again standing.Finished at answered = replied NoNotParked answered.0 answered.1
 
     asked-here : Answered (AnAsk by paragraph.id)
         → Becomes (asked_from console index (stand_at console index))
-    asked-here answered = rw stand-here (waits-again here.stands here.at (rw here.found_is at answered))
+    asked-here answered =
+        rw stand-here (waits-again here.stands here.at (rw here.found_is at answered))
 
   -- ---- a command that is an event of the board
 
   module _ (ids : IdsArePlaces) (valid : IsValidBoard board) where
     gap-is : (index : ℕ) → index < length board.paragraphs + 1
-        → IsGap board index (option_map (λ paragraph. paragraph.id) (slice_get board.paragraphs index))
+        → IsGap board index (option_map (λ p. p.id) (slice_get board.paragraphs index))
     gap-is index within = with-found (slice_get board.paragraphs index) refl
       where
         with-found : (at : Option Paragraph) → slice_get board.paragraphs index ≡ at
@@ -404,7 +388,7 @@ module _ (told : Option Folder) (by : ℕ) (board after : Seen) (reply : Reply) 
               kept = λ put. rw here.at.place_is;
             }
         with-found None at =
-            let last : index ≡ length board.paragraphs = omega (arith, not-within board.paragraphs index at) in
+            let last : index ≡ length board.paragraphs = grind (arith, common_steps, gets) in
             let beside : index ≡ length board.standings = omega (arith, valid.standings) in record {
               begins = rw last (drop-length board.paragraphs);
               gone = refl;
@@ -412,22 +396,23 @@ module _ (told : Option Folder) (by : ℕ) (board after : Seen) (reply : Reply) 
             }
 
     -- `ins P TEXT`
-    inserted-here : (place : ℕ) (before : Option ℕ) (put : List ℕ) → gap_at board place ≡ Some before
-        → Answered (AnEdit by (Insert before put))
+    inserted-here : (place : ℕ) (before : Option ℕ) (put : List ℕ)
+        → gap_at board place ≡ Some before → Answered (AnEdit by (Insert before put))
         → Becomes (inserted console place put)
     inserted-here place before put at answered =
         mapped _ (index_of place (length board.paragraphs + 1)) before at (λ index place-is same.
         let event = AnEdit by (Insert before put) in
         let count = length board.paragraphs in
-        let gap = subst (IsGap board index) same (gap-is index (index-within place (count + 1) index place-is)) in
+        let within = index-within place (count + 1) index place-is in
+        let gap = subst (IsGap board index) same (gap-is index within) in
         let new : Paragraph = record { id = board.next_id; rev = board.text + 1; text = put } in
         let texts = insert console.texts index put in
         let stands = insert console.stands index Waiting in
         let no-room : Outcome = record { reply = NoFull count; after = console } in
         let long = length-map board.paragraphs (λ p. p.text) in
         rw (long, place-is, long) (
-        tested event (leb (length put) 65536) (edits.TooLong (length put)) (NoTooLong (length put)) _
-        (cond (ltb count 20000) (edited console texts stands) no-room) refl
+        tested event (leb (length put) 65536) (edits.TooLong (length put)) (NoTooLong (length put))
+        _ (cond (ltb count 20000) (edited console texts stands) no-room) refl
         (past-break event _ _ (rw gap.gone at answered))
         (λ short rest. last-tested event (ltb count 20000) (edits.Full count) (NoFull count)
         (edited console texts stands) refl rest
@@ -448,8 +433,8 @@ module _ (told : Option Folder) (by : ℕ) (board after : Seen) (reply : Reply) 
         ))
 
     -- what is done at a place is done with the paragraph that is there, by an event of it
-    done-at : (place : ℕ) (does : ℕ → Outcome) (event_at : Paragraph → SeenEvent) (event : SeenEvent)
-        → option_map event_at (paragraph_at board place) ≡ Some event
+    done-at : (place : ℕ) (does : ℕ → Outcome) (event_at : Paragraph → SeenEvent)
+        (event : SeenEvent) → option_map event_at (paragraph_at board place) ≡ Some event
         → Told event (first_refusal board event)
         → ((index : ℕ) (paragraph : Paragraph) → IsHere board index paragraph
         → paragraph_at board place ≡ Some paragraph → Answered (event_at paragraph)
@@ -458,8 +443,8 @@ module _ (told : Option Folder) (by : ℕ) (board after : Seen) (reply : Reply) 
     done-at place does event_at event is answered goes =
         let paragraphs = board.paragraphs in
         mapped event_at (paragraph_at board place) event is (λ paragraph at same.
-        option_and_then_some (slice_get paragraphs) (index_of place (length paragraphs)) paragraph at
-        (λ index place-is there.
+        option_and_then_some (slice_get paragraphs) (index_of place (length paragraphs)) paragraph
+        at (λ index place-is there.
         rw (length-map paragraphs (λ p. p.text), place-is)
         (goes index paragraph (here-is board index paragraph ids valid there) at
         (subst Answered (sym same) (goes-on event answered)))))
@@ -491,40 +476,44 @@ module _ (told : Option Folder) (by : ℕ) (board after : Seen) (reply : Reply) 
 
   -- ---- a command that is none
 
-  nowhere : (place : ℕ) (does : ℕ → Outcome) → reply ≡ NoPlace (length board.paragraphs) → after ≡ board
-      → paragraph_at board place ≡ None → Becomes (at_place console place does)
-  nowhere place does is stays none =
-      rw (length-map board.paragraphs (λ p. p.text), no-index board place none) (is, ap console_of stays)
+  nowhere : (place : ℕ) (does : ℕ → Outcome) (event_at : Paragraph → SeenEvent)
+      → option_map event_at (paragraph_at board place) ≡ None
+      → reply ≡ NoPlace (length board.paragraphs) → after ≡ board
+      → Becomes (at_place console place does)
+  nowhere place does event_at none is stays =
+      let past = no-index board place (unmapped event_at (paragraph_at board place) none) in
+      rw (length-map board.paragraphs (λ p. p.text), past) (is, ap console_of stays)
 
   -- it is told that there is no such place, and nothing changes
-  pub no-event-does : (command : Command) → names_place command ≡ true → event_for by board command ≡ None
-      → reply ≡ NoPlace (length board.paragraphs) → after ≡ board → Does told console command reply (console_of after)
+  pub no-event-does : (command : Command) → names_place command ≡ true
+      → event_for by board command ≡ None → reply ≡ NoPlace (length board.paragraphs)
+      → after ≡ board → Does told console command reply (console_of after)
   unfolding Does
   no-event-does (Ins place text) named none is stays =
-      let past = unmapped _ (index_of place (length board.paragraphs + 1)) (unmapped _ (gap_at board place) none) in
+      let past = unmapped _ (index_of place (length board.paragraphs + 1)) (unmapped _ _ none) in
       rw (length-map board.paragraphs (λ p. p.text), past) (is, ap console_of stays)
-  no-event-does (Put place text) named none is stays = nowhere place _ is stays (unmapped _ (paragraph_at board place) none)
-  no-event-does (Sub place from to text) named none is stays = nowhere place _ is stays (unmapped _ (paragraph_at board place) none)
-  no-event-does (Del place) named none is stays = nowhere place _ is stays (unmapped _ (paragraph_at board place) none)
-  no-event-does (Stop place) named none is stays = nowhere place _ is stays (unmapped _ (paragraph_at board place) none)
-  no-event-does (Ask place) named none is stays = nowhere place _ is stays (unmapped _ (paragraph_at board place) none)
+  no-event-does (Put place text) named none is stays = nowhere place _ _ none is stays
+  no-event-does (Sub place from to text) named none is stays = nowhere place _ _ none is stays
+  no-event-does (Del place) named none is stays = nowhere place _ _ none is stays
+  no-event-does (Stop place) named none is stays = nowhere place _ _ none is stays
+  no-event-does (Ask place) named none is stays = nowhere place _ _ none is stays
   no-event-does _ named none is stays = absurd (false≢true named)
 
 -- ---- refusals
 
 -- the event of a command whose text has no line feed is one that a session asks for
-asked-of : {X : Type 0} (f : X → SeenEvent) (o : Option X) (event : SeenEvent) → option_map f o ≡ Some event
-    → ((x : X) → IsAsked (f x)) → IsAsked event
+asked-of : {X : Type 0} (f : X → SeenEvent) (o : Option X) (event : SeenEvent)
+    → option_map f o ≡ Some event → ((x : X) → IsAsked (f x)) → IsAsked event
 asked-of f o event is asked = mapped f o event is (λ x at same. subst IsAsked same (asked x))
 
-pub event-asked : (by : ℕ) (board : Seen) (command : Command) (event : SeenEvent) → HasWholeText command
-    → event_for by board command ≡ Some event → IsAsked event
-event-asked by board (Ins place text) event whole is = asked-of _ (gap_at board place) event is (λ before. whole)
-event-asked by board (Put place text) event whole is = asked-of _ (paragraph_at board place) event is (λ paragraph. whole)
-event-asked by board (Sub place from to text) event whole is = asked-of _ (paragraph_at board place) event is (λ paragraph. whole)
-event-asked by board (Del place) event whole is = asked-of _ (paragraph_at board place) event is (λ paragraph. tt)
-event-asked by board (Stop place) event whole is = asked-of _ (paragraph_at board place) event is (λ paragraph. tt)
-event-asked by board (Ask place) event whole is = asked-of _ (paragraph_at board place) event is (λ paragraph. tt)
+pub event-asked : (by : ℕ) (board : Seen) (command : Command) (event : SeenEvent)
+    → HasWholeText command → event_for by board command ≡ Some event → IsAsked event
+event-asked by board (Ins place text) event whole is = asked-of _ _ event is (λ before. whole)
+event-asked by board (Put place text) event whole is = asked-of _ _ event is (λ p. whole)
+event-asked by board (Sub place from to text) event whole is = asked-of _ _ event is (λ p. whole)
+event-asked by board (Del place) event whole is = asked-of _ _ event is (λ p. tt)
+event-asked by board (Stop place) event whole is = asked-of _ _ event is (λ p. tt)
+event-asked by board (Ask place) event whole is = asked-of _ _ event is (λ p. tt)
 event-asked by board _ event whole is = absurd (none-some event is)
 
 pub asked-fits : (board : Seen) (event : SeenEvent) → IsAsked event → IsFit board event
@@ -539,60 +528,38 @@ has-or : (first second : Option EditRefusal) → Has first → Has second → Ha
 has-or None second one two = two
 has-or (Some refusal) second one two = one
 
-has-unless : (holds : Bool) (refusal : EditRefusal) → Has (Some refusal) → Has (unless_edit holds refusal)
+has-unless : (holds : Bool) (refusal : EditRefusal) → Has (Some refusal)
+    → Has (unless_edit holds refusal)
 has-unless true refusal has = refl
 has-unless false refusal has = has
 
 has-found : (id : ℕ) (found : Option Paragraph) (asked : Paragraph → Option EditRefusal)
-    → ((paragraph : Paragraph) → Has (asked paragraph)) → Has (option_map_or asked found (Some (edits.Gone id)))
+    → ((paragraph : Paragraph) → Has (asked paragraph))
+    → Has (option_map_or asked found (Some (edits.Gone id)))
 has-found id None asked has = refl
 has-found id (Some paragraph) asked has = has paragraph
 
 no-break : (text : List ℕ) → HasNoBreak text → Has (break_in text)
 no-break text whole = by (position (λ byte. byte == 10) text) refl
   where
-    by : (found : Option ℕ) → position (λ byte. byte == 10) text ≡ found → Has (option_map (λ at. edits.HasBreak at) found)
+    by : (found : Option ℕ) → position (λ byte. byte == 10) text ≡ found
+        → Has (option_map (λ at. edits.HasBreak at) found)
     by None is = refl
     by (Some k) is =
         let at = position-Some (λ (byte : ℕ). byte == 10) text k 0 is in
-        absurd (All-from_recursion (λ byte. ¬ (byte ≡ 10)) text whole k 0 at.0 (eqb-true (get_or text k 0) 10 at.1))
-
-short-has : (put : List ℕ) → Has (too_long (length put))
-short-has put = has-unless (leb (length put) 65536) (edits.TooLong (length put)) refl
-
-entry-has : (paragraphs : List Paragraph) (put : List ℕ) → HasNoBreak put
-    → Has (entry_refusal paragraphs put)
-entry-has paragraphs put whole =
-    let room = has-unless (ltb (length paragraphs) 20000) (edits.Full (length paragraphs)) refl in
-    has-or (break_in put) (option_or (too_long (length put)) (full paragraphs)) (no-break put whole)
-    (has-or (too_long (length put)) (full paragraphs) (short-has put) room)
-
-behind-has : (rev : ℕ) (paragraph : Paragraph) → Has (behind paragraph rev)
-behind-has rev paragraph = has-unless (paragraph.rev == rev) (edits.Behind paragraph.rev) refl
-
-splice-has : (text : List ℕ) (from to : ℕ) (put : List ℕ) → HasNoBreak put
-    → Has (splice_refusal text from to put)
-splice-has text from to put whole =
-    let last = too_long (length (spliced text from to put)) in
-    has-or (bad_span text from to) (option_or (break_in put) last)
-    (has-unless (is_span text from to) (edits.BadSpan (length text)) refl)
-    (has-or (break_in put) last (no-break put whole) (short-has (spliced text from to put)))
+        absurd (All-from_recursion (λ byte. ¬ (byte ≡ 10)) text whole k 0 at.0 (eqb-true _ 10 at.1))
 
 edit-has : (paragraphs : List Paragraph) (session : ℕ) (edit : Edit) → IsAsked (AnEdit session edit)
     → Has (edit_refusal paragraphs edit)
 edit-has paragraphs session (Replace id rev from to put) whole =
-    has-found id (with_id id paragraphs)
-    (λ p. option_or (behind p rev) (splice_refusal p.text from to put))
-    (λ p. has-or (behind p rev) (splice_refusal p.text from to put) (behind-has rev p)
-    (splice-has p.text from to put whole))
-edit-has paragraphs session (Insert None put) whole = entry-has paragraphs put whole
+    search (has-or, has-unless, has-found, no-break) depth 9
+edit-has paragraphs session (Insert None put) whole = search (has-or, has-unless, no-break) depth 9
 edit-has paragraphs session (Insert (Some id) put) whole =
-    has-or (gone_before paragraphs (Some id)) (entry_refusal paragraphs put)
-    (has-found id (with_id id paragraphs) (λ _. None) (λ p. refl)) (entry-has paragraphs put whole)
-edit-has paragraphs session (Remove id rev) whole =
-    has-found id (with_id id paragraphs) (λ p. behind p rev) (behind-has rev)
+    search (has-or, has-unless, has-found, no-break) depth 9
+edit-has paragraphs session (Remove id rev) whole = search (has-unless, has-found) depth 9
 
-event-has : (board : Seen) (event : SeenEvent) → IsAsked event → HasReply (event_refusal board event)
+event-has : (board : Seen) (event : SeenEvent) → IsAsked event
+    → HasReply (event_refusal board event)
 event-has board (AnEdit session edit) asked = edit-has board.paragraphs session edit asked
 event-has board (APark session id) asked = parks (found id board)
   where
@@ -614,18 +581,24 @@ event-has board _ asked = absurd asked
 point-below : (point more all : ℕ) → point + more + 40001 ≤ all → point < all
 point-below point more all room = omega arith
 
-pub has-reply : (board : Seen) (event : SeenEvent) → IsAsked event → furthest_point board + 40001 ≤ 2 ^ 62
-    → HasReply (first_refusal board event)
+pub has-reply : (board : Seen) (event : SeenEvent) → IsAsked event
+    → furthest_point board + 40001 ≤ 2 ^ 62 → HasReply (first_refusal board event)
 has-reply board event asked room =
     let more = 2 * count_by is_waiting board.standings + count_by is_held board.standings in
-    rw (lt-ltb board.point (2 ^ 62) (point-below board.point more (2 ^ 62) room)) (event-has board event asked)
+    let far = point-below board.point more (2 ^ 62) room in
+    rw (lt-ltb board.point (2 ^ 62) far) (event-has board event asked)
 
 -- an event that a board takes is answered so, and has no refusal
-pub answered-taken : {board after : Seen} {event : SeenEvent} {reply : Reply} → IsDecided board event
-    → Step board event after → reply ≡ Done after.text → IsAnswered board event (first_refusal board event) reply after
-answered-taken {board} {after} {event} {reply} decided step is = by decided (first_refusal board event) refl
+pub answered-taken : {board after : Seen} {event : SeenEvent} {reply : Reply}
+    → IsDecided board event → Step board event after → reply ≡ Done after.text
+    → IsAnswered board event (first_refusal board event) reply after
+answered-taken {board} {after} {event} {reply} decided step is =
+    by decided (first_refusal board event) refl
   where
-    by : IsDecided board event → (first : Option Refusal) → first_refusal board event ≡ first → IsAnswered board event first reply after
-    by (inl (only, free)) None told = record { step = step; only = λ other made. only.only other made ∙ sym (only.only after step); reply_is = is }
+    by : IsDecided board event → (first : Option Refusal) → first_refusal board event ≡ first
+        → IsAnswered board event first reply after
+    by (inl (only, free)) None told =
+        let back = sym (only.only after step) in
+        record { step = step; only = λ other made. only.only other made ∙ back; reply_is = is }
     by (inl (only, free)) (Some refusal) told = absurd (free refusal told)
     by (inr (only, unmade)) first told = absurd (unmade after step)

@@ -1,10 +1,10 @@
 -- What a look at a board is told, and that its console shows the same.
-use Rattle.std.proofs.Common.{◌≡◌, ◌∙◌, refl, sym, ap, ℕ, suc, ◌+◌, ◌≤◌, List, [], ◌∷◌, ◌++◌, length, map, take, get_or, slice_get, Some, arith}
+use Rattle.std.proofs.Common.{◌≡◌, ◌∙◌, refl, ap, ℕ, suc, ◌+◌, ◌≤◌, List, [], ◌∷◌, ◌++◌, length, map, take, slice_get, Some, arith}
 use Rattle.std.specs.Option.{option_map}
 use Rattle.std.specs.Str.{chars}
-use Rattle.std.proofs.lemmas.List.{length-map, take_all, take_more}
-use Rattle.std.proofs.lemmas.Option.{get_or_from_slice_get, slice_get-map, slice_get_within}
-use Rattle.console_lang.specs.declared.reply.ShownPara.{ShownPara}
+use Rattle.std.proofs.lemmas.Grind.{common_steps}
+use Rattle.std.proofs.lemmas.List.{length-map, take_all}
+use Rattle.std.proofs.lemmas.Option.{gets, slice_get-map}
 use Rattle.console_lang.specs.declared.reply.ShownPara.TheVariants.{Finished as Checked}
 use Rattle.paragraph_text.specs.Paragraphs.{Paragraph}
 use Rattle.edit_core.specs.Seen.{Seen, IsValidBoard}
@@ -20,11 +20,6 @@ use Rattle.console_board.specs.Consoles.{shown, shown_as, shown_from}
 pub shown-at : (board : Seen) (place : ℕ) (marks : ShownMarks) → slice_get (reply_of board).shown place ≡ Some marks
     → slice_get (map shown_para (reply_of board).shown) place ≡ Some (shown_para marks)
 shown-at board place marks at = slice_get-map shown_para (reply_of board).shown place ∙ ap (option_map shown_para) at
-
-pub taken-more : {X : Type 0} (all front longer : List X) (k : ℕ) (x : X) → front ≡ take k all → longer ≡ front ++ x ∷ [] → slice_get all k ≡ Some x → longer ≡ take (k + 1) all
-taken-more all front longer k x front-is longer-is at =
-    longer-is ∙ ap (λ xs. xs ++ x ∷ []) front-is
-    ∙ sym (take_more all k x (slice_get_within all k x at) ∙ ap (λ y. take k all ++ y ∷ []) (get_or_from_slice_get all k x x at))
 
 -- so many are shown as there are texts
 long-as : (board : Seen) (number : ℕ) (standings : List Standing) → length (board_shows_from board number standings) ≡ length standings

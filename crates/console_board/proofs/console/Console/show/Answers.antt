@@ -2,13 +2,8 @@
 use Rattle.std.proofs.Common.{◌∙◌, ap, ◌≤◌, length, map, arith}
 use Rattle.edit_core.specs.Views.{reply_of}
 use Rattle.console_board.specs.BoardAnswers.{shown_para}
-use Rattle.console_board.proofs.ConsoleViews.{all-shown, look-is, taken-more}
+use Rattle.console_board.proofs.ConsoleViews.{all-shown, look-is}
 use Rattle.console_board.proofs.console.Console.show.Goals as goal
-
-pub loop-place-preserved : goal.loop-place-preserved
-loop-place-preserved g c =
-    taken-more (map shown_para (reply_of c.args.self.now.board).shown) c.loop-place.paragraphs c.push.new.self c.loop-place.place c.in_ok-shown_at.field-0
-    c.loop-place.invariant c.in_ok-push.ensures.ok c.in_ok-shown_at.ensures
 
 pub returns-clause-look : goal.returns-clause-look
 returns-clause-look g c =
