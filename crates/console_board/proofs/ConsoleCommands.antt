@@ -1,5 +1,5 @@
 -- A command does what its event makes of the board, and each refusal of such an event has a reply.
-use Rattle.std.proofs.Common.{◌≡◌, ◌∙◌, inl, inr, refl, sym, ap, subst, ℕ, zero, suc, ◌+◌, ◌-◌, ◌*◌, ◌<◌, ◌≤◌, ◌^◌, ◌==◌, Bool, true, false, cond, List, [], ◌∷◌, ◌++◌, length, map, set, take, drop, get_or, position, slice_get, ltb, leb, Option, None, Some, Result, Ok, Err, IfOk, append-nil, arith}
+use Rattle.std.proofs.Common.{◌≡◌, ◌∙◌, inl, inr, refl, sym, ap, subst, ℕ, zero, suc, ◌+◌, ◌*◌, ◌<◌, ◌≤◌, ◌^◌, ◌==◌, Bool, true, false, cond, List, [], ◌∷◌, ◌++◌, length, map, set, take, drop, get_or, position, slice_get, ltb, leb, Option, None, Some, Result, Ok, Err, IfOk, append-nil, arith}
 use Rattle.std.proofs.Math.Seq.{drop-length}
 use Rattle.std.specs.List.{count_by, find, insert, position_or_len, remove, zip}
 use Rattle.std.specs.Option.{option_map, option_map_or, option_or}
@@ -20,7 +20,7 @@ use Rattle.console_lang.specs.declared.command.Command.TheVariants.{Ins, Put, Su
 use Rattle.console_lang.specs.declared.reply.Reply.{Reply}
 use Rattle.console_lang.specs.declared.reply.Reply.TheVariants.{Done, NoPlace, NoBadSpan, NoTooLong, NoFull, NoFinished, NoParked, NoNotParked}
 use Rattle.paragraph_text.specs.Paragraphs.{Paragraph, HasNoBreak}
-use Rattle.paragraph_text.specs.Edits.{Applies, BeginsWith, behind, break_in, first_refusal as edit_refusal, gone_before, is_span, spliced, unless as unless_edit, with_id}
+use Rattle.paragraph_text.specs.Edits.{Applies, BeginsWith, break_in, first_refusal as edit_refusal, gone_before, is_span, spliced, unless as unless_edit, with_id}
 use Rattle.paragraph_text.specs.declared.edits.Edit.{Edit}
 use Rattle.paragraph_text.specs.declared.edits.Edit.TheVariants.{Insert, Remove, Replace}
 use Rattle.paragraph_text.specs.declared.edits.EditRefusal.{EditRefusal}

@@ -1,10 +1,9 @@
 -- What a look at a board is told, and that its console shows the same.
-use Rattle.std.proofs.Common.{◌≡◌, ◌∙◌, refl, ap, ℕ, suc, ◌+◌, ◌≤◌, List, [], ◌∷◌, ◌++◌, length, map, take, slice_get, Some, arith}
+use Rattle.std.proofs.Common.{◌≡◌, ◌∙◌, refl, ap, ℕ, suc, ◌+◌, ◌≤◌, List, [], ◌∷◌, length, map, take, slice_get, Some, arith}
 use Rattle.std.specs.Option.{option_map}
 use Rattle.std.specs.Str.{chars}
-use Rattle.std.proofs.lemmas.Grind.{common_steps}
 use Rattle.std.proofs.lemmas.List.{length-map, take_all}
-use Rattle.std.proofs.lemmas.Option.{gets, slice_get-map}
+use Rattle.std.proofs.lemmas.Option.{slice_get-map}
 use Rattle.console_lang.specs.declared.reply.ShownPara.TheVariants.{Finished as Checked}
 use Rattle.paragraph_text.specs.Paragraphs.{Paragraph}
 use Rattle.edit_core.specs.Seen.{Seen, IsValidBoard}

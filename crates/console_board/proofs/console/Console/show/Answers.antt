@@ -1,7 +1,5 @@
 -- One text is shown after another, and at last all of them.
-use Rattle.std.proofs.Common.{◌∙◌, ap, ◌≤◌, length, map, arith}
-use Rattle.edit_core.specs.Views.{reply_of}
-use Rattle.console_board.specs.BoardAnswers.{shown_para}
+use Rattle.std.proofs.Common.{◌∙◌, ap, ◌≤◌, length, arith}
 use Rattle.console_board.proofs.ConsoleViews.{all-shown, look-is}
 use Rattle.console_board.proofs.console.Console.show.Goals as goal
 
