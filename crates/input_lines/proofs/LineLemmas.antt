@@ -1,5 +1,5 @@
 -- The lines of an input that is heard piece by piece.
-use Rattle.std.proofs.Common.{◌≡◌, ◌∙◌, refl, sym, ap, subst, inl, inr, ℕ, ◌+◌, ◌-◌, ◌<◌, ◌≤◌, ◌==◌, Bool, true, false, not, cond, List, [], ◌∷◌, ◌++◌, length, drop, take, map, get_or, arith, append-nil, append_assoc, length-drop, length-take, drop-drop, if◌then◌else◌}
+use Rattle.std.proofs.Common.{◌≡◌, ◌∙◌, refl, sym, ap, subst, inl, inr, ℕ, ◌+◌, ◌-◌, ◌<◌, ◌≤◌, ◌==◌, Bool, true, false, not, List, [], ◌∷◌, ◌++◌, length, drop, take, map, get_or, arith, append-nil, append_assoc, length-drop, length-take, drop-drop, if◌then◌else◌}
 use borrow.Author.Tests.{ne_eqb}
 use Rattle.std.specs.List.{All, list_any, slice_split, onto_first, join_with_byte}
 use Rattle.std.specs.Str.Lines.{strip_carriage_return}

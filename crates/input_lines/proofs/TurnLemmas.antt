@@ -1,9 +1,8 @@
 -- What comes of a line, of a piece, and of a turn.
-use Rattle.std.proofs.Common.{◌≡◌, ◌∙◌, ◌+◌, ◌<◌, ◌≤◌, ◌==◌, ℕ, Bool, true, false, List, [], ◌∷◌, ◌++◌, length, drop, inl, inr, Option, Result, Ok, Err, IfErr, OnOk, refl, sym, ap, subst, arith, append_assoc, append-nil, length-append}
-use Rattle.std.specs.List.{prefix_len}
+use Rattle.std.proofs.Common.{◌≡◌, ◌∙◌, ◌<◌, ◌≤◌, ◌==◌, ℕ, Bool, true, false, List, [], ◌∷◌, ◌++◌, length, inl, inr, Option, Result, Ok, Err, IfErr, OnOk, refl, sym, ap, subst, arith, append_assoc, append-nil, length-append}
 use Rattle.std.specs.String.{string_bytes}
 use Rattle.std.proofs.lemmas.Bool.{or_right}
-use Rattle.std.proofs.lemmas.List.{take_at, take-append-drop}
+use Rattle.std.proofs.lemmas.List.{take_at}
 use Rattle.std.proofs.lemmas.List.Folds.{list_any-append}
 use Rattle.lists.specs.Laws.{each-append}
 use Rattle.outside.specs.Laws.{appends-front, appends-more, appends-none, takes-front, takes-more, takes-none}
@@ -11,7 +10,7 @@ use Rattle.outside.specs.Sink.{Appends, AppendsFront}
 use Rattle.outside.specs.Source.{IsGiven, Takes}
 use Rattle.text_lines.specs.Lines.{line_texts}
 use Rattle.input_lines.specs.Answers.{HasNoBreak, line_limit}
-use Rattle.input_lines.specs.Ends.{AreAnswered, AreAnsweredFirst, AreAnsweredWhole, EndsOn, HasLongLine, Reading}
+use Rattle.input_lines.specs.Ends.{AreAnswered, AreAnsweredFirst, AreAnsweredWhole, HasLongLine, Reading}
 use Rattle.input_lines.specs.Laws.{Told}
 use Rattle.input_lines.specs.Lines.{IsBounded, IsShort, before_quit, input_limit, piece_text, unmarked}
 use Rattle.input_lines.specs.Turns.{GoesBy, Hears, IsAnswered, IsCut, IsGathered, IsHeard, IsHeardAs, IsLeft, IsNotAnswered, IsNotKept, IsOver, IsTaken, IsUnderWay, Leading, Puts, Side, Since, Stand, Stops, WhyNot, line_of, read_between, stand, start}

@@ -1,8 +1,7 @@
 -- A turn goes on from what the input gives.
-use Rattle.std.proofs.Common.{◌≡◌, ◌≤◌, ◌+◌, ◌++◌, arith, rules, subst, length, take, length-append, length-take}
+use Rattle.std.proofs.Common.{◌≡◌, ◌++◌, arith, rules, subst, length, take, length-append, length-take}
 use Rattle.std.proofs.lemmas.Result.{err_from_is_err_and}
 use Rattle.outside.specs.Source.{IsEndOf}
-use Rattle.input_lines.specs.Lines.{input_limit}
 use Rattle.outside.specs.Laws.{takes-all, takes-front, takes-more}
 use Rattle.input_lines.proofs.TurnLemmas.{over-interrupted, over-stops}
 use Rattle.input_lines.proofs.listener.Listener.take_turn.Goals as goal
