@@ -2,6 +2,5 @@ pub mod ConsoleCommands
 pub mod ConsoleLoads
 pub mod ConsoleSettling
 pub mod ConsoleViews
-pub mod TranscriptLemmas
 pub mod TranscriptLaws
 pub mod LineLemmas
