@@ -1,170 +1,160 @@
 -- What a status and a text tell of how a call ended.
-use Rattle.std.proofs.Common.{◌≡◌, ◌∙◌, ◌⊎◌, inl, inr, ℕ, ◌<◌, List, [], ◌++◌, Option, None, refl, sym, ap, subst, arith}
-use Rattle.outside.specs.Files.{Folder}
-use Rattle.outside.specs.Laws.{appends-front, appends-more, appends-none}
+use Rattle.std.proofs.Common.{◌≡◌, ◌∙◌, ◌⊎◌, inl, inr, ℕ, zero, suc, ◌<◌, true, false, List, [], ◌++◌, Option, None, Result, refl, sym, ap, subst, arith}
+use Rattle.outside.specs.Laws.{appends-front, appends-more}
 use Rattle.outside.specs.Sink.{Appends}
-use Rattle.dictionary_swap.specs.declared.fault.LoadFault.TheVariants.{Failed as FailedLoad, Missing, TooLong, Aff, Dic, NoMemory as LoadWanting}
-use Rattle.document_report.specs.declared.fault.DocumentFault.TheVariants.{NotUtf8, TooManyParagraphs, LongParagraph, NoMemory as ReportWanting}
-use Rattle.command_line.specs.Ends.{EndsAs, IsEndPut, IsOrWanting, IsPut, status_at, tail_of}
+use Rattle.dictionary_swap.specs.declared.fault.LoadFault.TheVariants.{Failed as FailedLoad, Missing}
+use Rattle.document_report.specs.declared.fault.DocumentFault.TheVariants.{NoMemory as ReportWanting}
+use Rattle.document_report.specs.declared.printing.Report.{Report}
+use Rattle.command_line.specs.Ends.{EndsAs, IsEndPut, IsOrWanting, IsPut, Whole, Cut, sink_status, status_at, tail_of}
 use Rattle.command_line.specs.Failures.{last_line}
-use Rattle.command_line.specs.Forms.{IsAnswerTo, Met}
-use Rattle.command_line.specs.Requests.{Asked}
+use Rattle.command_line.specs.Forms.{IsAnswerTo, IsCaused, Met, is_alone}
+use Rattle.command_line.specs.Given.{end_by, text_by}
+use Rattle.command_line.specs.declared.requests.Request.{Request}
 use Rattle.command_line.specs.declared.ending.End.{End}
-use Rattle.command_line.specs.declared.ending.End.TheVariants.{Quiet, Marked, Failed}
-use Rattle.command_line.specs.declared.failure.Failure.TheVariants.{Words, Load, Document, Input, Limit, NoMemory}
+use Rattle.command_line.specs.declared.ending.End.TheVariants.{Failed}
+use Rattle.command_line.specs.declared.failure.Failure.{Failure}
+use Rattle.command_line.specs.declared.failure.Failure.TheVariants.{Words, Load, Document, Input}
 
 -- ---- what is put
 
 -- a sink that failed later has failed since
-pub put-sooner : {sink_failed whole_failed : Type 0} (meant : ℕ) (text : List ℕ) (before now : Option (List ℕ)) (status : ℕ) → (sink_failed → whole_failed)
-    → IsPut meant text sink_failed before now status → IsPut meant text whole_failed before now status
-put-sooner meant text before now status fails (inl put) = inl put
-put-sooner meant text before now status fails (inr cut) = inr (fails cut.0, cut.1, cut.2)
+pub put-sooner : {sink_failed whole_failed : Type 0} {meant status : ℕ} {text : List ℕ} {before now : Option (List ℕ)}
+    → (sink_failed → whole_failed) → IsPut meant text sink_failed before now status → IsPut meant text whole_failed before now status
+put-sooner fails (Whole is put) = Whole is put
+put-sooner fails (Cut failed is put) = Cut (fails failed) is put
 
 -- a text is put behind another
-pub put-behind : {sink_failed whole_failed : Type 0} (meant : ℕ) (first text : List ℕ) (before middle now : Option (List ℕ)) (status : ℕ) → (sink_failed → whole_failed)
-    → Appends before middle first → IsPut meant text sink_failed middle now status → IsPut meant (first ++ text) whole_failed before now status
-put-behind meant first text before middle now status fails put (inl more) = inl (more.0, appends-more before middle now first text put more.1)
-put-behind meant first text before middle now status fails put (inr cut) = inr (fails cut.0, cut.1, appends-front before middle now first text put cut.2)
+put-behind : {sink_failed whole_failed : Type 0} {meant status : ℕ} {text : List ℕ} {before middle now : Option (List ℕ)} (first : List ℕ)
+    → (sink_failed → whole_failed) → Appends before middle first → IsPut meant text sink_failed middle now status
+    → IsPut meant (first ++ text) whole_failed before now status
+put-behind {text = text} {before = before} {middle = middle} {now = now} first fails put (Whole is more) =
+    Whole is (appends-more before middle now first text put more)
+put-behind {text = text} {before = before} {middle = middle} {now = now} first fails put (Cut failed is more) =
+    Cut (fails failed) is (appends-front before middle now first text put more)
 
 -- what ends a call is put behind what it has written
-pub ends-behind : {sink_failed whole_failed : Type 0} (answers : List ℕ → End → Type 0) (text : List ℕ) (due : End) (before middle now : Option (List ℕ)) (status : ℕ)
-    → (sink_failed → whole_failed) → Appends before middle text → answers text due → IsEndPut due sink_failed middle now status → EndsAs answers whole_failed before now status
-ends-behind answers text due before middle now status fails put is (end, end_is, more) = record {
+pub ends-behind : {sink_failed whole_failed : Type 0} {answers : List ℕ → End → Type 0} {due : End} {before middle now : Option (List ℕ)} {status : ℕ}
+    (text : List ℕ) → (sink_failed → whole_failed) → Appends before middle text → answers text due → IsEndPut due sink_failed middle now status
+    → EndsAs answers whole_failed before now status
+ends-behind {due = due} text fails put is (end, end_is, more) = record {
   text = text;
   due = due;
   answer = is;
   end = end;
   end_is = end_is;
-  put = put-behind (status_at end) text (tail_of end) before middle now status fails put more;
+  put = put-behind text fails put more;
 }
 
--- ---- what is answered
-
 -- what is an answer by one account is one by a weaker one
-pub ends-weaker : {sink_failed whole_failed : Type 0} (answers others : List ℕ → End → Type 0) (before now : Option (List ℕ)) (status : ℕ) → (sink_failed → whole_failed)
-    → ((text : List ℕ) (due : End) → answers text due → others text due) → EndsAs answers sink_failed before now status → EndsAs others whole_failed before now status
-ends-weaker answers others before now status fails weak ends = record {
+pub ends-weaker : {sink_failed whole_failed : Type 0} {answers others : List ℕ → End → Type 0} {before now : Option (List ℕ)} {status : ℕ}
+    → (sink_failed → whole_failed) → ((text : List ℕ) (due : End) → answers text due → others text due)
+    → EndsAs answers sink_failed before now status → EndsAs others whole_failed before now status
+ends-weaker fails weak ends = record {
   text = ends.text;
   due = ends.due;
   answer = weak ends.text ends.due ends.answer;
   end = ends.end;
   end_is = ends.end_is;
-  put = put-sooner (status_at ends.end) (ends.text ++ tail_of ends.end) before now status fails ends.put;
+  put = put-sooner fails ends.put;
 }
 
--- words of no form end a call so
-pub no-form-ends : (folder : Option Folder) (files : ℕ) (input : Option (List ℕ)) (reads : ℕ) (sink_failed : Type 0) (before now : Option (List ℕ)) (status : ℕ)
-    → IsEndPut (Failed Words) sink_failed before now status
-    → EndsAs (IsAnswerTo None (record {
-      folder = folder;
-      files_before = files;
-      files_after = files;
-      input_before = input;
-      input_after = input;
-      reads_before = reads;
-      reads_after = reads;
-    })) sink_failed before now status
-no-form-ends folder files input reads sink_failed before now status puts =
-    ends-behind (IsAnswerTo None _) [] (Failed Words) before before now status (λ failed. failed) (appends-none before)
-    (record { answer = refl; caused = (refl, refl); input = (refl, refl); files = refl }) puts
+-- an outcome is put
+pub outcome-put : {sink_failed whole_failed : Type 0} {answers : List ℕ → End → Type 0} {before now : Option (List ℕ)} {status : ℕ} (outcome : Result Report Failure)
+    → (sink_failed → whole_failed) → answers (text_by outcome) (end_by outcome)
+    → (end : End) × IsOrWanting (end_by outcome) end × IsPut (status_at end) (text_by outcome ++ tail_of end) sink_failed before now status
+    → EndsAs answers whole_failed before now status
+outcome-put outcome fails is (end, end_is, put) = record {
+  text = text_by outcome;
+  due = end_by outcome;
+  answer = is;
+  end = end;
+  end_is = end_is;
+  put = put-sooner fails put;
+}
+
+-- ---- the causes of ends
+
+-- an end that is not the only line, and is not that of a failed input, has no other cause
+pub goes-on : {asked : Option Request} {met : Met} {text : List ℕ} {end : End} → is_alone end ≡ false
+    → (end ≡ Failed Input → met.reading.faults_before < met.reading.faults_after) → IsCaused asked met text end
+goes-on {end = end} more input = record {
+  words = λ is. other (ap is_alone is);
+  files = λ is. other (ap is_alone is);
+  input = input;
+  alone = λ is. other is;
+}
+  where
+    other : {A : Type 0} → is_alone end ≡ true → A
+    other is = let never : true ≡ false = sym is ∙ more in absurd (cc)
 
 -- ---- the causes of statuses
 
--- no end has the status of a sink that failed
-not-six : (end : End) → 6 ≡ status_at end → ⊥
-not-six Quiet is = absurd (omega arith)
-not-six Marked is = absurd (omega arith)
-not-six (Failed Words) is = absurd (omega arith)
-not-six (Failed (Load FailedLoad)) is = absurd (omega arith)
-not-six (Failed (Load Missing)) is = absurd (omega arith)
-not-six (Failed (Load (TooLong limit))) is = absurd (omega arith)
-not-six (Failed (Load (Aff line why))) is = absurd (omega arith)
-not-six (Failed (Load (Dic line why))) is = absurd (omega arith)
-not-six (Failed (Load LoadWanting)) is = absurd (omega arith)
-not-six (Failed (Document (NotUtf8 line))) is = absurd (omega arith)
-not-six (Failed (Document (TooManyParagraphs limit))) is = absurd (omega arith)
-not-six (Failed (Document (LongParagraph limit))) is = absurd (omega arith)
-not-six (Failed (Document ReportWanting)) is = absurd (omega arith)
-not-six (Failed Input) is = absurd (omega arith)
-not-six (Failed (Limit limit)) is = absurd (omega arith)
-not-six (Failed NoMemory) is = absurd (omega arith)
+-- what a status tells of an end
+abbrev Tells : ℕ → End → Type 0
+Tells zero end = Unit {0}
+Tells (suc zero) end = Unit {0}
+Tells (suc (suc zero)) end = end ≡ Failed Words
+Tells (suc (suc (suc zero))) end = Unit {0}
+Tells (suc (suc (suc (suc zero)))) end = Unit {0}
+Tells (suc (suc (suc (suc (suc zero))))) end = (end ≡ Failed (Load FailedLoad)) ⊎ ((end ≡ Failed (Load Missing)) ⊎ (end ≡ Failed Input))
+Tells (suc (suc (suc (suc (suc (suc zero)))))) end = ⊥
+Tells (suc (suc (suc (suc (suc (suc (suc n))))))) end = Unit {0}
 
-pub six-is-sink : (answers : List ℕ → End → Type 0) (sink_failed : Type 0) (before now : Option (List ℕ)) (status : ℕ) → EndsAs answers sink_failed before now status
-    → status ≡ 6 → sink_failed
-six-is-sink answers sink_failed before now status ends six = by ends.put
+told : (end : End) → Tells (status_at end) end
+told (Failed Words) = refl
+told (Failed (Load FailedLoad)) = inl refl
+told (Failed (Load Missing)) = inr (inl refl)
+told (Failed Input) = inr (inr refl)
+told (Failed (Document ReportWanting)) = tt
+told _ = tt
+
+-- the status of a sink that failed tells that it did
+pub six-is-sink : {answers : List ℕ → End → Type 0} {sink_failed : Type 0} {before now : Option (List ℕ)} {status : ℕ}
+    → EndsAs answers sink_failed before now status → status ≡ sink_status → sink_failed
+six-is-sink ends six = by ends.end ends.put six
   where
-    by : IsPut (status_at ends.end) (ends.text ++ tail_of ends.end) sink_failed before now status → sink_failed
-    by (inl put) = absurd (not-six ends.end (sym six ∙ put.0))
-    by (inr cut) = cut.0
+    by : {sink_failed : Type 0} {text : List ℕ} {before now : Option (List ℕ)} {status : ℕ} (end : End)
+        → IsPut (status_at end) text sink_failed before now status → status ≡ sink_status → sink_failed
+    by end (Whole is put) six = absurd (subst (λ n. Tells n end) (sym is ∙ six) (told end))
+    by end (Cut failed is put) six = failed
 
--- the end that is told is the one that is due, unless its status is that of want of memory
-told-due : (due end : End) → IsOrWanting due end → (status_at end ≡ 7 → ⊥) → end ≡ due
-told-due due end (inl same) other = same
-told-due due end (inr wanting) other = absurd (other (ap status_at wanting))
+-- a status that is neither that of a sink that failed nor that of want of memory is that of the end that is due
+due-told : {answers : List ℕ → End → Type 0} {sink_failed : Type 0} {before now : Option (List ℕ)} {status : ℕ} (meant : ℕ)
+    → ¬ (meant ≡ 6) → ¬ (meant ≡ 7) → (ends : EndsAs answers sink_failed before now status) → status ≡ meant
+    → Tells meant ends.due × Appends before now (ends.text ++ tail_of ends.due)
+due-told meant not_sink not_memory ends is = by ends.text ends.due ends.end ends.end_is ends.put is
+  where
+    by : {sink_failed : Type 0} {before now : Option (List ℕ)} {status : ℕ} (text : List ℕ) (due end : End) → IsOrWanting due end
+        → IsPut (status_at end) (text ++ tail_of end) sink_failed before now status → status ≡ meant
+        → Tells meant due × Appends before now (text ++ tail_of due)
+    by text due end end_is (Cut failed six put) is = absurd (not_sink (sym is ∙ six))
+    by text due end (inr wanting) (Whole told_as put) is = absurd (not_memory (sym is ∙ told_as ∙ ap status_at wanting))
+    by {before = before} {now = now} text due end (inl same) (Whole told_as put) is = (
+      subst (λ n. Tells n due) (ap status_at (sym same) ∙ sym told_as ∙ is) (told due),
+      subst (λ end. Appends before now (text ++ tail_of end)) same put,
+    )
 
 -- words of no form alone have the status 2
-two-is-words : (asked : Option Asked) (met : Met) (text : List ℕ) (end : End) → IsAnswerTo asked met text end → status_at end ≡ 2 → asked ≡ None
-two-is-words asked met text Quiet is two = absurd (omega arith)
-two-is-words asked met text Marked is two = absurd (omega arith)
-two-is-words asked met text (Failed Words) is two = is.caused.0
-two-is-words asked met text (Failed (Load FailedLoad)) is two = absurd (omega arith)
-two-is-words asked met text (Failed (Load Missing)) is two = absurd (omega arith)
-two-is-words asked met text (Failed (Load (TooLong limit))) is two = absurd (omega arith)
-two-is-words asked met text (Failed (Load (Aff line why))) is two = absurd (omega arith)
-two-is-words asked met text (Failed (Load (Dic line why))) is two = absurd (omega arith)
-two-is-words asked met text (Failed (Load LoadWanting)) is two = absurd (omega arith)
-two-is-words asked met text (Failed (Document (NotUtf8 line))) is two = absurd (omega arith)
-two-is-words asked met text (Failed (Document (TooManyParagraphs limit))) is two = absurd (omega arith)
-two-is-words asked met text (Failed (Document (LongParagraph limit))) is two = absurd (omega arith)
-two-is-words asked met text (Failed (Document ReportWanting)) is two = absurd (omega arith)
-two-is-words asked met text (Failed Input) is two = absurd (omega arith)
-two-is-words asked met text (Failed (Limit limit)) is two = absurd (omega arith)
-two-is-words asked met text (Failed NoMemory) is two = absurd (omega arith)
-
-pub two-has-no-form : (asked : Option Asked) (met : Met) (sink_failed : Type 0) (before now : Option (List ℕ)) (status : ℕ)
+pub two-has-no-form : {asked : Option Request} {met : Met} {sink_failed : Type 0} {before now : Option (List ℕ)} {status : ℕ}
     → EndsAs (IsAnswerTo asked met) sink_failed before now status → status ≡ 2 → asked ≡ None
-two-has-no-form asked met sink_failed before now status ends two = by ends.put
-  where
-    by : IsPut (status_at ends.end) (ends.text ++ tail_of ends.end) sink_failed before now status → asked ≡ None
-    by (inl put) =
-        let is : status_at ends.end ≡ 2 = sym put.0 ∙ two in
-        let same : ends.end ≡ ends.due = told-due ends.due ends.end ends.end_is (λ seven. absurd (omega (arith, is, seven))) in
-        two-is-words asked met ends.text ends.due ends.answer (ap status_at (sym same) ∙ is)
-    by (inr cut) = absurd (omega (arith, cut.1, two))
+two-has-no-form ends two = ends.answer.caused.words (due-told 2 (omega arith) (omega arith) ends two).0
 
 -- files that failed, an input that failed, and a file that is not there alone have the status 5
 abbrev pub IsFive : Met → Option (List ℕ) → Option (List ℕ) → Type 0
-IsFive met before now = (met.files_before < met.files_after) ⊎ ((met.reads_before < met.reads_after) ⊎ Appends before now (last_line (Load Missing)))
+IsFive met before now = (met.files_before < met.files_after)
+    ⊎ ((met.reading.faults_before < met.reading.faults_after) ⊎ Appends before now (last_line (Load Missing)))
 
-five-is-outside : (asked : Option Asked) (met : Met) (before now : Option (List ℕ)) (text : List ℕ) (end : End) → IsAnswerTo asked met text end → status_at end ≡ 5
-    → Appends before now (text ++ tail_of end) → IsFive met before now
-five-is-outside asked met before now text Quiet is five put = absurd (omega arith)
-five-is-outside asked met before now text Marked is five put = absurd (omega arith)
-five-is-outside asked met before now text (Failed Words) is five put = absurd (omega arith)
-five-is-outside asked met before now text (Failed (Load FailedLoad)) is five put = inl is.caused.0
-five-is-outside asked met before now text (Failed (Load Missing)) is five put =
-    inr (inr (subst (λ text. Appends before now (text ++ last_line (Load Missing))) is.caused put))
-five-is-outside asked met before now text (Failed (Load (TooLong limit))) is five put = absurd (omega arith)
-five-is-outside asked met before now text (Failed (Load (Aff line why))) is five put = absurd (omega arith)
-five-is-outside asked met before now text (Failed (Load (Dic line why))) is five put = absurd (omega arith)
-five-is-outside asked met before now text (Failed (Load LoadWanting)) is five put = absurd (omega arith)
-five-is-outside asked met before now text (Failed (Document (NotUtf8 line))) is five put = absurd (omega arith)
-five-is-outside asked met before now text (Failed (Document (TooManyParagraphs limit))) is five put = absurd (omega arith)
-five-is-outside asked met before now text (Failed (Document (LongParagraph limit))) is five put = absurd (omega arith)
-five-is-outside asked met before now text (Failed (Document ReportWanting)) is five put = absurd (omega arith)
-five-is-outside asked met before now text (Failed Input) is five put = inr (inl is.caused)
-five-is-outside asked met before now text (Failed (Limit limit)) is five put = absurd (omega arith)
-five-is-outside asked met before now text (Failed NoMemory) is five put = absurd (omega arith)
-
-pub five-has-cause : (asked : Option Asked) (met : Met) (sink_failed : Type 0) (before now : Option (List ℕ)) (status : ℕ)
+pub five-has-cause : {asked : Option Request} {met : Met} {sink_failed : Type 0} {before now : Option (List ℕ)} {status : ℕ}
     → EndsAs (IsAnswerTo asked met) sink_failed before now status → status ≡ 5 → IsFive met before now
-five-has-cause asked met sink_failed before now status ends five = by ends.put
+five-has-cause {asked} {met} {before = before} {now = now} ends five = by told_is.0
   where
-    by : IsPut (status_at ends.end) (ends.text ++ tail_of ends.end) sink_failed before now status → IsFive met before now
-    by (inl put) =
-        let is : status_at ends.end ≡ 5 = sym put.0 ∙ five in
-        let same : ends.end ≡ ends.due = told-due ends.due ends.end ends.end_is (λ seven. absurd (omega (arith, is, seven))) in
-        five-is-outside asked met before now ends.text ends.due ends.answer (ap status_at (sym same) ∙ is)
-        (subst (λ end. Appends before now (ends.text ++ tail_of end)) same put.1)
-    by (inr cut) = absurd (omega (arith, cut.1, five))
+    told_is : Tells 5 ends.due × Appends before now (ends.text ++ tail_of ends.due)
+    told_is = due-told 5 (omega arith) (omega arith) ends five
+
+    by : Tells 5 ends.due → IsFive met before now
+    by (inl files) = inl (ends.answer.caused.files files)
+    by (inr (inl missing)) =
+        let alone : ends.text ≡ [] = ends.answer.caused.alone (ap is_alone missing) in
+        inr (inr (subst (λ end. Appends before now (tail_of end)) missing
+        (subst (λ text. Appends before now (text ++ tail_of ends.due)) alone told_is.1)))
+    by (inr (inr input)) = inr (inl (ends.answer.caused.input input))

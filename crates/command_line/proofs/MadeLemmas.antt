@@ -1,10 +1,11 @@
 -- The dictionary that is made is found in memory under its names.
-use Rattle.std.proofs.Common.{◌≡◌, ap, subst, Option, None, Some, IfSome, ℕ, [], ◌∷◌, String, Vec, Global, true, false, codes}
+use Rattle.std.proofs.Common.{◌≡◌, ap, refl, Option, None, Some, ℕ, [], ◌∷◌, String, Vec, Global, true, false, codes}
 use Rattle.std.specs.Str.{bytes_eq}
 use Rattle.std.specs.String.{string_bytes}
 use Rattle.outside.specs.Files.{Folder}
 use Rattle.outside.specs.Memory.{file_of}
-use Rattle.dictionary_swap.specs.Loads.{DictionaryFiles, found_in}
+use Rattle.console_board.specs.Transcripts.{IsThere}
+use Rattle.dictionary_swap.specs.Loads.{DictionaryFiles}
 use Rattle.work_maker.specs.Made.{aff_bytes, dic_bytes}
 use Rattle.command_line.specs.Due.{HasMade}
 
@@ -22,10 +23,8 @@ made-found size first second aff dic is_first is_second is_aff is_dic = (rw firs
     second_is : bytes_eq (string_bytes second) (codes "made.dic") ≡ true
     second_is = ap (λ name. bytes_eq name (codes "made.dic")) is_second
 
--- what is true of the files that are told is true of those that are made
-pub made-told : (size : ℕ) (told : Option Folder) (P : DictionaryFiles → Type 0) → HasMade size told
-    → IfSome told (λ folder. P (found_in folder (codes "made.aff") (codes "made.dic"))) → P (record { aff = Some aff_bytes; dic = Some (dic_bytes size) })
-made-told size None P has is = absurd has
-made-told size (Some folder) P has is =
-    subst (λ aff. P (record { aff = aff; dic = Some (dic_bytes size) })) has.0
-    (subst (λ dic. P (record { aff = folder (codes "made.aff"); dic = dic })) has.1 is)
+-- what there is of the files that are made is the dictionary that is made
+pub made-there : (size : ℕ) (told : Option Folder) {there : DictionaryFiles} → HasMade size told
+    → IsThere told (codes "made.aff") (codes "made.dic") there → there ≡ record { aff = Some aff_bytes; dic = Some (dic_bytes size) }
+made-there size None has is = absurd has
+made-there size (Some folder) has is = rw (is, has.0, has.1) refl

@@ -1,17 +1,16 @@
 -- What is due of files: what the program is to print of them, or why there is nothing to print.
-use Rattle.std.specs.Prelude.{◌≡◌, ℕ, List, codes, Option, Some, None, IsSomeAnd, Result, Ok, Err}
+use Rattle.std.specs.Prelude.{◌≡◌, ℕ, true, List, codes, Option, Some, None, IsSomeAnd, Result, Ok, Err}
 use Rattle.outside.specs.Files.{Folder, file_due}
 use Rattle.spell_types.specs.declared.Lexicon.{Lexicon}
 use Rattle.dictionary_swap.specs.Loads.{DictionaryFiles, lexicon_due, load_fault_of}
-use Rattle.dictionary_swap.specs.declared.fault.LoadFault.TheVariants.{Failed, Missing, TooLong, Aff, Dic, NoMemory as LoadWanting}
+use Rattle.dictionary_swap.specs.declared.fault.LoadFault.TheVariants.{Failed}
 use Rattle.document_report.specs.Documents.{document_due}
 use Rattle.document_report.specs.Reports.{Printed, report_of, summary_of}
-use Rattle.document_report.specs.declared.fault.DocumentFault.TheVariants.{NotUtf8, TooManyParagraphs, LongParagraph, NoMemory as ReportWanting}
 use Rattle.work_maker.specs.Made.{aff_bytes, dic_bytes, text_bytes}
-use Rattle.command_line.specs.Failures.{document_failure, failure_of}
-use Rattle.command_line.specs.Requests.{CheckedFiles, StartAndSize}
+use Rattle.command_line.specs.Failures.{document_failure, failure_of, is_fault}
+use Rattle.command_line.specs.Operands.{CheckedFiles, StartAndSize}
 use Rattle.command_line.specs.declared.failure.Failure.{Failure}
-use Rattle.command_line.specs.declared.failure.Failure.TheVariants.{Words, Load, Document, Input, Limit, NoMemory}
+use Rattle.command_line.specs.declared.failure.Failure.TheVariants.{Load, NoMemory}
 
 -- the greatest size of a document, in bytes
 abbrev pub document_limit : ℕ
@@ -74,22 +73,16 @@ abbrev pub IsFound : Option Folder → CheckedFiles → Found → Type 0
 IsFound None names found = Unit {0}
 IsFound (Some folder) names found = found ≡ record { aff = folder names.aff; dic = folder names.dic; document = folder names.document }
 
--- A call fails for what is due; but a failed file and want of memory may come at any time. Neither words nor an input are concerned.
-abbrev pub FailsAs : {A : Type 0} → Result A Failure → Failure → Type 0
-FailsAs due Words = ⊥
-FailsAs due (Load Failed) = Unit {0}
-FailsAs due (Load Missing) = due ≡ Err (Load Missing)
-FailsAs due (Load (TooLong limit)) = due ≡ Err (Load (TooLong limit))
-FailsAs due (Load (Aff line why)) = due ≡ Err (Load (Aff line why))
-FailsAs due (Load (Dic line why)) = due ≡ Err (Load (Dic line why))
-FailsAs due (Load LoadWanting) = ⊥
-FailsAs due (Document (NotUtf8 line)) = due ≡ Err (Document (NotUtf8 line))
-FailsAs due (Document (TooManyParagraphs limit)) = due ≡ Err (Document (TooManyParagraphs limit))
-FailsAs due (Document (LongParagraph limit)) = due ≡ Err (Document (LongParagraph limit))
-FailsAs due (Document ReportWanting) = ⊥
-FailsAs due Input = ⊥
-FailsAs due (Limit limit) = ⊥
-FailsAs due NoMemory = Unit {0}
+-- what there is of a file of this name: where a folder is told, what it has of it; where none is, anything
+abbrev pub IsFileThere : Option Folder → List ℕ → Option (List ℕ) → Type 0
+IsFileThere None name file = Unit {0}
+IsFileThere (Some folder) name file = file ≡ folder name
+
+-- why a call fails: for what is due, for a failed file, or for want of memory, of which the last two may come at any time
+pub data FailsAs {A : Type 0} (due : Result A Failure) (failure : Failure) : Type 0 where
+  OfDue : is_fault failure ≡ true → due ≡ Err failure → FailsAs due failure
+  OfFiles : failure ≡ Load Failed → FailsAs due failure
+  OfMemory : failure ≡ NoMemory → FailsAs due failure
 
 -- a call gives what is due, seen by `view`, or fails so
 abbrev pub Gives : {A B : Type 0} → (A → B) → Result B Failure → Result A Failure → Type 0

@@ -22,10 +22,10 @@ tail_of (Failed failure) = last_line failure
 abbrev pub sink_status : ℕ
 sink_status = 6
 
--- a text was put: whole, with this status, or a front of it into a sink that failed
-abbrev pub IsPut : ℕ → List ℕ → Type 0 → Option (List ℕ) → Option (List ℕ) → ℕ → Type 0
-IsPut meant text sink_failed before now status =
-    ((status ≡ meant) × Appends before now text) ⊎ (sink_failed × (status ≡ sink_status) × AppendsFront before now text)
+-- how a text was put: whole, with this status, or a front of it into a sink that failed
+pub data IsPut (meant : ℕ) (text : List ℕ) (sink_failed : Type 0) (before now : Option (List ℕ)) (status : ℕ) : Type 0 where
+  Whole : status ≡ meant → Appends before now text → IsPut meant text sink_failed before now status
+  Cut : sink_failed → status ≡ sink_status → AppendsFront before now text → IsPut meant text sink_failed before now status
 
 -- an end is this one, or memory is wanting for its last line
 abbrev pub IsOrWanting : End → End → Type 0

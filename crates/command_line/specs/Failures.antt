@@ -1,5 +1,5 @@
 -- Why a call fails: its status, and its last line.
-use Rattle.std.specs.Prelude.{ℕ, List, ◌++◌, codes}
+use Rattle.std.specs.Prelude.{ℕ, Bool, true, false, List, ◌++◌, codes}
 use Rattle.std.specs.Fmt.{decimal}
 use Rattle.aff_lines.specs.Faults.{why_name as aff_why_name}
 use Rattle.dic_reader.specs.Faults.{why_name as dic_why_name}
@@ -80,3 +80,12 @@ document_failure (NotUtf8 line) = Document (NotUtf8 line)
 document_failure (TooManyParagraphs limit) = Document (TooManyParagraphs limit)
 document_failure (LongParagraph limit) = Document (LongParagraph limit)
 document_failure ReportWanting = NoMemory
+
+-- whether a failure is one of the files or of the document themselves: one is not there or too large, or something in it is wrong
+abbrev pub is_fault : Failure → Bool
+is_fault (Load Failed) = false
+is_fault (Load LoadWanting) = false
+is_fault (Load fault) = true
+is_fault (Document ReportWanting) = false
+is_fault (Document fault) = true
+is_fault _ = false

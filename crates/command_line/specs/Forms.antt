@@ -1,14 +1,13 @@
 -- What there is to say of each form of words: whether it names files, whether it reads the input, what it may be answered, and what is whole.
-use Rattle.std.specs.Prelude.{◌≡◌, ℕ, ◌+◌, ◌==◌, ◌<◌, ◌≤◌, Bool, true, false, ◌⊎◌, List, [], ◌∷◌, ◌++◌, Option, Some, None, Result, Ok, Err, if◌then◌else◌}
+use Rattle.std.specs.Prelude.{◌≡◌, ℕ, ◌+◌, ◌==◌, ◌<◌, ◌≤◌, Bool, true, false, List, [], ◌∷◌, ◌++◌, Option, Some, None, Result, Ok, Err, if◌then◌else◌}
 use Rattle.std.specs.Bool.{OnFalse}
 use Rattle.std.specs.List.{AllByRecursion}
 use Rattle.outside.specs.Files.{Folder}
 use Rattle.spell_types.specs.declared.Lexicon.{Lexicon}
 use Rattle.text_lines.specs.Lines.{line_texts}
 use Rattle.dictionary_swap.specs.Loads.{DictionaryFiles, found_in}
-use Rattle.dictionary_swap.specs.declared.fault.LoadFault.TheVariants.{Failed as FailedLoad, Missing, TooLong, Aff, Dic, NoMemory as LoadWanting}
+use Rattle.dictionary_swap.specs.declared.fault.LoadFault.TheVariants.{Failed as FailedLoad}
 use Rattle.document_report.specs.Reports.{Printed}
-use Rattle.document_report.specs.declared.fault.DocumentFault.TheVariants.{NotUtf8, TooManyParagraphs, LongParagraph, NoMemory as ReportWanting}
 use Rattle.input_lines.specs.Ends.{HasEnded, Reading}
 use Rattle.input_lines.specs.Lines.{IsBounded, IsShort, before_quit, input_limit}
 use Rattle.input_lines.specs.Answers.{line_limit}
@@ -17,25 +16,26 @@ use Rattle.input_lines.specs.declared.reading_end.ReadingEnd.TheVariants as read
 use Rattle.console_lang.specs.declared.reply.Reply.{Reply}
 use Rattle.console_board.specs.Transcripts.{IsThere, IsTranscript, is_quit, written_of, failures_in}
 use Rattle.command_line.specs.Due.{Found, IsFound, check_due, dictionary_due, make_due}
-use Rattle.command_line.specs.Requests.{Asked, CheckedFiles, DictionaryNamed, StartAndSize, ToCheck, ToMake, ToEdit}
+use Rattle.command_line.specs.Failures.{is_fault}
+use Rattle.command_line.specs.Operands.{DictionaryNamed}
+use Rattle.command_line.specs.declared.requests.Request.{Request}
+use Rattle.command_line.specs.declared.requests.Request.TheVariants.{Check, Make, Edit}
 use Rattle.command_line.specs.declared.ending.End.{End}
 use Rattle.command_line.specs.declared.ending.End.TheVariants.{Quiet, Marked, Failed}
 use Rattle.command_line.specs.declared.failure.Failure.{Failure}
 use Rattle.command_line.specs.declared.failure.Failure.TheVariants.{Words, Load, Document, Input, Limit, NoMemory}
 
--- What a call meets outside: what the folder tells; what the input tells before the call and behind it; and how often each had failed then.
+-- What a call meets outside: what the folder tells, how often the files had failed before the call and behind it, and what was read of the input.
 pub record Met : Type 0 where
   pub folder : Option Folder
   pub files_before : ℕ
   pub files_after : ℕ
-  pub input_before : Option (List ℕ)
-  pub input_after : Option (List ℕ)
-  pub reads_before : ℕ
-  pub reads_after : ℕ
+  pub reading : Reading
 
 -- nothing was taken of the input
-abbrev pub IsUntouched : Met → Type 0
-IsUntouched met = (met.input_after ≡ met.input_before) × (met.reads_after ≡ met.reads_before)
+pub record IsUntouched (reading : Reading) : Type 0 where
+  pub same : reading.after ≡ reading.before
+  pub count : reading.faults_after ≡ reading.faults_before
 
 -- a form of words
 pub record Form : Type 1 where
@@ -46,7 +46,7 @@ pub record Form : Type 1 where
   -- where nothing fails and no limit is passed, the text is whole, or memory was wanting
   pub whole : Met → List ℕ → End → Type 0
 
--- ---- a report
+-- ---- forms that ask for a report
 
 -- whether a text is whole lines
 abbrev pub is_whole : List ℕ → Bool
@@ -65,66 +65,33 @@ abbrev pub lines_before : Result Printed Failure → List ℕ
 lines_before (Ok printed) = printed.text
 lines_before (Err failure) = []
 
--- something printed, with no mark in it or with some
-pub record IsPrinted (due : Result Printed Failure) (text : List ℕ) (is_quiet : Bool) : Type 0 where
-  pub printed : Printed
-  pub due_is : due ≡ Ok printed
-  pub text_is : text ≡ printed.text
-  pub quiet : is_quiet ≡ (printed.marks == 0)
+-- how a call ends that has printed something, with no mark in it or with some
+abbrev pub end_printed : Printed → End
+end_printed printed = if printed.marks == 0 then Quiet else Marked
 
--- nothing is printed, for this failure
-abbrev pub IsRefused : Result Printed Failure → List ℕ → Failure → Type 0
-IsRefused due text Words = ⊥
-IsRefused due text (Load FailedLoad) = Unit {0}
-IsRefused due text (Load Missing) = due ≡ Err (Load Missing)
-IsRefused due text (Load (TooLong limit)) = due ≡ Err (Load (TooLong limit))
-IsRefused due text (Load (Aff line why)) = due ≡ Err (Load (Aff line why))
-IsRefused due text (Load (Dic line why)) = due ≡ Err (Load (Dic line why))
-IsRefused due text (Load LoadWanting) = ⊥
-IsRefused due text (Document (NotUtf8 line)) = due ≡ Err (Document (NotUtf8 line))
-IsRefused due text (Document (TooManyParagraphs limit)) = due ≡ Err (Document (TooManyParagraphs limit))
-IsRefused due text (Document (LongParagraph limit)) = due ≡ Err (Document (LongParagraph limit))
-IsRefused due text (Document ReportWanting) = ⊥
-IsRefused due text Input = ⊥
-IsRefused due text (Limit limit) = ⊥
-IsRefused due text NoMemory = AreFirstLines (lines_before due) text
+-- how a report may end where this is due: it is printed, or refused as is due, or the files failed, or memory was wanting
+pub data IsReport (due : Result Printed Failure) (text : List ℕ) (end : End) : Type 0 where
+  AllPrinted : (printed : Printed) → due ≡ Ok printed → text ≡ printed.text → end ≡ end_printed printed → IsReport due text end
+  Refused : (failure : Failure) → is_fault failure ≡ true → due ≡ Err failure → end ≡ Failed failure → IsReport due text end
+  FilesFailed : end ≡ Failed (Load FailedLoad) → IsReport due text end
+  Wanting : end ≡ Failed NoMemory → AreFirstLines (lines_before due) text → IsReport due text end
 
--- what is printed where this is due, or why nothing is
-abbrev pub IsReport : Result Printed Failure → List ℕ → End → Type 0
-IsReport due text Quiet = IsPrinted due text true
-IsReport due text Marked = IsPrinted due text false
-IsReport due text (Failed failure) = IsRefused due text failure
+-- all of a report is printed, or memory was wanting
+pub data IsWholeReport (printed : Printed) (text : List ℕ) (end : End) : Type 0 where
+  AllOfIt : text ≡ printed.text → end ≡ end_printed printed → IsWholeReport printed text end
+  SomeOfIt : end ≡ Failed NoMemory → AreFirstLines printed.text text → IsWholeReport printed text end
 
--- all of it is printed, or memory was wanting
-abbrev pub IsWholeReport : Printed → List ℕ → End → Type 0
-IsWholeReport printed text Quiet = IsPrinted (Ok printed) text true
-IsWholeReport printed text Marked = IsPrinted (Ok printed) text false
-IsWholeReport printed text (Failed NoMemory) = AreFirstLines printed.text text
-IsWholeReport printed text (Failed failure) = ⊥
-
--- `check AFF DIC FILE`
-abbrev pub check_form : CheckedFiles → Form
-check_form names = record {
-  names_files = true;
+-- a form of words that asks for a report, by what may be due of what is met; where only one report may be, and the files do not fail, that one is whole
+abbrev pub report_form : Bool → (Met → Result Printed Failure → Type 0) → Form
+report_form names_files may_be_due = record {
+  names_files = names_files;
   reads_input = false;
-  answers = λ met text end. (found : Found) × IsFound met.folder names found × IsReport (check_due found) text end;
-  whole = λ met text end. (printed : Printed) → ((found : Found) → IsFound met.folder names found → check_due found ≡ Ok printed)
+  answers = λ met text end. (due : Result Printed Failure) × may_be_due met due × IsReport due text end;
+  whole = λ met text end. (printed : Printed) → ((due : Result Printed Failure) → may_be_due met due → due ≡ Ok printed)
       → met.files_after ≡ met.files_before → IsWholeReport printed text end;
 }
 
--- `make START SIZE`
-abbrev pub make_form : StartAndSize → Form
-make_form asked = record {
-  names_files = false;
-  reads_input = false;
-  answers = λ met text end. IsReport (make_due asked) text end;
-  whole = λ met text end. (printed : Printed) → make_due asked ≡ Ok printed → IsWholeReport printed text end;
-}
-
--- ---- a dialogue
-
-abbrev pub reading_of : Met → Reading
-reading_of met = record { before = met.input_before; after = met.input_after; faults_before = met.reads_before; faults_after = met.reads_after }
+-- ---- forms that begin a dialogue
 
 -- these lines were replied to so, by a console that opens with a dictionary, and the files failed as often at least as was told
 pub record AreReplied (met : Met) (lexicon : Lexicon) (lines : List (List ℕ)) (said : List ℕ) : Type 0 where
@@ -132,6 +99,10 @@ pub record AreReplied (met : Met) (lexicon : Lexicon) (lines : List (List ℕ)) 
   pub said_is : said ≡ written_of replies
   pub transcript : IsTranscript 0 met.folder lexicon lines replies
   pub failures : met.files_before + failures_in replies ≤ met.files_after
+
+-- the reading of the input of a dialogue has ended so
+abbrev pub HasReplied : Met → Lexicon → ReadingEnd → List ℕ → Type 0
+HasReplied met lexicon ended text = HasEnded is_quit (AreReplied met lexicon) met.reading ended text
 
 -- how a dialogue ends where its reading ends so; where the sink fails, nothing is told
 abbrev pub end_of : ReadingEnd → Option End
@@ -146,28 +117,27 @@ end_of reading.SinkFailed = None
 pub record IsDialogue (met : Met) (lexicon : Lexicon) (text : List ℕ) (end : End) : Type 0 where
   pub ended : ReadingEnd
   pub end_is : end_of ended ≡ Some end
-  pub is : HasEnded is_quit (AreReplied met lexicon) (reading_of met) ended text
+  pub is : HasReplied met lexicon ended text
 
--- the files of the dictionary failed, or memory was wanting before the console opened
-abbrev pub IsNotOpened : Met → List ℕ → End → Type 0
-IsNotOpened met text (Failed (Load FailedLoad)) = IsUntouched met
-IsNotOpened met text (Failed NoMemory) = text ≡ []
-IsNotOpened met text end = ⊥
-
--- the dictionary is refused, or the console opens with it
-abbrev pub IsOpenedBy : Met → Result Lexicon Failure → List ℕ → End → Type 0
-IsOpenedBy met (Ok lexicon) text end = IsDialogue met lexicon text end
-IsOpenedBy met (Err failure) text end = (end ≡ Failed failure) × (text ≡ []) × IsUntouched met
+-- how the words of `edit` may be answered: the console that opens has replied; or before that it is due that the dictionary is refused, the files
+-- failed, or memory was wanting
+pub data IsEdited (met : Met) (names : DictionaryNamed) (text : List ℕ) (end : End) : Type 0 where
+  Opened : (there : DictionaryFiles) (lexicon : Lexicon) → IsThere met.folder names.aff names.dic there → dictionary_due there ≡ Ok lexicon
+      → IsDialogue met lexicon text end → IsEdited met names text end
+  NotOpened : (there : DictionaryFiles) (failure : Failure) → IsThere met.folder names.aff names.dic there → dictionary_due there ≡ Err failure
+      → end ≡ Failed failure → text ≡ [] → IsUntouched met.reading → IsEdited met names text end
+  FilesFailedFirst : end ≡ Failed (Load FailedLoad) → IsUntouched met.reading → IsEdited met names text end
+  WantingFirst : end ≡ Failed NoMemory → text ≡ [] → IsEdited met names text end
 
 -- the files failed before anything was taken of the input
 abbrev pub FailedFirst : Met → Type 0
-FailedFirst met = (met.files_before < met.files_after) × IsUntouched met
+FailedFirst met = (met.files_before < met.files_after) × IsUntouched met.reading
 
 -- all lines were replied to, or memory was wanting
-abbrev pub IsWholeDialogue : Met → Lexicon → List ℕ → End → Type 0
-IsWholeDialogue met lexicon text Quiet = HasEnded is_quit (AreReplied met lexicon) (reading_of met) reading.Finished text
-IsWholeDialogue met lexicon text (Failed NoMemory) = HasEnded is_quit (AreReplied met lexicon) (reading_of met) reading.NoMemory text ⊎ (text ≡ [])
-IsWholeDialogue met lexicon text end = ⊥
+pub data IsWholeDialogue (met : Met) (lexicon : Lexicon) (text : List ℕ) (end : End) : Type 0 where
+  AllReplied : end ≡ Quiet → HasReplied met lexicon reading.Finished text → IsWholeDialogue met lexicon text end
+  SomeReplied : end ≡ Failed NoMemory → HasReplied met lexicon reading.NoMemory text → IsWholeDialogue met lexicon text end
+  NoneReplied : end ≡ Failed NoMemory → text ≡ [] → IsWholeDialogue met lexicon text end
 
 -- the folder has the dictionary, and the input passes no limit
 pub record IsFit (met : Met) (names : DictionaryNamed) (lexicon : Lexicon) : Type 0 where
@@ -175,57 +145,55 @@ pub record IsFit (met : Met) (names : DictionaryNamed) (lexicon : Lexicon) : Typ
   pub folder_is : met.folder ≡ Some folder
   pub dictionary : dictionary_due (found_in folder names.aff names.dic) ≡ Ok lexicon
   pub input : List ℕ
-  pub input_is : met.input_before ≡ Some input
+  pub input_is : met.reading.before ≡ Some input
   pub bounded : IsBounded is_quit input
   pub short : AllByRecursion IsShort (before_quit is_quit (line_texts input))
 
--- `edit AFF DIC`
-abbrev pub edit_form : DictionaryNamed → Form
-edit_form names = record {
-  names_files = true;
-  reads_input = true;
-  answers = λ met text end. ((there : DictionaryFiles) × IsThere met.folder names.aff names.dic there × IsOpenedBy met (dictionary_due there) text end)
-      ⊎ IsNotOpened met text end;
-  whole = λ met text end. (lexicon : Lexicon) → IsFit met names lexicon → ¬ (FailedFirst met) → met.reads_after ≡ met.reads_before
-      → IsWholeDialogue met lexicon text end;
-}
-
 -- ---- all forms
 
+abbrev pub form_of : Option Request → Form
 -- words of no form
-abbrev pub no_form : Form
-no_form = record {
+form_of None = record {
   names_files = false;
   reads_input = false;
   answers = λ met text end. end ≡ Failed Words;
   whole = λ met text end. Unit {0};
 }
-
-abbrev pub form_of : Option Asked → Form
-form_of None = no_form
-form_of (Some (ToCheck names)) = check_form names
-form_of (Some (ToMake asked)) = make_form asked
-form_of (Some (ToEdit names)) = edit_form names
+-- `check AFF DIC FILE`
+form_of (Some (Check names)) =
+    report_form true (λ met due. (found : Found) × IsFound met.folder names found × (due ≡ check_due found))
+-- `make START SIZE`
+form_of (Some (Make asked)) = report_form false (λ met due. due ≡ make_due asked)
+-- `edit AFF DIC`
+form_of (Some (Edit names)) = record {
+  names_files = true;
+  reads_input = true;
+  answers = λ met text end. IsEdited met names text end;
+  whole = λ met text end. (lexicon : Lexicon) → IsFit met names lexicon → ¬ (FailedFirst met)
+      → met.reading.faults_after ≡ met.reading.faults_before → IsWholeDialogue met lexicon text end;
+}
 
 -- what words ask for that do without an input
-abbrev pub without_input : Option Asked → Option Asked
+abbrev pub without_input : Option Request → Option Request
 without_input asked = if (form_of asked).reads_input then None else asked
 
--- the cause of an end; where words, files or a document are refused, this is the only line
-abbrev pub IsCaused : Option Asked → Met → List ℕ → End → Type 0
-IsCaused asked met text Quiet = Unit {0}
-IsCaused asked met text Marked = Unit {0}
-IsCaused asked met text (Failed Words) = (asked ≡ None) × (text ≡ [])
-IsCaused asked met text (Failed (Load FailedLoad)) = (met.files_before < met.files_after) × (text ≡ [])
-IsCaused asked met text (Failed (Load fault)) = text ≡ []
-IsCaused asked met text (Failed (Document fault)) = text ≡ []
-IsCaused asked met text (Failed Input) = met.reads_before < met.reads_after
-IsCaused asked met text (Failed (Limit limit)) = Unit {0}
-IsCaused asked met text (Failed NoMemory) = Unit {0}
+-- where words, files or a document are refused, that is the only line
+abbrev pub is_alone : End → Bool
+is_alone (Failed Words) = true
+is_alone (Failed (Load fault)) = true
+is_alone (Failed (Document fault)) = true
+is_alone _ = false
+
+-- the causes of ends
+pub record IsCaused (asked : Option Request) (met : Met) (text : List ℕ) (end : End) : Type 0 where
+  pub words : end ≡ Failed Words → asked ≡ None
+  pub files : end ≡ Failed (Load FailedLoad) → met.files_before < met.files_after
+  pub input : end ≡ Failed Input → met.reading.faults_before < met.reading.faults_after
+  pub alone : is_alone end ≡ true → text ≡ []
 
 -- what words may be answered: what their form may be, with its cause; what the form does not need stays untouched
-pub record IsAnswerTo (asked : Option Asked) (met : Met) (text : List ℕ) (end : End) : Type 0 where
+pub record IsAnswerTo (asked : Option Request) (met : Met) (text : List ℕ) (end : End) : Type 0 where
   pub answer : (form_of asked).answers met text end
   pub caused : IsCaused asked met text end
-  pub input : OnFalse (form_of asked).reads_input (IsUntouched met)
+  pub input : OnFalse (form_of asked).reads_input (IsUntouched met.reading)
   pub files : OnFalse (form_of asked).names_files (met.files_after ≡ met.files_before)

@@ -1,3 +1,4 @@
+pub mod Operands
 pub mod Failures
 pub mod Requests
 pub mod Due

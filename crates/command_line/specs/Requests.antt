@@ -3,28 +3,9 @@ use Rattle.std.specs.Prelude.{ℕ, nat_le, ◌&&◌, Bool, true, false, List, []
 use Rattle.std.specs.Option.{option_map}
 use Rattle.std.specs.Str.{bytes_eq}
 use Rattle.text_lines.specs.Fields.{decimal_of}
-
--- the files that the words of `check` name
-pub record CheckedFiles : Type 0 where
-  pub aff : List ℕ
-  pub dic : List ℕ
-  pub document : List ℕ
-
--- what the words of `make` ask for: a dictionary and a text of this size, whose words are drawn from this start on
-pub record StartAndSize : Type 0 where
-  pub start : ℕ
-  pub size : ℕ
-
--- the files of a dictionary, by their names
-pub record DictionaryNamed : Type 0 where
-  pub aff : List ℕ
-  pub dic : List ℕ
-
--- what words may ask for
-pub data Asked : Type 0 where
-  ToCheck : CheckedFiles → Asked
-  ToMake : StartAndSize → Asked
-  ToEdit : DictionaryNamed → Asked
+use Rattle.command_line.specs.Operands.{StartAndSize}
+use Rattle.command_line.specs.declared.requests.Request.{Request}
+use Rattle.command_line.specs.declared.requests.Request.TheVariants.{Check, Make, Edit}
 
 -- whether these words are options: none is built, so that they are so only where there are none
 abbrev pub are_options : List (List ℕ) → Bool
@@ -32,8 +13,8 @@ are_options [] = true
 are_options (word ∷ words) = false
 
 -- `check AFF DIC FILE`
-abbrev pub check_in : List (List ℕ) → Option Asked
-check_in (aff ∷ dic ∷ document ∷ options) = if are_options options then Some (ToCheck (record { aff = aff; dic = dic; document = document })) else None
+abbrev pub check_in : List (List ℕ) → Option Request
+check_in (aff ∷ dic ∷ document ∷ options) = if are_options options then Some (Check (record { aff = aff; dic = dic; document = document })) else None
 check_in _ = None
 
 -- the greatest size that is made
@@ -46,17 +27,17 @@ of_numbers (Some start) (Some size) =
 of_numbers _ _ = None
 
 -- `make START SIZE`
-abbrev pub make_in : List (List ℕ) → Option Asked
-make_in (start ∷ size ∷ options) = if are_options options then option_map ToMake (of_numbers (decimal_of start) (decimal_of size)) else None
+abbrev pub make_in : List (List ℕ) → Option Request
+make_in (start ∷ size ∷ options) = if are_options options then option_map Make (of_numbers (decimal_of start) (decimal_of size)) else None
 make_in _ = None
 
 -- `edit AFF DIC`
-abbrev pub edit_in : List (List ℕ) → Option Asked
-edit_in (aff ∷ dic ∷ options) = if are_options options then Some (ToEdit (record { aff = aff; dic = dic })) else None
+abbrev pub edit_in : List (List ℕ) → Option Request
+edit_in (aff ∷ dic ∷ options) = if are_options options then Some (Edit (record { aff = aff; dic = dic })) else None
 edit_in _ = None
 
 -- what these words ask for, if they are of one of the forms
-abbrev pub asked_in : List (List ℕ) → Option Asked
+abbrev pub asked_in : List (List ℕ) → Option Request
 asked_in [] = None
 asked_in (name ∷ operands) =
     if bytes_eq name (codes "check") then check_in operands

@@ -10,6 +10,9 @@ use document_report::Report;
 use outside::Sink;
 use std::alloc::{AllocError, Global};
 
+/// The exit status where the sink failed.
+pub const SINK_FAILED: u8 = 6;
+
 /// How a call ends.
 #[derive(Clone, Copy, Debug, PartialEq, Eq)]
 pub enum End {
@@ -73,7 +76,7 @@ pub fn put<K: Sink>(out: &mut K, text: &[u8], status: u8) -> u8
 {
     match out.put(text) {
         Ok(()) => status,
-        Err(_) => 6,
+        Err(_) => SINK_FAILED,
     }
 }
 

@@ -4,7 +4,8 @@
 mod ending;
 mod failure;
 mod forms;
-mod making;
+mod loading;
+mod no_input;
 mod requests;
 mod top_call;
 

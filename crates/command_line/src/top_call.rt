@@ -1,14 +1,14 @@
 //! The top call: what the program does, from its words to its exit status.
 
-ghost use Rattle.std.specs.Prelude.{◌≡◌, ℕ, ◌<◌, ◌≤◌, ◌⊎◌, map, IfNone, IfSome, List, Option, Some, None};
-ghost use Rattle.std.specs.Option.{option_map};
+ghost use Rattle.std.specs.Prelude.{◌≡◌, ℕ, ◌<◌, ◌≤◌, ◌⊎◌, map, List, Option, None};
 ghost use Rattle.std.specs.String.{string_bytes};
+ghost use Rattle.outside.specs.Files.{Folder};
 ghost use Rattle.outside.specs.Sink.{Appends};
-ghost use Rattle.command_line.specs.Ends.{EndsAs};
+ghost use Rattle.input_lines.specs.Ends.{Reading};
+ghost use Rattle.command_line.specs.Ends.{EndsAs, sink_status};
 ghost use Rattle.command_line.specs.Failures.{last_line};
-ghost use Rattle.command_line.specs.Forms.{IsAnswerTo, Met, form_of, without_input};
-ghost use Rattle.command_line.specs.Given.{asked_by, dictionary_by};
-ghost use Rattle.command_line.specs.Requests.{ToEdit, asked_in};
+ghost use Rattle.command_line.specs.Forms.{IsAnswerTo, IsUntouched, Met, form_of, without_input};
+ghost use Rattle.command_line.specs.Requests.{asked_in};
 ghost use Rattle.command_line.specs.declared.failure.Failure.TheVariants.{Load};
 ghost use Rattle.dictionary_swap.specs.declared.fault.LoadFault.TheVariants.{Missing};
 
@@ -17,7 +17,8 @@ use crate::failure::Failure;
 use crate::forms::check::check;
 use crate::forms::edit::edit;
 use crate::forms::make::make;
-use crate::requests::{DictionaryNames, Request, request_of};
+use crate::no_input::NoInput;
+use crate::requests::{Request, request_of, without_input};
 use outside::{Files, Gate, Sink, Source};
 use std::alloc::Global;
 use std::sync::Wait;
@@ -52,10 +53,12 @@ where
       folder = F.told files.old;
       files_before = F.Files.faults files.old;
       files_after = F.Files.faults files.new;
-      input_before = S.left input.old;
-      input_after = S.left input.new;
-      reads_before = S.Source.faults input.old;
-      reads_after = S.Source.faults input.new;
+      reading = record {
+        before = S.left input.old;
+        after = S.left input.new;
+        faults_before = S.Source.faults input.old;
+        faults_after = S.Source.faults input.new;
+      };
     })) (K.Sink.faults out.old < K.Sink.faults out.new) (K.written out.old) (K.written out.new) result.status }
 
     // If the sink does not fail, the answer is whole as the form of the words says: where nothing else fails and no limit is passed, all
@@ -64,17 +67,19 @@ where
       folder = F.told files.old;
       files_before = F.Files.faults files.old;
       files_after = F.Files.faults files.new;
-      input_before = S.left input.old;
-      input_after = S.left input.new;
-      reads_before = S.Source.faults input.old;
-      reads_after = S.Source.faults input.new;
+      reading = record {
+        before = S.left input.old;
+        after = S.left input.new;
+        faults_before = S.Source.faults input.old;
+        faults_after = S.Source.faults input.new;
+      };
     })) ⊥ (K.written out.old) (K.written out.new) result.status }
 
     // What a reader may take from these alone, whatever is told.
     ensures no_form { result.status ≡ 2 → asked_in (map string_bytes words.now) ≡ None }
     ensures failed { result.status ≡ 5 → (F.Files.faults files.old < F.Files.faults files.new)
         ⊎ ((S.Source.faults input.old < S.Source.faults input.new) ⊎ Appends (K.written out.old) (K.written out.new) (last_line (Load Missing))) }
-    ensures sink { result.status ≡ 6 → K.Sink.faults out.old < K.Sink.faults out.new }
+    ensures sink { result.status ≡ sink_status → K.Sink.faults out.old < K.Sink.faults out.new }
 
     // What stays.
     ensures same { F.told files.new ≡ F.told files.old }
@@ -82,25 +87,8 @@ where
     ensures files_count { F.Files.faults files.old ≤ F.Files.faults files.new }
     ensures sink_count { K.Sink.faults out.old ≤ K.Sink.faults out.new }
 {
-    let request = request_of(words);
-    let status = match edited_by(request) {
-        Some(names) => edit(alloc, names, files, input, out),
-        None => answer_without_input(alloc, request, files, out),
-    };
+    let status = answer(alloc, request_of(words), files, input, out);
     Ended { status }
-}
-
-/// The dictionary that a request names that reads the input.
-fn edited_by(request: Option<Request<'_>>) -> Option<DictionaryNames<'_>>
-    ensures some { IfSome result (λ names. option_map asked_by request.entry ≡ Some (ToEdit (dictionary_by names))) }
-    ensures none { IfNone result (without_input (option_map asked_by request.entry) ≡ option_map asked_by request.entry) }
-{
-    match request {
-        Some(Request::Edit(names)) => Some(names),
-        Some(Request::Check(_)) => None,
-        Some(Request::Make(_)) => None,
-        None => None,
-    }
 }
 
 /// Does all of `check` and `make`, and answers 2 for other words. It always returns.
@@ -120,10 +108,7 @@ where
       folder = F.told files.old;
       files_before = F.faults files.old;
       files_after = F.faults files.new;
-      input_before = None;
-      input_after = None;
-      reads_before = 0;
-      reads_after = 0;
+      reading = record { before = None; after = None; faults_before = 0; faults_after = 0 };
     })) (K.faults out.old < K.faults out.new) (K.written out.old) (K.written out.new) result }
 
     // If the sink does not fail, the answer is whole as the form of the words says.
@@ -131,51 +116,78 @@ where
       folder = F.told files.old;
       files_before = F.faults files.old;
       files_after = F.faults files.new;
-      input_before = None;
-      input_after = None;
-      reads_before = 0;
-      reads_after = 0;
+      reading = record { before = None; after = None; faults_before = 0; faults_after = 0 };
     })) ⊥ (K.written out.old) (K.written out.new) result }
 
     // What a reader may take from these alone, whatever is told.
     ensures no_form { result ≡ 2 → without_input (asked_in (map string_bytes words.now)) ≡ None }
     ensures files { result ≡ 5 → (F.faults files.old < F.faults files.new)
         ⊎ Appends (K.written out.old) (K.written out.new) (last_line (Load Missing)) }
-    ensures sink { result ≡ 6 → K.faults out.old < K.faults out.new }
+    ensures sink { result ≡ sink_status → K.faults out.old < K.faults out.new }
 
     // What stays.
     ensures same { F.told files.new ≡ F.told files.old }
     ensures files_count { F.faults files.old ≤ F.faults files.new }
     ensures sink_count { K.faults out.old ≤ K.faults out.new }
 {
-    answer_without_input(alloc, request_of(words), files, out)
+    let request = without_input(request_of(words));
+    answer(alloc, request, files, &mut NoInput, out)
 }
 
-/// Does what a request asks for that does without an input, and answers 2 for any other.
-fn answer_without_input<F: Files, K: Sink>(
+/// Does what a request asks for, and answers 2 where words ask for nothing.
+fn answer<F: Files, S: Source, K: Sink>(
     alloc: Global,
     request: Option<Request<'_>>,
     files: &mut F,
+    input: &mut S,
     out: &mut K,
 ) -> u8
-    // Whatever there is of an input that stays untouched.
-    ensures due { (input : Option (List ℕ)) (reads : ℕ) → EndsAs (IsAnswerTo (without_input (option_map asked_by request.entry)) (record {
+    ensures due { EndsAs (IsAnswerTo request.entry (record {
       folder = F.told files.old;
-      files_before = F.faults files.old;
-      files_after = F.faults files.new;
-      input_before = input;
-      input_after = input;
-      reads_before = reads;
-      reads_after = reads;
-    })) (K.faults out.old < K.faults out.new) (K.written out.old) (K.written out.new) result }
+      files_before = F.Files.faults files.old;
+      files_after = F.Files.faults files.new;
+      reading = record {
+        before = S.left input.old;
+        after = S.left input.new;
+        faults_before = S.Source.faults input.old;
+        faults_after = S.Source.faults input.new;
+      };
+    })) (K.Sink.faults out.old < K.Sink.faults out.new) (K.written out.old) (K.written out.new) result }
+    ensures complete { K.Sink.faults out.new ≡ K.Sink.faults out.old → EndsAs ((form_of request.entry).whole (record {
+      folder = F.told files.old;
+      files_before = F.Files.faults files.old;
+      files_after = F.Files.faults files.new;
+      reading = record {
+        before = S.left input.old;
+        after = S.left input.new;
+        faults_before = S.Source.faults input.old;
+        faults_after = S.Source.faults input.new;
+      };
+    })) ⊥ (K.written out.old) (K.written out.new) result }
     ensures same { F.told files.new ≡ F.told files.old }
-    ensures files_count { F.faults files.old ≤ F.faults files.new }
-    ensures sink_count { K.faults out.old ≤ K.faults out.new }
+    ensures input_count { S.Source.faults input.old ≤ S.Source.faults input.new }
+    ensures files_count { F.Files.faults files.old ≤ F.Files.faults files.new }
+    ensures sink_count { K.Sink.faults out.old ≤ K.Sink.faults out.new }
 {
     match request {
         Some(Request::Check(names)) => check(alloc, names, files, out),
         Some(Request::Make(making)) => make(alloc, making, out),
-        Some(Request::Edit(_)) => put_end(alloc, out, End::Failed(Failure::Words)),
-        None => put_end(alloc, out, End::Failed(Failure::Words)),
+        Some(Request::Edit(names)) => edit(alloc, names, files, input, out),
+        None => tell_words(alloc, out),
     }
+}
+
+/// Tells that the words are of no form.
+fn tell_words<K: Sink>(alloc: Global, out: &mut K) -> u8
+    // Whatever there is outside, which stays untouched.
+    ensures due { (folder : Option Folder) (files : ℕ) (reading : Reading) → IsUntouched reading → EndsAs (IsAnswerTo None (record {
+      folder = folder;
+      files_before = files;
+      files_after = files;
+      reading = reading;
+    })) (K.faults out.old < K.faults out.new) (K.written out.old) (K.written out.new) result }
+    ensures complete { (met : Met) → K.faults out.new ≡ K.faults out.old → EndsAs ((form_of None).whole met) ⊥ (K.written out.old) (K.written out.new) result }
+    ensures sink_count { K.faults out.old ≤ K.faults out.new }
+{
+    put_end(alloc, out, End::Failed(Failure::Words))
 }

@@ -1,29 +1,61 @@
-//! What `check` is to print, as far as the files let it.
+//! What `check` is asked for, and what it is to print, as far as the files let it.
 
-ghost use Rattle.std.specs.Prelude.{◌≡◌, ◌<◌, ◌≤◌, ℕ, List, Option, Some, IfErr, IfOk, IfSome, IsErrOf};
+ghost use Rattle.std.specs.Prelude.{◌≡◌, ◌<◌, ◌≤◌, Some, IfOk, IsErrOf, map};
+ghost use Rattle.std.specs.String.{string_bytes};
 ghost use Rattle.document_report.specs.Given.{printed_as, printed_by};
-ghost use Rattle.command_line.specs.Due.{Found, Gives, IsFound, bytes_due, check_due, dictionary_due, printed_due};
+ghost use Rattle.input_lines.specs.Ends.{Reading};
+ghost use Rattle.command_line.specs.Due.{Found, Gives, IsFound, check_due, printed_due};
 ghost use Rattle.command_line.specs.Ends.{EndsAs};
-ghost use Rattle.command_line.specs.Forms.{IsAnswerTo, Met};
-ghost use Rattle.command_line.specs.Given.{checked_by};
-ghost use Rattle.command_line.specs.Requests.{ToCheck};
-ghost use Rattle.command_line.specs.declared.failure.Failure.TheVariants.{Load, NoMemory};
-ghost use Rattle.dictionary_swap.specs.Loads.{DictionaryFiles, found_in};
+ghost use Rattle.command_line.specs.Forms.{IsAnswerTo, IsUntouched, Met, form_of};
+ghost use Rattle.command_line.specs.Requests.{check_in};
+ghost use Rattle.command_line.specs.declared.failure.Failure.TheVariants.{Load};
+ghost use Rattle.command_line.specs.declared.requests.Request.TheVariants.{Check};
 ghost use Rattle.dictionary_swap.specs.declared.fault.LoadFault.TheVariants.{Failed};
 
 use crate::ending::put_outcome;
 use crate::failure::Failure;
-use crate::requests::CheckNames;
-use dictionary_swap::{LoadFault, load};
+use crate::loading::{load_document, load_speller};
+use crate::requests::{Request, are_options};
 use document_report::{Output, Report, report};
-use outside::{Files, Sink, load_file};
+use lists::NoMemory;
+use outside::{Files, Sink};
 use paragraph_marks::Plain;
 use std::alloc::Global;
+use std::marker::Model;
 use std::sync::Arc;
 use word_verdict::Speller;
 
-/// How large a document may be, in bytes.
-const DOCUMENT_LIMIT: u64 = 67_108_864;
+/// The files that the words `check AFF DIC FILE` name. Contracts see their names.
+#[derive(Drop)]
+pub struct CheckNames<'a> {
+    aff: &'a str,
+    dic: &'a str,
+    document: &'a str,
+}
+
+impl<'a> Model for CheckNames<'a> {
+    ghost use Rattle.command_line.specs.Operands.{CheckedFiles};
+
+    ghost Value = { CheckedFiles };
+
+    ghost view = { λ inside. record { aff = inside.aff.now; dic = inside.dic.now; document = inside.document.now } };
+}
+
+/// What the operands of `check` ask for.
+pub fn check_of(operands: &[String]) -> Option<Request<'_>>
+    ensures { result ≡ check_in (map string_bytes operands.now) }
+{
+    match operands {
+        [aff, dic, document, options @ ..] if are_options(options) => {
+            Some(Request::Check(CheckNames {
+                aff: aff.as_str(),
+                dic: dic.as_str(),
+                document: document.as_str(),
+            }))
+        }
+        _ => None,
+    }
+}
 
 /// Writes the report on a document.
 pub fn check<F: Files, K: Sink>(
@@ -33,15 +65,18 @@ pub fn check<F: Files, K: Sink>(
     out: &mut K,
 ) -> u8
     // Whatever there is of an input, which stays untouched.
-    ensures due { (input : Option (List ℕ)) (reads : ℕ) → EndsAs (IsAnswerTo (Some (ToCheck (checked_by names.entry))) (record {
+    ensures due { (reading : Reading) → IsUntouched reading → EndsAs (IsAnswerTo (Some (Check names.entry)) (record {
       folder = F.told files.old;
       files_before = F.faults files.old;
       files_after = F.faults files.new;
-      input_before = input;
-      input_after = input;
-      reads_before = reads;
-      reads_after = reads;
+      reading = reading;
     })) (K.faults out.old < K.faults out.new) (K.written out.old) (K.written out.new) result }
+    ensures complete { (reading : Reading) → K.faults out.new ≡ K.faults out.old → EndsAs ((form_of (Some (Check names.entry))).whole (record {
+      folder = F.told files.old;
+      files_before = F.faults files.old;
+      files_after = F.faults files.new;
+      reading = reading;
+    })) ⊥ (K.written out.old) (K.written out.new) result }
     ensures same { F.told files.new ≡ F.told files.old }
     ensures files_count { F.faults files.old ≤ F.faults files.new }
     ensures sink_count { K.faults out.old ≤ K.faults out.new }
@@ -58,68 +93,36 @@ fn outcome_of<F: Files>(
     files: &mut F,
 ) -> Result<Report, Failure>
     // It is what is due of some files, which are those that are told, where some are.
-    ensures due { (found : Found) × IsFound (F.told files.old) (checked_by names.entry) found × Gives printed_by (check_due found) result }
+    ensures due { (found : Found) × IsFound (F.told files.old) names.entry found × Gives printed_by (check_due found) result }
     ensures failed { IsErrOf result (Load Failed) → F.faults files.old < F.faults files.new }
     ensures same { F.told files.new ≡ F.told files.old }
     ensures count { F.faults files.old ≤ F.faults files.new }
 {
-    let judge = load_judge(alloc, files, names.aff, names.dic)?;
+    let speller = load_speller(alloc, files, names.aff, names.dic)?;
     let document = load_document(alloc, files, names.document)?;
-    report_by(alloc, judge, Output::Marks, &document)
-}
-
-/// The dictionary of these two files, to be asked.
-pub fn load_judge<F: Files>(
-    alloc: Global,
-    files: &mut F,
-    aff: &str,
-    dic: &str,
-) -> Result<Plain<Speller>, Failure>
-    ensures found { (there : DictionaryFiles) × Gives (λ judge. judge) (dictionary_due there) result }
-    ensures told { IfSome (F.told files.old) (λ folder. Gives (λ judge. judge) (dictionary_due (found_in folder aff.now dic.now)) result) }
-    ensures failed { IsErrOf result (Load Failed) → F.faults files.old < F.faults files.new }
-    ensures same { F.told files.new ≡ F.told files.old }
-    ensures count { F.faults files.old ≤ F.faults files.new }
-{
-    match load(alloc, files, aff, dic) {
-        Ok(speller) => judge_of(alloc, speller),
-        Err(fault) => Err(Failure::from(fault)),
-    }
-}
-
-fn judge_of(alloc: Global, speller: Speller) -> Result<Plain<Speller>, Failure>
-    ensures is { IfOk result (λ judge. judge ≡ speller) }
-    ensures wanting { IfErr result (λ failure. failure ≡ NoMemory) }
-{
-    Ok(Plain::new(Arc::new(alloc, speller)?))
-}
-
-/// The bytes of the document.
-fn load_document<F: Files>(alloc: Global, files: &mut F, name: &str) -> Result<Vec<u8>, Failure>
-    ensures found { (file : Option (List ℕ)) × Gives (λ bytes. bytes.items) (bytes_due file) result }
-    ensures told { IfSome (F.told files.old) (λ folder. Gives (λ bytes. bytes.items) (bytes_due (folder name.now)) result) }
-    ensures failed { IsErrOf result (Load Failed) → F.faults files.old < F.faults files.new }
-    ensures same { F.told files.new ≡ F.told files.old }
-    ensures count { F.faults files.old ≤ F.faults files.new }
-{
-    match load_file(alloc, files, name, DOCUMENT_LIMIT) {
-        Ok(bytes) => Ok(bytes),
-        Err(fault) => Err(Failure::from(LoadFault::of_file(fault, DOCUMENT_LIMIT))),
-    }
+    report_by(alloc, speller, Output::Marks, &document)
 }
 
 /// What is to be printed of a document by a dictionary.
 pub fn report_by(
     alloc: Global,
-    mut judge: Plain<Speller>,
+    speller: Speller,
     output: Output,
     document: &[u8],
 ) -> Result<Report, Failure>
-    ensures due { Gives printed_by (printed_due (printed_as output) judge document.now) result }
+    ensures due { Gives printed_by (printed_due (printed_as output) speller document.now) result }
     ensures failed { ¬ (IsErrOf result (Load Failed)) }
 {
+    let mut judge = judge_of(alloc, speller)?;
     match report(alloc, &mut judge, output, document) {
         Ok(report) => Ok(report),
         Err(fault) => Err(Failure::from(fault)),
     }
+}
+
+/// A dictionary, to be asked.
+fn judge_of(alloc: Global, speller: Speller) -> Result<Plain<Speller>, NoMemory>
+    ensures { IfOk result (λ judge. judge ≡ speller) }
+{
+    Ok(Plain::new(Arc::new(alloc, speller)?))
 }

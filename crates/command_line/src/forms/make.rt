@@ -1,38 +1,89 @@
-//! What `make` is to print.
+//! What `make` is asked for, and what it is to print.
 
-ghost use Rattle.std.specs.Prelude.{◌<◌, ◌≤◌, ℕ, List, Option, Some, IfOk, IsErrOf};
+ghost use Rattle.std.specs.Prelude.{◌≡◌, ◌<◌, ◌≤◌, ℕ, List, Option, Some, IfOk, IsErrOf, map};
+ghost use Rattle.std.specs.String.{string_bytes};
 ghost use Rattle.outside.specs.Files.{Folder};
 ghost use Rattle.document_report.specs.Given.{printed_by};
+ghost use Rattle.input_lines.specs.Ends.{Reading};
 ghost use Rattle.command_line.specs.Due.{Gives, HasMade, make_due};
 ghost use Rattle.command_line.specs.Ends.{EndsAs};
-ghost use Rattle.command_line.specs.Forms.{IsAnswerTo, Met};
-ghost use Rattle.command_line.specs.Given.{numbers_by};
-ghost use Rattle.command_line.specs.Requests.{ToMake};
+ghost use Rattle.command_line.specs.Forms.{IsAnswerTo, IsUntouched, Met, form_of};
+ghost use Rattle.command_line.specs.Requests.{make_in, of_numbers};
 ghost use Rattle.command_line.specs.declared.failure.Failure.TheVariants.{Load};
+ghost use Rattle.command_line.specs.declared.requests.Request.TheVariants.{Make};
 ghost use Rattle.dictionary_swap.specs.declared.fault.LoadFault.TheVariants.{Failed};
 
 use crate::ending::put_outcome;
 use crate::failure::Failure;
-use crate::forms::check::{load_judge, report_by};
-use crate::making::Making;
+use crate::forms::check::report_by;
+use crate::loading::load_speller;
+use crate::requests::{Request, are_options};
 use document_report::{Output, Report};
 use lists::NoMemory;
 use outside::{Files, Sink, SureFiles};
 use std::alloc::Global;
+use std::marker::Model;
+use text_lines::decimal;
 use work_maker::{make_aff, make_dic, make_text};
+
+/// The greatest size that is made.
+const SIZE_LIMIT: u64 = 50_000;
+
+/// What the words `make START SIZE` ask for. Contracts see both numbers, and that the size is one that is made.
+#[derive(Drop)]
+pub struct Making {
+    /// Where the words of the text are drawn from.
+    start: u64,
+    /// How many entries the dictionary has, and how many words the text.
+    size: u32,
+}
+
+impl Model for Making {
+    ghost use Rattle.std.specs.Prelude.{◌≤◌};
+    ghost use Rattle.command_line.specs.Operands.{StartAndSize};
+
+    ghost Value = { StartAndSize };
+
+    ghost view = { λ inside. record { start = inside.start; size = inside.size } };
+
+    ghost invariant = { λ inside. (1 ≤ inside.size) × (inside.size ≤ 50000) };
+}
+
+/// What the operands of `make` ask for.
+pub fn make_of(operands: &[String]) -> Option<Request<'_>>
+    ensures { result ≡ make_in (map string_bytes operands.now) }
+{
+    match operands {
+        [start, size, options @ ..] if are_options(options) => {
+            let making = of_numbers(decimal(start.as_str()), decimal(size.as_str()))?;
+            Some(Request::Make(making))
+        }
+        _ => None,
+    }
+}
+
+fn of_numbers(start: Option<u64>, size: Option<u64>) -> Option<Making>
+    ensures { result ≡ of_numbers start size }
+{
+    match (start, size) {
+        (Some(start), Some(size)) if 1 <= size && size <= SIZE_LIMIT => Some(Making {
+            start,
+            size: size as u32,
+        }),
+        _ => None,
+    }
+}
 
 /// Writes the summary of a dictionary and a text that are made.
 pub fn make<K: Sink>(alloc: Global, making: Making, out: &mut K) -> u8
     // Whatever there is outside, which stays untouched.
-    ensures due { (folder : Option Folder) (files : ℕ) (input : Option (List ℕ)) (reads : ℕ) → EndsAs (IsAnswerTo (Some (ToMake (numbers_by making))) (record {
+    ensures due { (folder : Option Folder) (files : ℕ) (reading : Reading) → IsUntouched reading → EndsAs (IsAnswerTo (Some (Make making)) (record {
       folder = folder;
       files_before = files;
       files_after = files;
-      input_before = input;
-      input_after = input;
-      reads_before = reads;
-      reads_after = reads;
+      reading = reading;
     })) (K.faults out.old < K.faults out.new) (K.written out.old) (K.written out.new) result }
+    ensures complete { (met : Met) → K.faults out.new ≡ K.faults out.old → EndsAs ((form_of (Some (Make making))).whole met) ⊥ (K.written out.old) (K.written out.new) result }
     ensures sink_count { K.faults out.old ≤ K.faults out.new }
 {
     let outcome = outcome_of(alloc, making);
@@ -42,26 +93,28 @@ pub fn make<K: Sink>(alloc: Global, making: Making, out: &mut K) -> u8
 /// The summary of a dictionary and a text that are made: the dictionary is loaded from memory, and the text is checked by
 /// it, as files are.
 fn outcome_of(alloc: Global, making: Making) -> Result<Report, Failure>
-    ensures due { Gives printed_by (make_due (numbers_by making)) result }
+    ensures due { Gives printed_by (make_due making) result }
     ensures failed { ¬ (IsErrOf result (Load Failed)) }
 {
-    let mut files = made_files(alloc, making)?;
-    let judge = load_judge(alloc, &mut files, "made.aff", "made.dic")?;
+    let mut files = made_files(alloc, making.size)?;
+    let speller = load_speller(alloc, &mut files, "made.aff", "made.dic")?;
     let text = make_text(alloc, making.start, making.size)?;
     let output = Output::Summary {
         entries: making.size,
     };
-    report_by(alloc, judge, output, &text)
+    report_by(alloc, speller, output, &text)
 }
 
 /// The files of the dictionary that is made, in memory.
-fn made_files(alloc: Global, making: Making) -> Result<SureFiles, NoMemory>
-    ensures { IfOk result (λ files. HasMade making.size (⟦<SureFiles as Files>⟧.told files)) }
+fn made_files(alloc: Global, size: u32) -> Result<SureFiles, NoMemory>
+    requires some { 1 ≤ size }
+    requires limited { size ≤ 50000 }
+    ensures { IfOk result (λ files. HasMade size (⟦<SureFiles as Files>⟧.told files)) }
 {
     let aff_name = String::from_str(alloc, "made.aff")?;
     let dic_name = String::from_str(alloc, "made.dic")?;
     let aff = make_aff(alloc)?;
-    let dic = make_dic(alloc, making.size)?;
+    let dic = make_dic(alloc, size)?;
     let mut files = Vec::new(alloc);
     files.push((aff_name, aff))?;
     files.push((dic_name, dic))?;
