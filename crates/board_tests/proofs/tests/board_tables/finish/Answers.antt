@@ -1,7 +1,7 @@
 -- The check is of the text of the paragraph that the board shows at the place.
 use Rattle.std.proofs.Common.{◌∙◌, ap, subst}
 use Rattle.edit_core.specs.Steps.{IsAt}
-use Rattle.part_tests.proofs.tests.board_tables.finish.Goals as goal
+use Rattle.board_tests.proofs.tests.board_tables.finish.Goals as goal
 
 pub returns : goal.returns
 returns g c = λ place paragraph stands here rev-is dict-is.

@@ -1,7 +1,7 @@
 -- A check of a paragraph of an earlier board is fit for a later one.
 use Rattle.std.proofs.Common.{◌∙◌, ap, subst}
 use Rattle.edit_core.specs.Steps.{IsAt}
-use Rattle.part_tests.proofs.tests.board_tables.late_finish.Goals as goal
+use Rattle.board_tests.proofs.tests.board_tables.late_finish.Goals as goal
 
 pub next-requires-in-Ok : goal.next-requires-in-Ok
 next-requires-in-Ok g c = λ place paragraph stands here rev-is dict-is.

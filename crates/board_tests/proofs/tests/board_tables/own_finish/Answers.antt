@@ -1,7 +1,7 @@
 -- The check is of the text of the paragraph that the board shows at the place, and that its id names.
 use Rattle.std.proofs.Common.{◌≡◌, ◌∙◌, sym, ap, subst, Some}
 use Rattle.paragraph_text.specs.Edits.{with_id}
-use Rattle.part_tests.proofs.tests.board_tables.own_finish.Goals as goal
+use Rattle.board_tests.proofs.tests.board_tables.own_finish.Goals as goal
 
 pub returns : goal.returns
 returns g c =

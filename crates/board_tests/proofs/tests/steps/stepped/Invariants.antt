@@ -1,6 +1,6 @@
 -- The asker has the judge's dictionary, before each step and behind it.
 use Rattle.std.proofs.Common.{◌≡◌}
-use Rattle.part_tests.proofs.tests.steps.stepped.Given as goal
+use Rattle.board_tests.proofs.tests.steps.stepped.Given as goal
 
 abbrev pub invariant-loop : goal.invariant-loop
 invariant-loop l = l.plain ≡ l.checking.judge
