@@ -16,7 +16,7 @@ use Rattle.std.proofs.lemmas.Option.{cond_some, gets, none-some, option_and_then
 use Rattle.std.proofs.lemmas.Str.{IsCharBoundary-start}
 use Rattle.outside.specs.Files.{Folder}
 use Rattle.console_lang.specs.declared.command.Command.{Command}
-use Rattle.console_lang.specs.declared.command.Command.TheVariants.{Ins, Put, Sub, Del, Stop, Ask}
+use Rattle.console_lang.specs.declared.command.Command.TheVariants.{Ins, Put, Sub, Del, Stop, Ask, Load, Show, Settle, Quit}
 use Rattle.console_lang.specs.declared.reply.Reply.{Reply}
 use Rattle.console_lang.specs.declared.reply.Reply.TheVariants.{Done, NoPlace, NoBadSpan, NoTooLong, NoFull, NoFinished, NoParked, NoNotParked}
 use Rattle.paragraph_text.specs.Paragraphs.{Paragraph, HasNoBreak}
@@ -492,12 +492,11 @@ module _ (told : Option Folder) (by : ℕ) (board after : Seen) (reply : Reply) 
   no-event-does (Ins place text) named none is stays =
       let past = unmapped _ (index_of place (length board.paragraphs + 1)) (unmapped _ _ none) in
       rw (length-map board.paragraphs (λ p. p.text), past) (is, ap console_of stays)
-  no-event-does (Put place text) named none is stays = nowhere place _ _ none is stays
-  no-event-does (Sub place from to text) named none is stays = nowhere place _ _ none is stays
-  no-event-does (Del place) named none is stays = nowhere place _ _ none is stays
-  no-event-does (Stop place) named none is stays = nowhere place _ _ none is stays
-  no-event-does (Ask place) named none is stays = nowhere place _ _ none is stays
-  no-event-does _ named none is stays = absurd (false≢true named)
+  no-event-does (Load aff dic) named none is stays = absurd (false≢true named)
+  no-event-does Show named none is stays = absurd (false≢true named)
+  no-event-does Settle named none is stays = absurd (false≢true named)
+  no-event-does Quit named none is stays = absurd (false≢true named)
+  no-event-does _ named none is stays = nowhere _ _ _ none is stays
 
 -- ---- refusals
 
@@ -511,10 +510,11 @@ pub event-asked : (by : ℕ) (board : Seen) (command : Command) (event : SeenEve
 event-asked by board (Ins place text) event whole is = asked-of _ _ event is (λ before. whole)
 event-asked by board (Put place text) event whole is = asked-of _ _ event is (λ p. whole)
 event-asked by board (Sub place from to text) event whole is = asked-of _ _ event is (λ p. whole)
-event-asked by board (Del place) event whole is = asked-of _ _ event is (λ p. tt)
-event-asked by board (Stop place) event whole is = asked-of _ _ event is (λ p. tt)
-event-asked by board (Ask place) event whole is = asked-of _ _ event is (λ p. tt)
-event-asked by board _ event whole is = absurd (none-some event is)
+event-asked by board (Load aff dic) event whole is = absurd (none-some event is)
+event-asked by board Show event whole is = absurd (none-some event is)
+event-asked by board Settle event whole is = absurd (none-some event is)
+event-asked by board Quit event whole is = absurd (none-some event is)
+event-asked by board _ event whole is = asked-of _ _ event is (λ p. tt)
 
 pub asked-fits : (board : Seen) (event : SeenEvent) → IsAsked event → IsFit board event
 asked-fits board (AFinish worker id rev dict text lexicon) asked = absurd asked

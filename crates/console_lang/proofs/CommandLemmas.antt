@@ -331,13 +331,7 @@ pub commands_differ : (command other : Command) (line : List ℕ) → IsLineOf c
 commands_differ command other line is was = same command other (sym (command_is command line is) ∙ command_is other line was)
 
 pub no_blank : (command : Command) (line : List ℕ) → IsLineOf command line → is_blank_line line ≡ false
-no_blank (Ins place text) line is = ap is_blank_line is.line_is
-no_blank (Put place text) line is = ap is_blank_line is.line_is
-no_blank (Sub place from to text) line is = ap is_blank_line is.line_is
-no_blank (Del place) line is = ap is_blank_line is.line_is
-no_blank (Load aff dic) line is = ap is_blank_line is.line_is
-no_blank (Stop place) line is = ap is_blank_line is.line_is
-no_blank (Ask place) line is = ap is_blank_line is.line_is
 no_blank Show line is = ap is_blank_line is
 no_blank Settle line is = ap is_blank_line is
 no_blank Quit line is = ap is_blank_line is
+no_blank _ line is = ap is_blank_line is.line_is
