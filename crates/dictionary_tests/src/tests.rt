@@ -1,5 +1,13 @@
 //! The tests, a file for each part.
 
+mod broken_words;
+mod compounds;
+mod converted_words;
+mod cut_words;
 mod derivations;
+mod dictionaries;
 mod pattern_tables;
 mod real_files;
+mod replacements;
+mod rule_places;
+mod undone_rules;
