@@ -1,5 +1,6 @@
 //! The tests, a file for each part.
 
 mod board_tables;
+mod long_histories;
 mod spellers;
 mod steps;
