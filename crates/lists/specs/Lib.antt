@@ -1,3 +1,5 @@
+pub mod Answers
+pub mod Changes
 pub mod Chunks
 pub mod Laws
 pub mod TextOrder

@@ -1,5 +1,5 @@
 -- The first and the last row bound what comes next in the others.
-use Rattle.std.proofs.Common.{◌≡◌, ◌∙◌, ◌⊎◌, ◌-◌, ◌<◌, inl, inr, ap, length, take, slice_get}
+use Rattle.std.proofs.Common.{◌∙◌, ◌⊎◌, ◌<◌, inl, inr, ap, slice_get}
 use Rattle.std.specs.Option.{option_map_or}
 use Rattle.lists.specs.TextOrder.{Row, next_in}
 use Rattle.lists.proofs.TextOrders.{all_next, none_next}
