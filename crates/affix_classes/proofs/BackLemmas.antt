@@ -12,17 +12,13 @@ use Rattle.spell_types.specs.declared.rules.Side.TheVariants.{Prefix, Suffix}
 use Rattle.spell_types.specs.declared.rules.Rule.{Rule}
 use Rattle.spell_types.specs.Conditions.{fits_front, fits_back}
 use Rattle.spell_types.specs.Attaching.{may_strip, attached_suffix, attached_prefix, attached_on, attached, IsUndone}
+use Rattle.lists.specs.Laws.{take-joined}
 use Rattle.affix_classes.specs.Undoing.{undone_suffix, undone_prefix, undone_on}
 
 -- where the old part stands at this end of a word, the new part stands there after the change, and changing back gives the word
 record IsReversible (has : List ℕ → List ℕ → Bool) (change : List ℕ → List ℕ → List ℕ → List ℕ) : Type 0 where
   put : (old new word : List ℕ) → has word old ≡ true → has (change old new word) new ≡ true
   back : (old new word : List ℕ) → has word old ≡ true → change new old (change old new word) ≡ word
-
-take-joined : (front end : List ℕ) → take (length (front ++ end) - length end) (front ++ end) ≡ front
-take-joined front end =
-    let same : length (front ++ end) - length end ≡ length front = omega (arith, length-append front end) in
-    ap (λ n. take n (front ++ end)) same ∙ take-append_seam front end
 
 ends_reverse : IsReversible (ends_with nat_eq) (λ old new word. take (length word - length old) word ++ new)
 ends_reverse = record {

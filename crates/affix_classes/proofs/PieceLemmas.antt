@@ -6,6 +6,7 @@ use Rattle.std.proofs.Math.Seq.{take-append_seam, drop-append-add}
 use Rattle.std.specs.Option.{option_map}
 use Rattle.std.specs.List.{AllByRecursion, position, position_or_len}
 use Rattle.spell_types.specs.declared.rules.Piece.{Piece}
+use Rattle.lists.specs.Laws.{take-rest}
 use Rattle.affix_classes.specs.ConditionTexts.{opens, closes, plain_piece, bracket_piece, bracket, first_piece, followed_by, pieces_behind, pieces_of}
 
 -- what was read, with what the rest is behind it
@@ -77,15 +78,11 @@ after-push : (made : List Piece) (piece : Piece) (rest : Option (List Piece)) �
 after-push made piece None = refl
 after-push made piece (Some pieces) = ap (λ xs. Some xs) (sym (append_assoc made (piece ∷ []) pieces))
 
--- a slice from a place on
-pub sliced : (n : ℕ) (text : List ℕ) → take (length text - n) (drop n text) ≡ drop n text
-sliced n text = take_all (length text - n) (drop n text) (omega (arith, length-drop n text))
-
 -- a step of the reader: a piece is read, and all is as it was
 pub piece_read : (text : List ℕ) (made grown : List Piece) (place c : ℕ) (piece : Piece) (more : ℕ) → place < length text → c ≡ get_or text place c → first_piece c (take (length text - (place + 1)) (drop (place + 1) text)) ≡ Some (piece, more) → grown ≡ made ++ piece ∷ [] → after made (pieces_of (drop place text)) ≡ pieces_of text → after grown (pieces_of (drop (place + (1 + more)) text)) ≡ pieces_of text
 piece_read text made grown place c piece more within here found pushed so_far =
     let rest = drop (place + 1) text in
-    let read : first_piece c rest ≡ Some (piece, more) = ap (first_piece c) (sym (sliced (place + 1) text)) ∙ found in
+    let read : first_piece c rest ≡ Some (piece, more) = ap (first_piece c) (sym (take-rest (place + 1) text)) ∙ found in
     let same : place + (1 + more) ≡ place + 1 + more = omega arith in
     ap (λ xs. after xs (pieces_of (drop (place + (1 + more)) text))) pushed
     ∙ ap (λ n. after (made ++ piece ∷ []) (pieces_of (drop n text))) same
@@ -98,7 +95,7 @@ piece_read text made grown place c piece more within here found pushed so_far =
 pub none_read : (text : List ℕ) (made : List Piece) (place c : ℕ) → place < length text → c ≡ get_or text place c → first_piece c (take (length text - (place + 1)) (drop (place + 1) text)) ≡ None → after made (pieces_of (drop place text)) ≡ pieces_of text → pieces_of text ≡ None
 none_read text made place c within here none so_far =
     sym so_far
-    ∙ ap (after made) (ap pieces_of (drop_more text place c within ∙ ap (λ x. x ∷ drop (place + 1) text) (sym here)) ∙ pieces_of-none c (drop (place + 1) text) (ap (first_piece c) (sym (sliced (place + 1) text)) ∙ none))
+    ∙ ap (after made) (ap pieces_of (drop_more text place c within ∙ ap (λ x. x ∷ drop (place + 1) text) (sym here)) ∙ pieces_of-none c (drop (place + 1) text) (ap (first_piece c) (sym (take-rest (place + 1) text)) ∙ none))
 
 -- at the end all is read
 pub all_read : (text : List ℕ) (made : List Piece) (place : ℕ) → length text ≤ place → after made (pieces_of (drop place text)) ≡ pieces_of text → pieces_of text ≡ Some made

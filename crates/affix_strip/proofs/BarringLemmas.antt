@@ -2,7 +2,7 @@
 use Rattle.std.proofs.Common.{◌≡◌, ◌∙◌, ◌↔◌, ◌⊎◌, inl, inr, refl, sym, ap, ℕ, Bool, true, false, true≢false, ◌&&◌, ◌||◌, IsTrue, List, [], slice_get, Contains, Option, None, Some, is_none, is_some, if◌then◌else◌}
 use Rattle.std.specs.List.{list_any}
 use Rattle.std.specs.Option.{option_map}
-use Rattle.std.proofs.lemmas.Bool.{and_parts, and_from, false_from_ne_true}
+use Rattle.std.proofs.lemmas.Bool.{and_parts, and_from, false_from_ne_true, or_cases}
 use Rattle.std.proofs.lemmas.List.Folds.{list_any_at}
 use Rattle.std.proofs.lemmas.Option.{slice_get_within, get_or_from_slice_get, option_and_then_some}
 use Rattle.spell_types.specs.declared.Entry.{Entry}
@@ -15,27 +15,22 @@ use Rattle.spell_types.specs.declared.rules.Side.TheVariants.{Prefix, Suffix}
 use Rattle.spell_types.specs.Derivations.{named_with, affix_on, rule_on, is_right, is_in_order}
 use Rattle.spell_types.specs.Flags.{has}
 use Rattle.spell_types.specs.Licences.{holds_of, allows, carried_by, is_allowed, is_first_allowed, is_second_allowed, is_prefix_allowed, is_crossing_right, meets_signs, meets_need, meets_circumfix, is_forbidden}
+use Rattle.lists.specs.Laws.{any-at, any-contains}
 use Rattle.affix_strip.specs.Tables.{HasClasses, has_flag_of, is_forbidden_entry, takes_affixes, OfForbidden, AllowsNone}
 use Rattle.affix_strip.proofs.TableLemmas.{on-rule}
 
 -- ---- what is known of entries
-one-of : {X : Type 0} (test : X → Bool) (xs : List X) (x : X) → Contains xs x → test x ≡ true → list_any test xs ≡ true
-one-of test xs x (k, within, at) holds = list_any_at test xs k x within (ap test at ∙ holds)
-
-pub at-place : {X : Type 0} (test : X → Bool) (xs : List X) (place : ℕ) (x : X) → slice_get xs place ≡ Some x → test x ≡ true → list_any test xs ≡ true
-at-place test xs place x at holds = list_any_at test xs place x (slice_get_within xs place x at) (ap test (get_or_from_slice_get xs place x x at) ∙ holds)
-
 -- no entry is forbidden
 pub nowhere : (lexicon : Lexicon) → list_any (is_forbidden_entry lexicon) lexicon.entries ≡ false → OfForbidden lexicon (λ entry. ⊥)
-nowhere lexicon none place entry at forbidden = true≢false (sym (at-place (is_forbidden_entry lexicon) lexicon.entries place entry at forbidden) ∙ none)
+nowhere lexicon none place entry at forbidden = true≢false (sym (any-at (is_forbidden_entry lexicon) lexicon.entries place entry at forbidden) ∙ none)
 
 -- none that is has a flag of a class
 pub at-entries : (lexicon : Lexicon) (classes : List Flag) → ((set : List Flag) (flag : Flag) → IsTrue (has set (Some flag)) ↔ Contains set flag) → HasClasses lexicon.affixes.rules classes
     → list_any (takes_affixes lexicon classes) lexicon.entries ≡ false → OfForbidden lexicon (AllowsNone lexicon.affixes.rules)
 at-entries lexicon classes told are none place entry at forbidden other rule at_rule = false_from_ne_true (has entry.flags (Some rule.flag)) (λ holds.
-    true≢false (sym (at-place (takes_affixes lexicon classes) lexicon.entries place entry at
+    true≢false (sym (any-at (takes_affixes lexicon classes) lexicon.entries place entry at
     (and_from (is_forbidden_entry lexicon entry) (has_flag_of classes entry.flags) forbidden
-    (one-of (λ flag. has classes (Some flag)) entry.flags rule.flag ((told entry.flags rule.flag).0 holds) (are.flags other rule at_rule)))) ∙ none))
+    (any-contains (λ flag. has classes (Some flag)) entry.flags rule.flag ((told entry.flags rule.flag).0 holds) (are.flags other rule at_rule)))) ∙ none))
 
 -- ---- what is known of derivations
 -- the entry of a derivation of a forbidden word
@@ -73,10 +68,6 @@ by-nothing : (found : Option Rule) → allows [] found ≡ true → found ≡ No
 by-nothing None holds = refl
 by-nothing (Some rule) holds = absurd (cc)
 
-or-parts : (a b : Bool) → (a || b) ≡ true → (a ≡ true) ⊎ (b ≡ true)
-or-parts true b holds = inl refl
-or-parts false b holds = inr holds
-
 unnamed : (rules : List Rule) (side : Side) (named : Option ℕ) → is_right rules side named ≡ true → affix_on rules side named ≡ None → named ≡ None
 unnamed rules side None right is = refl
 unnamed rules side (Some place) right is = absurd (true≢false (sym right ∙ ap is_some is))
@@ -92,7 +83,7 @@ module _ (rules : List Rule) (d : Derivation) (entry : Entry) (none : AllowsNone
 
   no-first : (prefix first : Option Rule) → affix_on rules Prefix d.prefix ≡ prefix → affix_on rules Suffix d.first ≡ first
       → (allows entry.flags first || (allows entry.flags prefix && allows (carried_by prefix) first)) ≡ true → first ≡ None
-  no-first prefix first before behind holds = by (or-parts (allows entry.flags first) (allows entry.flags prefix && allows (carried_by prefix) first) holds)
+  no-first prefix first before behind holds = by (or_cases (allows entry.flags first) (allows entry.flags prefix && allows (carried_by prefix) first) holds)
     where
       by : (allows entry.flags first ≡ true) ⊎ ((allows entry.flags prefix && allows (carried_by prefix) first) ≡ true) → first ≡ None
       by (inl allowed) = not-allowed Suffix d.first first behind allowed
@@ -102,7 +93,7 @@ module _ (rules : List Rule) (d : Derivation) (entry : Entry) (none : AllowsNone
 
   no-prefix : (prefix first second : Option Rule) → affix_on rules Prefix d.prefix ≡ prefix → first ≡ None → second ≡ None
       → (allows entry.flags prefix || (allows (carried_by first) prefix || allows (carried_by second) prefix)) ≡ true → prefix ≡ None
-  no-prefix prefix first second before one two holds = by (or-parts (allows entry.flags prefix) (allows (carried_by first) prefix || allows (carried_by second) prefix) holds)
+  no-prefix prefix first second before one two holds = by (or_cases (allows entry.flags prefix) (allows (carried_by first) prefix || allows (carried_by second) prefix) holds)
     where
       on-suffix : (allows (carried_by first) prefix ≡ true) ⊎ (allows (carried_by second) prefix ≡ true) → prefix ≡ None
       on-suffix (inl allowed) = by-nothing prefix (sym (ap (λ found. allows (carried_by found) prefix) one) ∙ allowed)
@@ -110,7 +101,7 @@ module _ (rules : List Rule) (d : Derivation) (entry : Entry) (none : AllowsNone
 
       by : (allows entry.flags prefix ≡ true) ⊎ ((allows (carried_by first) prefix || allows (carried_by second) prefix) ≡ true) → prefix ≡ None
       by (inl allowed) = not-allowed Prefix d.prefix prefix before allowed
-      by (inr either) = on-suffix (or-parts (allows (carried_by first) prefix) (allows (carried_by second) prefix) either)
+      by (inr either) = on-suffix (or_cases (allows (carried_by first) prefix) (allows (carried_by second) prefix) either)
 
   pub no-affixes : is_allowed (named_with rules d entry) ≡ true → is_in_order rules d ≡ true → (d.prefix ≡ None) × ((d.first ≡ None) × (d.second ≡ None))
   no-affixes allowed ordered =

@@ -14,13 +14,13 @@ use Rattle.spell_types.specs.declared.rules.Side.TheVariants.{Prefix, Suffix}
 use Rattle.spell_types.specs.Derivations.{affix_on, rule_on, is_right, form_of, derivation_of}
 use Rattle.spell_types.specs.Flags.{has}
 use Rattle.spell_types.specs.Licences.{is_licensed}
+use Rattle.lists.specs.Laws.{any-at}
 use Rattle.affix_strip.specs.Parts.{put_on, stem_of, with_first, with_suffixes, with_all, Any, Outside, Passes, AtSome, From, FromAll, RuleFrom, Peels}
 use Rattle.affix_strip.specs.Peeling.{Peeled, ArePeeled, may_undo_at}
 use Rattle.affix_strip.specs.EntryTable.{AreEntriesOf}
 use Rattle.affix_strip.specs.Tables.{IsReady, may_be_outer, may_undo_outer}
-use Rattle.affix_strip.specs.declared.walk.Dictionary.{Dictionary}
+use Rattle.affix_strip.specs.declared.walk.IndexedLexicon.{IndexedLexicon}
 use Rattle.affix_strip.proofs.ShowLemmas.{some-same}
-use Rattle.affix_strip.proofs.BarringLemmas.{at-place}
 use Rattle.affix_strip.proofs.InverseLemmas.{rule_on-side}
 use Rattle.affix_strip.proofs.LicenceLemmas.{licensed-order, form-parts, IsCarrier, carrier}
 use Rattle.affix_strip.proofs.StepLemmas.{IsAffix, none-put, step-none, step-peeled}
@@ -226,7 +226,7 @@ no-seconds lexicon prefixes seconds text empty d passes = none-of seconds d.seco
 
 -- ---- the second suffix
 -- a rule that is a second suffix has a flag that some suffix carries
-outer-may : (dictionary : Dictionary) → IsReady dictionary → (d : Derivation) (place : ℕ) → is_licensed dictionary.lexicon d ≡ true → d.second ≡ Some place → may_be_outer dictionary place ≡ true
+outer-may : (dictionary : IndexedLexicon) → IsReady dictionary → (d : Derivation) (place : ℕ) → is_licensed dictionary.lexicon d ≡ true → d.second ≡ Some place → may_be_outer dictionary place ≡ true
 outer-may dictionary ready d place licensed is = by (rule_on dictionary.lexicon.affixes.rules Suffix place) refl
   where
     carries : (rule : Rule) → IsCarrier dictionary.lexicon.affixes.rules rule → has ready.seconds.set (Some rule.flag) ≡ true
@@ -247,7 +247,7 @@ outer-may dictionary ready d place licensed is = by (rule_on dictionary.lexicon.
         ∙ carries rule (carrier dictionary.lexicon d rule licensed (ap (affix_on dictionary.lexicon.affixes.rules Suffix) is ∙ on))
 
 -- where no rule may be one there is none
-pub no-seconds-at : (dictionary : Dictionary) (prefixes : List (Option ℕ)) (endings : List Peeled) → IsReady dictionary → dictionary.tables.has_seconds ≡ false
+pub no-seconds-at : (dictionary : IndexedLexicon) (prefixes : List (Option ℕ)) (endings : List Peeled) → IsReady dictionary → dictionary.tables.has_seconds ≡ false
     → (d : Derivation) → AtSome (Peels dictionary.lexicon Suffix (λ d. d.second) (λ d. Contains prefixes d.prefix) (with_first dictionary.lexicon)) endings d → ⊥
 no-seconds-at dictionary prefixes endings ready none d some =
     let at = some.is in
@@ -255,7 +255,7 @@ no-seconds-at dictionary prefixes endings ready none d some =
   where
     by : (place : ℕ) (found : Option Bool) → slice_get dictionary.tables.seconds.items place ≡ found → option_map_or (λ may. may) found false ≡ true → list_any (λ may. may) dictionary.tables.seconds.items ≡ true
     by place None at holds = absurd (cc)
-    by place (Some may) at holds = at-place (λ may. may) dictionary.tables.seconds.items place may at holds
+    by place (Some may) at holds = any-at (λ may. may) dictionary.tables.seconds.items place may at holds
 
 -- a second suffix stands behind a first one
 first-inside : (lexicon : Lexicon) (d : Derivation) (place : ℕ) → is_licensed lexicon d ≡ true → d.second ≡ Some place → is_some d.first ≡ true
@@ -264,12 +264,12 @@ first-inside lexicon d place licensed is = sym (ap (λ n. is_none n || is_some d
 abbrev OuterPeels : Lexicon → List (Option ℕ) → Peeled → Derivation → Type 0
 OuterPeels lexicon prefixes = Peels lexicon Suffix (λ d. d.second) (λ d. Contains prefixes d.prefix) (with_first lexicon)
 
-pub no-outer : (dictionary : Dictionary) (prefixes : List (Option ℕ)) (peeled : Peeled) → IsReady dictionary → list_any (may_be_outer dictionary) peeled.1 ≡ false
+pub no-outer : (dictionary : IndexedLexicon) (prefixes : List (Option ℕ)) (peeled : Peeled) → IsReady dictionary → list_any (may_be_outer dictionary) peeled.1 ≡ false
     → (d : Derivation) → OuterPeels dictionary.lexicon prefixes peeled d → ⊥
 no-outer dictionary prefixes peeled ready none d some =
     true≢false (sym (one-passes (may_be_outer dictionary) peeled.1 some.item some.among (outer-may dictionary ready d some.item some.is.1.licensed some.is.1.has.1)) ∙ none)
 
-outer-peeled : (dictionary : Dictionary) (prefixes seconds : List (Option ℕ)) (peeled : Peeled) → IsReady dictionary → seconds ≡ map (λ place. Some place) (filter (may_undo_outer dictionary peeled.0) peeled.1)
+outer-peeled : (dictionary : IndexedLexicon) (prefixes seconds : List (Option ℕ)) (peeled : Peeled) → IsReady dictionary → seconds ≡ map (λ place. Some place) (filter (may_undo_outer dictionary peeled.0) peeled.1)
     → (d : Derivation) → Passes dictionary.lexicon (WithFirst prefixes seconds) (with_first dictionary.lexicon) peeled.0 d ↔ OuterPeels dictionary.lexicon prefixes peeled d
 outer-peeled dictionary prefixes seconds peeled ready are d =
     (λ passes. there d passes (kept-from (may_undo_outer dictionary peeled.0) peeled.1 d.second (subst (λ ns. Contains ns d.second) are passes.has.0.1)), λ some. back d some)
@@ -298,7 +298,7 @@ outer-peeled dictionary prefixes seconds peeled ready are d =
           at = passes.at;
         }
 
-pub outer-passing : (dictionary : Dictionary) (prefixes seconds : List (Option ℕ)) (peeled : Peeled) (inner places : List ℕ) → inner ≡ peeled.0 → places ≡ peeled.1 → IsReady dictionary
+pub outer-passing : (dictionary : IndexedLexicon) (prefixes seconds : List (Option ℕ)) (peeled : Peeled) (inner places : List ℕ) → inner ≡ peeled.0 → places ≡ peeled.1 → IsReady dictionary
     → seconds ≡ map (λ place. Some place) (filter (may_undo_outer dictionary inner) places)
     → (d : Derivation) → Passes dictionary.lexicon (WithFirst prefixes seconds) (with_first dictionary.lexicon) inner d ↔ OuterPeels dictionary.lexicon prefixes peeled d
 outer-passing dictionary prefixes seconds peeled inner places left at ready are =

@@ -10,17 +10,12 @@ use Rattle.spell_types.specs.Attaching.{attached}
 use Rattle.spell_types.specs.Derivations.{is_same_side, rule_on, affix_on, is_right, with_affix}
 use Rattle.spell_types.specs.Licences.{is_word}
 use Rattle.affix_classes.specs.Undoing.{undone_on}
+use Rattle.spell_types.specs.Laws.{same_side}
 use Rattle.affix_strip.proofs.UndoneWords.{LeadsBack, undone_at}
 
 -- the second function leads back from each word that the first one gives, and from no other
 pub record IsInverse (forward back : List ℕ → Option (List ℕ)) : Type 0 where
   pub is : (stem word : List ℕ) → (back word ≡ Some stem) ↔ (forward stem ≡ Some word)
-
-same_side : (side other : Side) → is_same_side side other ≡ true → other ≡ side
-same_side Prefix Prefix same = refl
-same_side Prefix Suffix same = absurd (cc)
-same_side Suffix Prefix same = absurd (cc)
-same_side Suffix Suffix same = refl
 
 pub rule_on-side : (rules : List Rule) (side : Side) (place : ℕ) (rule : Rule) → rule_on rules side place ≡ Some rule → rule.side ≡ side
 rule_on-side rules side place rule on =

@@ -13,31 +13,13 @@ use Rattle.spell_types.specs.declared.rules.Rule.{Rule}
 use Rattle.spell_types.specs.declared.rules.Side.{Side}
 use Rattle.spell_types.specs.declared.rules.Side.TheVariants.{Prefix, Suffix}
 use Rattle.spell_types.specs.Derivations.{is_same_side, is_right, is_in_order, named_with, form_of, choices, derivation_of, all_from, all_derivations}
+use Rattle.spell_types.specs.Laws.{contains-choice, right-within}
 use Rattle.spell_types.specs.Licences.{holds_of, is_allowed, is_licensed, has_form}
 use Rattle.affix_strip.specs.Found.{derives, derivations_of}
 use Rattle.affix_strip.proofs.InverseLemmas.{is_word-same, same-is_word}
 use Rattle.affix_strip.proofs.LicenceLemmas.{licensed-named}
 
--- ---- what lists contain
 -- ---- what is licensed is there
-abbrev InRange : ℕ → Option ℕ → Type 0
-InRange count None = Unit {0}
-InRange count (Some place) = place < count
-
-contains-choice : (count : ℕ) (named : Option ℕ) → InRange count named → Contains (choices count) named
-contains-choice count None inside = contains-head None (map (λ place. Some place) (range_with_len 0 count))
-contains-choice count (Some place) inside =
-    contains-tail None (Some place) (map (λ place. Some place) (range_with_len 0 count))
-    (contains-map (λ place. Some place) (range_with_len 0 count) place (contains-range count place inside))
-
-right-within : (rules : List Rule) (side : Side) (named : Option ℕ) → is_right rules side named ≡ true → InRange (length rules) named
-right-within rules side None right = tt
-right-within rules side (Some place) right = at (slice_get rules place) refl right
-  where
-    at : (found : Option Rule) → slice_get rules place ≡ found → is_some (option_and_then (λ rule. if is_same_side side rule.side then Some rule else None) found) ≡ true → place < length rules
-    at None is some = absurd (cc)
-    at (Some rule) is some = slice_get_within rules place rule is
-
 licensed-entry : (lexicon : Lexicon) (d : Derivation) → is_licensed lexicon d ≡ true → d.entry < length lexicon.entries
 unfolding is_licensed
 licensed-entry lexicon d is = at (is_in_order lexicon.affixes.rules d) (slice_get lexicon.entries d.entry) refl is

@@ -6,21 +6,13 @@ use Rattle.std.specs.Option.{option_cmp}
 use Rattle.std.specs.Ordering.{ordering_then, nat_cmp}
 use Rattle.std.proofs.lemmas.Bool.Decides.{nat_tests}
 use Rattle.std.proofs.lemmas.List.Kept.{IsStrictlySortedBy-filter}
-use Rattle.lists.specs.Laws.{each-append, each-weaker}
+use Rattle.lists.specs.Laws.{each-append, each-weaker, each-map, each-flat_map, range-above, range-rises}
 use Rattle.spell_types.specs.declared.Lexicon.{Lexicon}
 use Rattle.spell_types.specs.declared.derivations.Derivation.{Derivation}
 use Rattle.spell_types.specs.Derivations.{choices, derivation_of, all_from, all_derivations}
 use Rattle.affix_strip.specs.Found.{derives, derivations_of, derivation_cmp, AreInOrder}
 
 -- ---- what holds of each
-each-map : {X Y : Type 0} (P : Y → Type 0) (f : X → Y) (xs : List X) → AllByRecursion (λ x. P (f x)) xs → AllByRecursion P (map f xs)
-each-map P f [] each = tt
-each-map P f (x ∷ xs) each = (each.0, each-map P f xs each.1)
-
-each-flat_map : {X Y : Type 0} (P : Y → Type 0) (f : X → List Y) (xs : List X) → AllByRecursion (λ x. AllByRecursion P (f x)) xs → AllByRecursion P (flat_map f xs)
-each-flat_map P f [] each = tt
-each-flat_map P f (x ∷ xs) each = each-append P (f x) (flat_map f xs) each.0 (each-flat_map P f xs each.1)
-
 each-always : {X : Type 0} (P : X → Type 0) → ((x : X) → P x) → (xs : List X) → AllByRecursion P xs
 each-always P always [] = tt
 each-always P always (x ∷ xs) = (always x, each-always P always xs)
@@ -68,21 +60,12 @@ same_place : (place : Option ℕ) → option_cmp nat_cmp place place ≡ Equal
 same_place None = refl
 same_place (Some place) = same place
 
-range-above : (x from count : ℕ) → x < from → AllByRecursion (λ y. nat_cmp x y ≡ Less) (range_with_len from count)
-range-above x from zero below = tt
-range-above x from (suc count) below = (less x from below, range-above x (from + 1) count (omega arith))
-
-range-sorted : (from count : ℕ) → IsStrictlySortedBy nat_cmp (range_with_len from count)
-unfolding IsStrictlySortedBy
-range-sorted from zero = tt
-range-sorted from (suc count) = (range-above from (from + 1) count (omega arith), range-sorted (from + 1) count)
-
 choices-sorted : (count : ℕ) → IsStrictlySortedBy (option_cmp nat_cmp) (choices count)
 unfolding IsStrictlySortedBy
 choices-sorted count =
     let place = λ (n : ℕ). let some : Option ℕ = Some n in some in (
       each-map (λ y. option_cmp nat_cmp None y ≡ Less) place (range_with_len 0 count) (each-always (λ n. option_cmp nat_cmp None (place n) ≡ Less) (λ n. refl) (range_with_len 0 count)),
-      sorted-map nat_cmp (option_cmp nat_cmp) place (λ x y before. before) (range_with_len 0 count) (range-sorted 0 count),
+      sorted-map nat_cmp (option_cmp nat_cmp) place (λ x y before. before) (range_with_len 0 count) (range-rises 0 count),
     )
 
 -- ---- derivations in order
@@ -154,7 +137,7 @@ all-sorted lexicon =
     (λ entry entry' before. each_from (λ d. AllByRecursion (λ e. derivation_cmp d e ≡ Less) (all_from count entry')) count entry
     (λ prefix first second. each_from (λ e. derivation_cmp (derivation_of entry prefix first second) e ≡ Less) count entry'
     (λ prefix' first' second'. then-less (nat_cmp entry entry') (ordering_then (option_cmp nat_cmp prefix prefix') (later first second first' second')) before)))
-    (range_with_len 0 (length lexicon.entries)) (range-sorted 0 (length lexicon.entries))
+    (range_with_len 0 (length lexicon.entries)) (range-rises 0 (length lexicon.entries))
 
 pub derivations-rise : (lexicon : Lexicon) (word : List ℕ) → AreInOrder (derivations_of lexicon word)
 unfolding derivations_of

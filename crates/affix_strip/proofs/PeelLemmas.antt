@@ -17,6 +17,7 @@ use Rattle.spell_types.specs.Conditions.{fits_front, fits_back}
 use Rattle.spell_types.specs.Derivations.{is_same_side, rule_on}
 use Rattle.affix_classes.specs.Undoing.{suffix_put_back, prefix_put_back, undone_on}
 use Rattle.affix_tables.specs.Groups.{Group, strip_in, places_in, HasPlace, AreGroups}
+use Rattle.spell_types.specs.Laws.{own_side}
 use Rattle.affix_strip.specs.Peeling.{IsOn, join, has_at, cut_off, kept_of, IsCut, Peeled, peeled_by, Leaves, IsPeeled, ArePeeled, may_undo, may_undo_at}
 use Rattle.affix_strip.proofs.UndoneWords.{undone_at}
 use Rattle.affix_strip.proofs.InverseLemmas.{rule_on-side}
@@ -143,10 +144,6 @@ undone_on-leaves full_strip Prefix rule word rest has is =
 undone_on-leaves full_strip Suffix rule word rest has is =
     ap (λ b. if b && (may_strip full_strip rule (suffix_put_back rule word) && fits_back rule.condition (suffix_put_back rule word)) then Some (suffix_put_back rule word) else None) has
     ∙ ap (λ r. if may_undo full_strip Suffix r rule then Some r else None) is
-
-own_side : (side : Side) → is_same_side side side ≡ true
-own_side Prefix = refl
-own_side Suffix = refl
 
 rule_on-at : (rules : List Rule) (side : Side) (place : ℕ) (rule : Rule) → IsOn rules side place rule → rule_on rules side place ≡ Some rule
 rule_on-at rules side place rule (at, on) =

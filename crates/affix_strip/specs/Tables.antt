@@ -13,7 +13,7 @@ use Rattle.affix_strip.specs.EntryTable.{HasEntries}
 use Rattle.affix_strip.specs.Peeling.{may_undo_at}
 use Rattle.affix_strip.specs.declared.barring.Barring.{Barring}
 use Rattle.affix_strip.specs.declared.barring.Barring.TheVariants.{Nowhere, AtEntries, AtForms}
-use Rattle.affix_strip.specs.declared.walk.Dictionary.{Dictionary}
+use Rattle.affix_strip.specs.declared.walk.IndexedLexicon.{IndexedLexicon}
 use Rattle.affix_strip.specs.declared.walk.Tables.{Tables}
 
 -- the set has each flag that a suffix rule carries
@@ -66,13 +66,13 @@ pub record AreTablesOf (lexicon : Lexicon) (tables : Tables) : Type 0 where
   pub barring : IsBarring lexicon tables.barring
 
 -- the tables are those of the dictionary
-abbrev pub IsReady : Dictionary → Type 0
+abbrev pub IsReady : IndexedLexicon → Type 0
 IsReady dictionary = AreTablesOf dictionary.lexicon dictionary.tables
 
 -- whether the rule with a place may be a second suffix
-abbrev pub may_be_outer : Dictionary → ℕ → Bool
+abbrev pub may_be_outer : IndexedLexicon → ℕ → Bool
 may_be_outer dictionary place = option_map_or (λ may. may) (slice_get dictionary.tables.seconds.items place) false
 
 -- whether the rule with a place may be a second suffix that is attached to this
-abbrev pub may_undo_outer : Dictionary → List ℕ → ℕ → Bool
+abbrev pub may_undo_outer : IndexedLexicon → List ℕ → ℕ → Bool
 may_undo_outer dictionary rest place = may_be_outer dictionary place && may_undo_at dictionary.lexicon.affixes Suffix rest place

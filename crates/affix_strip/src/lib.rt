@@ -24,12 +24,12 @@ use std::alloc::Global;
 use std::cmp::Ordering;
 use std::marker::Model;
 use visiting::Alone;
-use walk::Dictionary;
+use walk::IndexedLexicon;
 
 /// A dictionary, ready to be asked for the derivations of words. Contracts see it as the dictionary.
 #[derive(Drop)]
 pub struct Stems {
-    dictionary: Dictionary,
+    dictionary: IndexedLexicon,
 }
 
 impl Model for Stems {
@@ -51,7 +51,7 @@ impl Stems {
         requires { IsSane lexicon }
         ensures { IfOk result (λ made. made ≡ lexicon) }
     {
-        let dictionary = Dictionary::new(alloc, lexicon)?;
+        let dictionary = IndexedLexicon::new(alloc, lexicon)?;
         Ok(Stems { dictionary })
     }
 

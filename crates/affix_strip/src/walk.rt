@@ -26,7 +26,7 @@ use std::alloc::Global;
 
 /// A dictionary, and tables of its rules and entries.
 #[derive(Drop)]
-pub(crate) struct Dictionary {
+pub(crate) struct IndexedLexicon {
     pub(crate) lexicon: Lexicon,
     tables: Tables,
 }
@@ -67,16 +67,16 @@ impl Tables {
     }
 }
 
-impl Dictionary {
+impl IndexedLexicon {
     /// The dictionary with its tables.
-    pub(crate) fn new(alloc: Global, lexicon: Lexicon) -> Result<Dictionary, NoMemory>
+    pub(crate) fn new(alloc: Global, lexicon: Lexicon) -> Result<IndexedLexicon, NoMemory>
         requires rules { length lexicon.affixes.rules < 2 ^ 32 }
         requires entries { length lexicon.entries < 2 ^ 32 }
         ensures lexicon { IfOk result (λ made. made.lexicon ≡ lexicon) }
         ensures ready { IfOk result (λ made. IsReady made) }
     {
         let tables = Tables::new(alloc, &lexicon)?;
-        Ok(Dictionary { lexicon, tables })
+        Ok(IndexedLexicon { lexicon, tables })
     }
 
     /// Whether one of the derivations of a word passes a test. The walk ends at the first that does.

@@ -11,6 +11,7 @@ use Rattle.spell_types.specs.declared.rules.Rule.{Rule}
 use Rattle.spell_types.specs.declared.rules.Side.{Side}
 use Rattle.spell_types.specs.declared.rules.Side.TheVariants.{Prefix, Suffix}
 use Rattle.spell_types.specs.Derivations.{is_same_side}
+use Rattle.std.specs.Cmp.{both_ways}
 use Rattle.affix_tables.specs.declared.Table.{Table}
 use Rattle.lists.specs.Laws.{range_more}
 use Rattle.affix_tables.specs.Places.{adds_on, places_where, suffix_places, prefix_places}
@@ -47,12 +48,6 @@ below-apart n count below = ne_eqb n count (λ same. omega (arith, same, ltb-tru
 
 below-either : (n count : ℕ) → nat_lt n (count + 1) ≡ (nat_lt n count || nat_eq n count)
 below-either n count = grind (arith, nat_tests)
-
-both_ways : (a b : Bool) → (a ≡ true → b ≡ true) → (b ≡ true → a ≡ true) → a ≡ b
-both_ways true true there back = refl
-both_ways true false there back = sym (there refl)
-both_ways false true there back = back refl
-both_ways false false there back = refl
 
 -- what is cut off at one end of a word: its text of each length, and whether a text stands there
 record IsEnd (size : ℕ) (text : ℕ → List ℕ) (fits : List ℕ → Bool) : Type 0 where

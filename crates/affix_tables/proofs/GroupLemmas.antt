@@ -21,13 +21,13 @@ use Rattle.spell_types.specs.declared.rules.Rule.{Rule}
 use Rattle.spell_types.specs.declared.rules.Side.{Side}
 use Rattle.spell_types.specs.Derivations.{is_same_side}
 use Rattle.key_filter.specs.Filter.{may_have}
+use Rattle.spell_types.specs.Laws.{own_side, same_side}
 use Rattle.affix_tables.specs.declared.Table.{Table}
 use Rattle.affix_tables.specs.Ends.{key_at}
 use Rattle.affix_tables.specs.Groups.{Group, places_in, AreApart, HasPlace, AreGroups}
 use Rattle.affix_tables.specs.Places.{exchanges, places_where}
 use Rattle.affix_tables.specs.Tables.{places_at, groups_at, all_places, Puts, IsTable}
 use Rattle.affix_tables.proofs.EntryLemmas.{Key, is_key, both}
-use Rattle.affix_tables.proofs.LawLemmas.{same_side, own_side}
 use Rattle.affix_tables.proofs.PlaceLemmas.{places-members, places-rise}
 
 -- ---- look-ups

@@ -8,18 +8,9 @@ use Rattle.spell_types.specs.declared.rules.Rule.{Rule}
 use Rattle.spell_types.specs.declared.rules.Side.{Side}
 use Rattle.spell_types.specs.declared.rules.Side.TheVariants.{Prefix, Suffix}
 use Rattle.spell_types.specs.Derivations.{is_same_side}
+use Rattle.spell_types.specs.Laws.{own_side, same_side}
 use Rattle.affix_tables.specs.Places.{adds_on, places_where, suffix_places, prefix_places}
 use Rattle.affix_tables.proofs.PlaceLemmas.{places-members, places-rise}
-
-pub same_side : (side other : Side) → is_same_side side other ≡ true → other ≡ side
-same_side Prefix Prefix same = refl
-same_side Prefix Suffix same = absurd (cc)
-same_side Suffix Prefix same = absurd (cc)
-same_side Suffix Suffix same = refl
-
-pub own_side : (side : Side) → is_same_side side side ≡ true
-own_side Prefix = refl
-own_side Suffix = refl
 
 side-members : (side : Side) (fits : List ℕ → Bool) (rules : List Rule) (place : ℕ) → Contains (places_where (adds_on side fits) rules) place ↔ ((rule : Rule) × (slice_get rules place ≡ Some rule) × (rule.side ≡ side) × (fits rule.add ≡ true))
 side-members side fits rules place = (

@@ -9,7 +9,7 @@ use Rattle.std.proofs.lemmas.List.Elements.{All-contains, filter-append, filter_
 use Rattle.std.proofs.lemmas.List.Kept.{IsStrictlySortedBy-filter}
 use Rattle.std.proofs.lemmas.List.Sorted.{IsPermutation-refl, IsPermutation-cons, IsPermutation-middle, IsPermutation-trans}
 use Rattle.std.proofs.lemmas.Option.{slice_get_within}
-use Rattle.lists.specs.Laws.{range_more, contains-filter, contains-range}
+use Rattle.lists.specs.Laws.{range_more, contains-filter, contains-range, range-above, range-rises}
 use Rattle.spell_types.specs.declared.rules.Rule.{Rule}
 use Rattle.affix_tables.specs.Places.{passes, places_where}
 
@@ -97,18 +97,6 @@ places-split p q r rules apart either =
     either-at (Some rule) = either rule
 
 -- ---- their order
-range-above : (x from count : ℕ) → x < from → AllByRecursion (λ y. nat_cmp x y ≡ Less) (range_with_len from count)
-range-above x from zero below = tt
-range-above x from (suc count) below = (less, range-above x (from + 1) count (omega (arith, below)))
-  where
-    less : nat_cmp x from ≡ Less
-    less = grind (arith, nat_tests, below)
-
-range-rises : (from count : ℕ) → IsStrictlySortedBy nat_cmp (range_with_len from count)
-unfolding IsStrictlySortedBy
-range-rises from zero = tt
-range-rises from (suc count) = (range-above from (from + 1) count (omega arith), range-rises (from + 1) count)
-
 pub places-rise : (test : Rule → Bool) (rules : List Rule) → IsStrictlySortedBy nat_cmp (places_where test rules)
 places-rise test rules =
     IsStrictlySortedBy-filter nat_cmp (λ place. passes test (slice_get rules place)) (range_with_len 0 (length rules)) (range-rises 0 (length rules))

@@ -6,6 +6,7 @@ use Rattle.std.proofs.lemmas.List.{length-take}
 use Rattle.std.proofs.lemmas.List.Folds.{list_any-append, list_all-append}
 use Rattle.spell_types.specs.declared.breaks.Anchored.{Anchored}
 use Rattle.spell_types.specs.Breaks.{parts_at, parted_at, behind_front, before_end, ways_by, ways_to_break, is_broken_within, is_broken}
+use Rattle.std.specs.Cmp.{both_ways}
 use Rattle.break_points.specs.declared.ways.Way.{Way}
 use Rattle.break_points.specs.declared.ways.Way.TheVariants.{Between, Behind, Before}
 use Rattle.break_points.specs.Pieces.{all_left, is_shorter, is_less, parting, behind_ways, before_ways, ways_with, ways_of}
@@ -308,12 +309,7 @@ back base barred breaks word e =
     (had all breaks word (any_passes (all_left (is_broken base barred breaks) word) (all_left all word) (λ way left. left_passes (is_broken base barred breaks) all word (λ y l t. within_more base barred breaks (length y) (length word) y l t) way left) (ways_of breaks word) parts.1)))))
     (or_cases (base word) (not (barred word) && list_any (all_left (is_broken base barred breaks) word) (ways_of breaks word)) e)
 
-pub same_tests : (a b : Bool) → (a ≡ true → b ≡ true) → (b ≡ true → a ≡ true) → a ≡ b
-same_tests true b f g = sym (f refl)
-same_tests false true f g = g refl
-same_tests false false f g = refl
-
 pub broken-by_ways : (base barred : List ℕ → Bool) (breaks : List Anchored) (word : List ℕ) → is_broken base barred breaks word ≡ broken_by_ways base barred breaks word
 unfolding is_broken
 broken-by_ways base barred breaks word =
-    same_tests (is_broken base barred breaks word) (broken_by_ways base barred breaks word) (forth base barred breaks (length word) word) (back base barred breaks word)
+    both_ways (is_broken base barred breaks word) (broken_by_ways base barred breaks word) (forth base barred breaks (length word) word) (back base barred breaks word)

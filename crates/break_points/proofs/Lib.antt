@@ -3,5 +3,5 @@ pub mod Trees
 pub mod Tables
 pub mod Deciding
 pub mod Texts
-pub mod MarkWays
+pub mod OccurrenceWays
 pub mod Prepared

@@ -1,6 +1,6 @@
 -- Patterns in order, each once, break words as those which they were made of.
 use Rattle.std.proofs.Common.{◌≡◌, ◌∙◌, refl, sym, ap, ap₂, subst, ℕ, zero, suc, ◌+◌, ◌<◌, Bool, true, false, ◌&&◌, List, [], ◌∷◌, length, map, get_or, nat_eq, IsPermutation, arith}
-use Rattle.std.specs.Cmp.{IsTotalOrder, IsEquivalence, bool_cmp_total, both_tied}
+use Rattle.std.specs.Cmp.{IsTotalOrder, IsEquivalence, bool_cmp_total, both_tied, both_ways}
 use Rattle.std.specs.Cmp.Lexicographic.{pointwise, slice_cmp, texts_ties}
 use Rattle.std.specs.List.{Contains, Any, dedup}
 use Rattle.std.specs.List.Sorted.{IsSorted, IsStrictlySortedBy}
@@ -17,7 +17,6 @@ use Rattle.spell_types.specs.declared.breaks.Anchored.{Anchored}
 use Rattle.spell_types.specs.Breaks.{is_broken, IsBroken, whole, between, behind, before}
 use Rattle.lists.specs.TextOrder.{AreInOrder}
 use Rattle.break_points.specs.Patterns.{Pattern, anchored_of, BreakAlike}
-use Rattle.break_points.proofs.Breaking.{same_tests}
 use Rattle.break_points.proofs.Texts.{made-of}
 use Rattle.break_points.proofs.Trees.{broken_tree, tree_broken}
 use mathlib.Core.Bool.{beq}
@@ -111,7 +110,7 @@ broken_more base barred breaks other more word e = tree_broken base barred other
 same-members : (breaks other : List Anchored) → ((b : Anchored) → Contains breaks b → Contains other b) → ((b : Anchored) → Contains other b → Contains breaks b) → BreakAlike breaks other
 unfolding BreakAlike
 same-members breaks other more less = λ base barred word.
-    same_tests (is_broken base barred breaks word) (is_broken base barred other word) (broken_more base barred breaks other more word) (broken_more base barred other breaks less word)
+    both_ways (is_broken base barred breaks word) (is_broken base barred other word) (broken_more base barred breaks other more word) (broken_more base barred other breaks less word)
 
 pub kept-alike : (E : Pattern → Pattern → Bool) → ((p q : Pattern) → E p q ≡ eq_by_cmp pattern_cmp p q) → (copies moved kept : List Pattern) (breaks : List Anchored) → map anchored_of copies ≡ breaks → IsPermutation copies moved → kept ≡ dedup E moved
     → BreakAlike (map anchored_of kept) breaks

@@ -5,6 +5,7 @@ use Rattle.std.specs.Ordering.{is_eq, nat_cmp}
 use Rattle.std.specs.declared.cmp.Ordering.{Ordering}
 use Rattle.std.specs.declared.cmp.Ordering.TheVariants.{Less, Equal, Greater}
 use Rattle.std.proofs.lemmas.Map.Lookups.{exact_pairs, exact_unsigned}
+use Rattle.std.proofs.lemmas.Option.{same_Some}
 use Rattle.break_points.specs.declared.table.Stretch.{Stretch}
 use Rattle.break_points.specs.declared.table.Table.{Table}
 use Rattle.break_points.specs.Pieces.{IsRight, place_cmp}
@@ -27,15 +28,12 @@ same_place : (piece other : Stretch) → is_eq (place_cmp (piece.from, piece.to)
 same_place piece other same =
     ap (λ (k : ℕ × ℕ). let s : Stretch = record { from = k.0; to = k.1 } in s) (exact_pairs nat_cmp nat_cmp exact_unsigned exact_unsigned (piece.from, piece.to) (other.from, other.to) (is_equal _ same))
 
-some_same : (a b : Bool) → Some a ≡ Some b → a ≡ b
-some_same a b same = cc
-
 pub put_right : (right : Stretch → Bool) (table new : Table) (piece : Stretch) (answer : Bool)
     → ((q : ℕ × ℕ) → get place_cmp new.answers q ≡ cond (is_eq (place_cmp (piece.from, piece.to) q)) (Some answer) (get place_cmp table.answers q))
     → IsRight right table → answer ≡ right piece → IsRight right new
 unfolding IsRight
 put_right right table new piece answer puts all is = λ other found given.
     (elim (is_eq (place_cmp (piece.from, piece.to) (other.from, other.to))) as (λ b. is_eq (place_cmp (piece.from, piece.to) (other.from, other.to)) ≡ b → cond b (Some answer) (get place_cmp table.answers (other.from, other.to)) ≡ Some found → found ≡ right other) [
-      | true ↦ λ same e. sym (some_same answer found e) ∙ (is ∙ ap right (same_place piece other same))
+      | true ↦ λ same e. sym (same_Some answer found e) ∙ (is ∙ ap right (same_place piece other same))
       | false ↦ λ _ e. all other found e
     ]) refl (sym (puts (other.from, other.to)) ∙ given)

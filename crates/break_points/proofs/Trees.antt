@@ -11,6 +11,7 @@ use Rattle.std.proofs.lemmas.Slice.Eq.{starts_is, ends_is}
 use Rattle.std.proofs.Math.Seq.{take-append_seam, drop-append_seam, drop-append-add}
 use Rattle.spell_types.specs.declared.breaks.Anchored.{Anchored}
 use Rattle.spell_types.specs.Breaks.{parts_at, parted_at, parted, behind_front, before_end, ways_by, ways_to_break, is_broken_within, is_broken, IsBroken, whole, between, behind, before}
+use Rattle.lists.specs.Laws.{take-joined}
 use Rattle.break_points.proofs.Breaking.{⊎_else, base_within, within_more, stable}
 
 -- ---- one of the patterns breaks the word
@@ -179,17 +180,12 @@ behind_had low text rest some is =
     ((starts_is Decides-eqb (text ++ rest) text _ refl).1 rest refl)
     (ap low (drop-append_seam text rest) ∙ is)
 
-take_front : (front text : List ℕ) → take (length (front ++ text) - length text) (front ++ text) ≡ front
-take_front front text =
-    let same : length (front ++ text) - length text ≡ length front = omega (arith, length-append front text) in
-    ap (λ n. take n (front ++ text)) same ∙ take-append_seam front text
-
 before_had : (low : List ℕ → Bool) (text front : List ℕ) → 0 < length front → low front ≡ true → list_any (list_all low) (before_end text (front ++ text)) ≡ true
 before_had low text front some is =
     only_one low (take (length (front ++ text) - length text) (front ++ text)) _ _
     (lt-ltb (length text) (length (front ++ text)) (omega (arith, some, length-append front text)))
     ((ends_is Decides-eqb (front ++ text) text _ refl).1 front refl)
-    (ap low (take_front front text) ∙ is)
+    (ap low (take-joined front text) ∙ is)
 
 -- a way by one of the patterns whose parts are all broken
 broken_by : (base barred : List ℕ → Bool) (breaks : List Anchored) (word : List ℕ) (b : Anchored) (front back : Bool) → barred word ≡ false → Contains breaks b → b.front ≡ front → b.back ≡ back

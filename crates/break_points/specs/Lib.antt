@@ -1,4 +1,4 @@
 pub mod Judging
 pub mod Patterns
-pub mod Marks
+pub mod Occurrences
 pub mod Pieces

@@ -8,17 +8,17 @@ ghost use Rattle.spell_types.specs.declared.breaks.Anchored.{Anchored};
 ghost use Rattle.spell_types.specs.Breaks.{is_broken, IsBroken};
 ghost use Rattle.break_points.specs.declared.Judged.{Judged};
 ghost use Rattle.break_points.specs.Judging.{is_base_by, is_barred_by, AnswersAs};
-ghost use Rattle.break_points.specs.Marks.{AreMarks};
+ghost use Rattle.break_points.specs.Occurrences.{AreOccurrences};
 ghost use Rattle.break_points.specs.Pieces.{is_broken_piece, is_broken_by, IsRight, is_shorter, all_left, ways_of};
 
 mod breaks;
-mod marks;
+mod occurrences;
 mod table;
 mod ways;
 
 pub use breaks::Breaks;
 use lists::NoMemory;
-use marks::{Mark, marks_in};
+use occurrences::{Occurrence, occurrences_in};
 use spell_types::Anchored;
 use std::alloc::Global;
 use table::{Stretch, Table};
@@ -71,8 +71,8 @@ impl Breaks {
             Judged::Barred => return Ok(false),
             Judged::Other => {}
         }
-        let marks = marks_in(alloc, self.patterns.as_slice(), word)?;
-        if marks.is_empty() {
+        let occurrences = occurrences_in(alloc, self.patterns.as_slice(), word)?;
+        if occurrences.is_empty() {
             return Ok(false);
         }
         let mut table = Table::new(alloc);
@@ -80,7 +80,7 @@ impl Breaks {
             from: 0,
             to: word.len(),
         };
-        decide_parts(word, marks.as_slice(), judge, &mut table, whole)
+        decide_parts(word, occurrences.as_slice(), judge, &mut table, whole)
     }
 }
 
@@ -88,7 +88,7 @@ impl Breaks {
 #[cycle(deciding)]
 fn decide<F: Fn(&[char]) -> Result<Judged, NoMemory>>(
     word: &[char],
-    marks: &[Mark],
+    occurrences: &[Occurrence],
     judge: &F,
     table: &mut Table,
     piece: Stretch,
@@ -97,14 +97,14 @@ fn decide<F: Fn(&[char]) -> Result<Judged, NoMemory>>(
     requires ordered { piece.from ≤ piece.to }
     requires within { piece.to ≤ length word.now }
     ensures { (judged : List ℕ → Judged) (breaks : List Anchored) → AnswersAs (FnReturnsAt F.Fn judge.now) judged
-        → AreMarks breaks word.now marks.now → IsRight (is_broken_piece judged breaks word.now) table.old
+        → AreOccurrences breaks word.now occurrences.now → IsRight (is_broken_piece judged breaks word.now) table.old
         → IfOk result (λ answer. (answer ≡ is_broken_piece judged breaks word.now piece)
         × IsRight (is_broken_piece judged breaks word.now) table.new) }
 {
     if let Some(answer) = table.get(piece) {
         return Ok(answer);
     }
-    let answer = decide_anew(word, marks, judge, table, piece)?;
+    let answer = decide_anew(word, occurrences, judge, table, piece)?;
     table.put(piece, answer)?;
     Ok(answer)
 }
@@ -113,7 +113,7 @@ fn decide<F: Fn(&[char]) -> Result<Judged, NoMemory>>(
 #[cycle(deciding)]
 fn decide_anew<F: Fn(&[char]) -> Result<Judged, NoMemory>>(
     word: &[char],
-    marks: &[Mark],
+    occurrences: &[Occurrence],
     judge: &F,
     table: &mut Table,
     piece: Stretch,
@@ -122,14 +122,14 @@ fn decide_anew<F: Fn(&[char]) -> Result<Judged, NoMemory>>(
     requires ordered { piece.from ≤ piece.to }
     requires within { piece.to ≤ length word.now }
     ensures { (judged : List ℕ → Judged) (breaks : List Anchored) → AnswersAs (FnReturnsAt F.Fn judge.now) judged
-        → AreMarks breaks word.now marks.now → IsRight (is_broken_piece judged breaks word.now) table.old
+        → AreOccurrences breaks word.now occurrences.now → IsRight (is_broken_piece judged breaks word.now) table.old
         → IfOk result (λ answer. (answer ≡ is_broken_piece judged breaks word.now piece)
         × IsRight (is_broken_piece judged breaks word.now) table.new) }
 {
     match judge(&word[piece.from..piece.to])? {
         Judged::Base => Ok(true),
         Judged::Barred => Ok(false),
-        Judged::Other => decide_parts(word, marks, judge, table, piece),
+        Judged::Other => decide_parts(word, occurrences, judge, table, piece),
     }
 }
 
@@ -137,7 +137,7 @@ fn decide_anew<F: Fn(&[char]) -> Result<Judged, NoMemory>>(
 #[cycle(deciding)]
 fn decide_parts<F: Fn(&[char]) -> Result<Judged, NoMemory>>(
     word: &[char],
-    marks: &[Mark],
+    occurrences: &[Occurrence],
     judge: &F,
     table: &mut Table,
     piece: Stretch,
@@ -146,15 +146,15 @@ fn decide_parts<F: Fn(&[char]) -> Result<Judged, NoMemory>>(
     requires ordered { piece.from ≤ piece.to }
     requires within { piece.to ≤ length word.now }
     ensures { (judged : List ℕ → Judged) (breaks : List Anchored) → AnswersAs (FnReturnsAt F.Fn judge.now) judged
-        → AreMarks breaks word.now marks.now → IsRight (is_broken_piece judged breaks word.now) table.old
+        → AreOccurrences breaks word.now occurrences.now → IsRight (is_broken_piece judged breaks word.now) table.old
         → IfOk result (λ answer. (answer
         ≡ list_any (all_left (is_broken_by judged breaks) (slice_range word.now piece.from piece.to))
         (ways_of breaks (slice_range word.now piece.from piece.to)))
         × IsRight (is_broken_piece judged breaks word.now) table.new) }
 {
-    for mark in marks {
-        if let Some(way) = mark.way(piece) {
-            if decide_way(word, marks, judge, table, piece, way)? {
+    for occurrence in occurrences {
+        if let Some(way) = occurrence.way(piece) {
+            if decide_way(word, occurrences, judge, table, piece, way)? {
                 return Ok(true);
             }
         }
@@ -166,7 +166,7 @@ fn decide_parts<F: Fn(&[char]) -> Result<Judged, NoMemory>>(
 #[cycle(deciding)]
 fn decide_way<F: Fn(&[char]) -> Result<Judged, NoMemory>>(
     word: &[char],
-    marks: &[Mark],
+    occurrences: &[Occurrence],
     judge: &F,
     table: &mut Table,
     piece: Stretch,
@@ -177,18 +177,18 @@ fn decide_way<F: Fn(&[char]) -> Result<Judged, NoMemory>>(
     requires within { piece.to ≤ length word.now }
     requires shorter { IsTrue (is_shorter (slice_range word.now piece.from piece.to) way) }
     ensures { (judged : List ℕ → Judged) (breaks : List Anchored) → AnswersAs (FnReturnsAt F.Fn judge.now) judged
-        → AreMarks breaks word.now marks.now → IsRight (is_broken_piece judged breaks word.now) table.old
+        → AreOccurrences breaks word.now occurrences.now → IsRight (is_broken_piece judged breaks word.now) table.old
         → IfOk result (λ answer. (answer
         ≡ all_left (is_broken_by judged breaks) (slice_range word.now piece.from piece.to) way)
         × IsRight (is_broken_piece judged breaks word.now) table.new) }
 {
     match way {
         Way::Between(end, start) => Ok(
-            decide(word, marks, judge, table, piece.before(end))?
-                && decide(word, marks, judge, table, piece.behind(start))?,
+            decide(word, occurrences, judge, table, piece.before(end))?
+                && decide(word, occurrences, judge, table, piece.behind(start))?,
         ),
-        Way::Behind(start) => decide(word, marks, judge, table, piece.behind(start)),
-        Way::Before(end) => decide(word, marks, judge, table, piece.before(end)),
+        Way::Behind(start) => decide(word, occurrences, judge, table, piece.behind(start)),
+        Way::Before(end) => decide(word, occurrences, judge, table, piece.before(end)),
     }
 }
 

@@ -13,9 +13,9 @@ use Rattle.spell_types.specs.Compounds.{Asked, written, all_stand, may_end}
 use Rattle.spell_types.specs.Joints.{is_joint}
 use Rattle.spell_types.specs.Patterns.{MatchesOneByOne}
 use Rattle.spell_types.specs.Sanity.{AreSaneAffixes}
-use Rattle.lists.specs.Laws.{each-append}
+use Rattle.lists.specs.Laws.{each-append, each-front}
 use Rattle.compound_words.specs.declared.rests.Behind.{Behind}
-use Rattle.compound_words.specs.declared.rests.Rest.{Rest}
+use Rattle.compound_words.specs.declared.rests.FirstPart.{FirstPart}
 use Rattle.compound_words.specs.Counting.{fewest, IsFewest, OneOf}
 use Rattle.compound_words.specs.Rests.{is_enough, stand_from, Way, ByFlags, ByRule, matches_from, holds, AreRest, Leads, Follows, count_of, IsRight, HasPart, IsRow, IsMade, IsAdded, Grows, HasFirsts, IsGivenAs, AreParts, rests_at, may_precede, number_behind, number_at_end, number_with}
 use Rattle.compound_words.proofs.CountLemmas.{fewest-same, fewest-list}
@@ -41,27 +41,23 @@ one-cases P (x ∷ xs) ys (inr one) = later (one-cases P xs ys one)
     later (inl is) = inl (inr is)
     later (inr is) = inr is
 
-each-front : {X : Type 0} (P : X → Type 0) (xs ys : List X) → AllByRecursion P (xs ++ ys) → AllByRecursion P xs
-each-front P [] ys each = tt
-each-front P (x ∷ xs) ys each = (each.0, each-front P xs ys each.1)
-
 each-last : {X : Type 0} (P : X → Type 0) (xs : List X) (y : X) → AllByRecursion P (xs ++ y ∷ []) → P y
 each-last P [] y each = each.0
 each-last P (x ∷ xs) y each = each-last P xs y each.1
 
 -- ---- rows
-pub grows-same : (a : Asked) (rules : List (List PatternStep)) (here : Place) (text : List ℕ) (row : List Rest) → Grows a rules here text row row
+pub grows-same : (a : Asked) (rules : List (List PatternStep)) (here : Place) (text : List ℕ) (row : List FirstPart) → Grows a rules here text row row
 grows-same a rules here text row = record { right = λ right. right; kept = λ part has. has }
 
-pub grows-twice : (a : Asked) (rules : List (List PatternStep)) (here : Place) (text : List ℕ) (before middle now : List Rest) → Grows a rules here text before middle → Grows a rules here text middle now → Grows a rules here text before now
+pub grows-twice : (a : Asked) (rules : List (List PatternStep)) (here : Place) (text : List ℕ) (before middle now : List FirstPart) → Grows a rules here text before middle → Grows a rules here text middle now → Grows a rules here text before now
 grows-twice a rules here text before middle now one two = record { right = λ right. two.right (one.right right); kept = λ part has. two.kept part (one.kept part has) }
 
 -- a row once a part was looked at
-pub record IsGrown (a : Asked) (rules : List (List PatternStep)) (here : Place) (text : List ℕ) (part : Part) (before now : List Rest) : Type 0 where
+pub record IsGrown (a : Asked) (rules : List (List PatternStep)) (here : Place) (text : List ℕ) (part : Part) (before now : List FirstPart) : Type 0 where
   pub grows : Grows a rules here text before now
   pub has : (more : List Part) (way : Way) → AreRest a text (part ∷ more) → holds a rules here way (part ∷ more) ≡ true → HasPart part now
 
-pub added-grown : MatchesOneByOne → (a : Asked) (rules : List (List PatternStep)) (here place : Place) (text : List ℕ) (part : Part) (behind : Behind) (before now : List Rest)
+pub added-grown : MatchesOneByOne → (a : Asked) (rules : List (List PatternStep)) (here place : Place) (text : List ℕ) (part : Part) (behind : Behind) (before now : List FirstPart)
     → IsBefore a rules here place text part behind → IsAdded a rules place part behind before now → IsGrown a rules here text part before now
 added-grown law a rules here place text part behind before now is added = by added.made added.is added.added
   where
@@ -70,7 +66,7 @@ added-grown law a rules here place text part behind before now is added = by add
         subst (IsFewest (Leads a text (holds a rules here way) part)) nil (number-right law a rules here place text part behind is way)
         (length (part ∷ more)) (record { more = more; rest = rest; so = so; long = refl })
 
-    by : (made : Option Rest) → IsMade a rules place part behind made → now ≡ before ++ option_to_list made → IsGrown a rules here text part before now
+    by : (made : Option FirstPart) → IsMade a rules place part behind made → now ≡ before ++ option_to_list made → IsGrown a rules here text part before now
     by None nil same = record {
       grows = subst (Grows a rules here text before) (sym (same ∙ append-nil before)) (grows-same a rules here text before);
       has = λ more way rest so. absurd (none more way (nil way) rest so);
@@ -88,13 +84,13 @@ added-grown law a rules here place text part behind before now is added = by add
             (subst (IsFewest (Leads a text (holds a rules here way) part)) (sym (has.numbers way)) (number-right law a rules here place text part behind is way))
 
 -- ---- the parts that are left to look at
-pub record AreLeft (a : Asked) (rules : List (List PatternStep)) (here : Place) (text front : List ℕ) (parts : List Part) (before row : List Rest) : Type 0 where
+pub record AreLeft (a : Asked) (rules : List (List PatternStep)) (here : Place) (text front : List ℕ) (parts : List Part) (before row : List FirstPart) : Type 0 where
   pub given : AllByRecursion (IsGivenAs a front) parts
   pub grows : Grows a rules here text before row
   pub has : (part : Part) (more : List Part) (way : Way) → part.text ≡ front → AreRest a text (part ∷ more) → holds a rules here way (part ∷ more) ≡ true
       → OneOf (λ other. other ≡ part) parts ⊎ HasPart part row
 
-pub left-all : (a : Asked) (rules : List (List PatternStep)) (here : Place) (text front : List ℕ) (parts : List Part) (row : List Rest) → AreParts a front parts → AreLeft a rules here text front parts row row
+pub left-all : (a : Asked) (rules : List (List PatternStep)) (here : Place) (text front : List ℕ) (parts : List Part) (row : List FirstPart) → AreParts a front parts → AreLeft a rules here text front parts row row
 left-all a rules here text front parts row are = record {
   given = are.given;
   grows = grows-same a rules here text row;
@@ -105,7 +101,7 @@ pub left-given : (a : Asked) (front : List ℕ) (parts : List Part) (part : Part
 left-given a front parts part given = each-last (IsGivenAs a front) parts part given
 
 -- one is looked at
-pub left-turn : (a : Asked) (rules : List (List PatternStep)) (here : Place) (text front : List ℕ) (parts : List Part) (part : Part) (before middle now : List Rest)
+pub left-turn : (a : Asked) (rules : List (List PatternStep)) (here : Place) (text front : List ℕ) (parts : List Part) (part : Part) (before middle now : List FirstPart)
     → AreLeft a rules here text front (parts ++ part ∷ []) before middle → IsGrown a rules here text part middle now → AreLeft a rules here text front parts before now
 left-turn a rules here text front parts part before middle now left grown = record {
   given = each-front (IsGivenAs a front) parts (part ∷ []) left.given;
@@ -128,7 +124,7 @@ left-turn a rules here text front parts part before middle now left grown = reco
         either (inr (inr nil)) = absurd nil
 
 -- all were looked at
-pub left-none : (a : Asked) (rules : List (List PatternStep)) (here : Place) (text front : List ℕ) (before now : List Rest) → AreLeft a rules here text front [] before now → HasFirsts a rules here text front now
+pub left-none : (a : Asked) (rules : List (List PatternStep)) (here : Place) (text front : List ℕ) (before now : List FirstPart) → AreLeft a rules here text front [] before now → HasFirsts a rules here text front now
 left-none a rules here text front before now left = record { has = λ part more way is rest so. by part (left.has part more way is rest so) }
   where
     by : (part : Part) → OneOf (λ other. other ≡ part) [] ⊎ HasPart part now → HasPart part now
@@ -143,7 +139,7 @@ alone a text part more sane given rest =
     (append_cancel_left part.text (written more) [] (rest.joined ∙ sym given.writes ∙ sym (append-nil part.text)))
 
 -- one that may not end it
-pub last-barred : (a : Asked) (rules : List (List PatternStep)) (text : List ℕ) (part : Part) (row : List Rest) → AreSaneAffixes a.lexicon.affixes → IsGivenAs a text part → may_end a part ≡ false → IsGrown a rules Middle text part row row
+pub last-barred : (a : Asked) (rules : List (List PatternStep)) (text : List ℕ) (part : Part) (row : List FirstPart) → AreSaneAffixes a.lexicon.affixes → IsGivenAs a text part → may_end a part ≡ false → IsGrown a rules Middle text part row row
 last-barred a rules text part row sane given barred = record {
   grows = grows-same a rules Middle text row;
   has = λ more way rest so. absurd (none more rest (alone a text part more sane given rest));
@@ -229,7 +225,7 @@ one-kept P Q test so (x ∷ xs) (inr one) = by (test x) (one-kept P Q test so xs
     by true later = inr later
     by false later = later
 
-pub inner-before : (a : Asked) (rules : List (List PatternStep)) (here : Place) (text front : List ℕ) (part : Part) (behind : Behind) (rests : List Rest) → AreSaneAffixes a.lexicon.affixes → IsGivenAs a front part
+pub inner-before : (a : Asked) (rules : List (List PatternStep)) (here : Place) (text front : List ℕ) (part : Part) (behind : Behind) (rests : List FirstPart) → AreSaneAffixes a.lexicon.affixes → IsGivenAs a front part
     → IsRow a rules text rests → 0 < length text → length (front ++ text) ≤ 2 ^ 64 - 1 → behind.is_end ≡ false → rests_at behind.rests.now ≡ filter (may_precede a part) rests
     → IsBefore a rules here here (front ++ text) part behind
 inner-before a rules here text front part behind rests sane given row some fits end are = record {

@@ -6,7 +6,7 @@ use Rattle.std.proofs.lemmas.Bool.Decides.{nat_tests}
 use Rattle.std.proofs.lemmas.List.{take_more, map-append}
 use Rattle.compound_words.specs.Counting.{least, fewest, IsFewest, OneOf}
 use Rattle.compound_words.specs.Rests.{rests_at}
-use Rattle.compound_words.specs.declared.rests.Rest.{Rest}
+use Rattle.compound_words.specs.declared.rests.FirstPart.{FirstPart}
 
 least-none : (a : Option ℕ) → least a None ≡ a
 least-none None = refl
@@ -26,13 +26,13 @@ fewest-snoc [] x = least-none x
 fewest-snoc (y ∷ xs) x = ap (least y) (fewest-snoc xs x) ∙ least-assoc y (fewest xs) x
 
 -- one rest more
-pub fewest-turn : (f : Rest → Option ℕ) (rests : List (Bor Rest)) (place : ℕ) (rest : Bor Rest) (found : Option ℕ) → place < length rests → rest ≡ get_or rests place rest
+pub fewest-turn : (f : FirstPart → Option ℕ) (rests : List (Bor FirstPart)) (place : ℕ) (rest : Bor FirstPart) (found : Option ℕ) → place < length rests → rest ≡ get_or rests place rest
     → found ≡ fewest (map f (rests_at (take place rests))) → least found (f rest.now) ≡ fewest (map f (rests_at (take (place + 1) rests)))
 fewest-turn f rests place rest found within is so_far =
     let before = take place rests in
     let whole : map f (rests_at (take (place + 1) rests)) ≡ map f (rests_at before) ++ f rest.now ∷ [] =
-    ap (λ l. map f (rests_at l)) (take_more rests place rest within ∙ ap (λ (l : Bor Rest). before ++ l ∷ []) (sym is))
-    ∙ ap (map f) (map-append (λ (l : Bor Rest). l.now) before (rest ∷ []))
+    ap (λ l. map f (rests_at l)) (take_more rests place rest within ∙ ap (λ (l : Bor FirstPart). before ++ l ∷ []) (sym is))
+    ∙ ap (map f) (map-append (λ (l : Bor FirstPart). l.now) before (rest ∷ []))
     ∙ map-append f (rests_at before) (rest.now ∷ []) in
     ap (λ o. least o (f rest.now)) so_far ∙ sym (fewest-snoc (map f (rests_at before)) (f rest.now)) ∙ ap fewest (sym whole)
 

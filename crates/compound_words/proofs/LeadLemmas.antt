@@ -74,10 +74,6 @@ or-right true true w is = refl
 or-right true false w is = is
 or-right false y w is = absurd (true≢false (sym is))
 
-pub or-cases-true : (a b : Bool) → (a || b) ≡ true → (a ≡ true) ⊎ (b ≡ true)
-or-cases-true true b is = inl refl
-or-cases-true false b is = inr is
-
 or-cases : (x z y w : Bool) → (x && ((z && y) || w)) ≡ true → ((z ≡ true) × ((x && y) ≡ true)) ⊎ ((x && w) ≡ true)
 or-cases true true true w is = inl (refl, refl)
 or-cases true true false w is = inr is

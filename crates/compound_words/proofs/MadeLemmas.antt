@@ -2,7 +2,7 @@
 use Rattle.std.proofs.Common.{◌≡◌, ◌∙◌, ◌↔◌, refl, sym, ap, subst, ℕ, zero, suc, ◌≤◌, nat_le, nat_lt, Bool, true, false, true≢false, ◌||◌, ◌⊎◌, inl, inr, List, [], ◌∷◌, length, drop, slice_get, Option, None, Some, option_and_then, IsTrue, arith}
 use Rattle.std.specs.List.{AllByRecursion, list_any}
 use Rattle.std.specs.Option.{option_map_or}
-use Rattle.std.proofs.lemmas.Bool.{and_parts, and_from}
+use Rattle.std.proofs.lemmas.Bool.{and_parts, and_from, or_right, or_left, or_cases}
 use Rattle.std.proofs.lemmas.Bool.Decides.{nat_tests}
 use Rattle.std.proofs.lemmas.Slice.Eq.{bytes_eq-Decides}
 use Rattle.spell_types.specs.declared.parts.Part.{Part}
@@ -12,11 +12,12 @@ use Rattle.spell_types.specs.Cases.{is_same_word}
 use Rattle.spell_types.specs.Compounds.{Asked, IsGiven, IsMadeUp, written, all_stand, stand_by_flags, flags_of, follow, do_meet, end_well, are_few, make_up, is_made_up}
 use Rattle.spell_types.specs.Parts.{stands_at, stands_in_rule}
 use Rattle.spell_types.specs.Patterns.{matches}
-use Rattle.compound_words.specs.declared.rests.Rest.{Rest}
+use Rattle.std.specs.Cmp.{both_ways}
+use Rattle.lists.specs.Laws.{any-at}
+use Rattle.compound_words.specs.declared.rests.FirstPart.{FirstPart}
 use Rattle.compound_words.specs.Counting.{number_at, IsFewest}
 use Rattle.compound_words.specs.Rests.{Way, ByFlags, ByRule, is_enough, stand_from, matches_from, holds, numbers_at, AreRest, Leads, count_of, IsRight, HasPart, HasInner, AreRulesOf, is_few, has_few}
 use Rattle.compound_words.proofs.AddLemmas.{enough}
-use Rattle.compound_words.proofs.LeadLemmas.{or-cases-true}
 
 -- ---- tests of lists
 record IsAt {X : Type 0} (test : X → Bool) (xs : List X) : Type 0 where
@@ -25,63 +26,41 @@ record IsAt {X : Type 0} (test : X → Bool) (xs : List X) : Type 0 where
   at : slice_get xs place ≡ Some item
   passes : test item ≡ true
 
-any-at : {X : Type 0} (test : X → Bool) (xs : List X) → list_any test xs ≡ true → IsAt test xs
-any-at test [] any = absurd (true≢false (sym any))
-any-at test (x ∷ xs) any = by (or-cases-true (test x) (list_any test xs) any) (any-at test xs)
+one-at : {X : Type 0} (test : X → Bool) (xs : List X) → list_any test xs ≡ true → IsAt test xs
+one-at test [] any = absurd (true≢false (sym any))
+one-at test (x ∷ xs) any = by (or_cases (test x) (list_any test xs) any) (one-at test xs)
   where
     by : (test x ≡ true) ⊎ (list_any test xs ≡ true) → (list_any test xs ≡ true → IsAt test xs) → IsAt test (x ∷ xs)
     by (inl passes) later = record { place = 0; item = x; at = refl; passes = passes }
     by (inr any) later = let found = later any in record { place = suc found.place; item = found.item; at = found.at; passes = found.passes }
 
-or-true-left : (a b : Bool) → a ≡ true → (a || b) ≡ true
-or-true-left true b is = refl
-or-true-left false b is = absurd (true≢false (sym is))
-
-or-true-right : (a b : Bool) → b ≡ true → (a || b) ≡ true
-or-true-right true b is = refl
-or-true-right false b is = is
-
-any-from : {X : Type 0} (test : X → Bool) (xs : List X) (place : ℕ) (item : X) → slice_get xs place ≡ Some item → test item ≡ true → list_any test xs ≡ true
-any-from test [] place item at passes = absurd (cc)
-any-from test (x ∷ xs) zero item at passes = or-true-left (test x) (list_any test xs) (ap (option_map_test test) at ∙ passes)
-  where
-    option_map_test : {X : Type 0} → (X → Bool) → Option X → Bool
-    option_map_test test None = false
-    option_map_test test (Some x) = test x
-any-from test (x ∷ xs) (suc place) item at passes = or-true-right (test x) (list_any test xs) (any-from test xs place item at passes)
-
-both-same : (a b : Bool) → (a ≡ true → b ≡ true) → (b ≡ true → a ≡ true) → a ≡ b
-both-same true b there back = sym (there refl)
-both-same false true there back = back refl
-both-same false false there back = refl
-
 -- a rest that is right, and of which something holds
-record IsFound (a : Asked) (rules : List (List PatternStep)) (word : List ℕ) (holds_of : Rest → Type 0) : Type 0 where
-  rest : Rest
+record IsFound (a : Asked) (rules : List (List PatternStep)) (word : List ℕ) (holds_of : FirstPart → Type 0) : Type 0 where
+  rest : FirstPart
   right : IsRight a rules First word rest
   so : holds_of rest
 
-found-any : (a : Asked) (rules : List (List PatternStep)) (word : List ℕ) (test : Rest → Bool) (row : List Rest) → AllByRecursion (IsRight a rules First word) row → list_any test row ≡ true → IsFound a rules word (λ rest. test rest ≡ true)
+found-any : (a : Asked) (rules : List (List PatternStep)) (word : List ℕ) (test : FirstPart → Bool) (row : List FirstPart) → AllByRecursion (IsRight a rules First word) row → list_any test row ≡ true → IsFound a rules word (λ rest. test rest ≡ true)
 found-any a rules word test [] right any = absurd (true≢false (sym any))
-found-any a rules word test (rest ∷ row) right any = by (or-cases-true (test rest) (list_any test row) any) (found-any a rules word test row right.1)
+found-any a rules word test (rest ∷ row) right any = by (or_cases (test rest) (list_any test row) any) (found-any a rules word test row right.1)
   where
     by : (test rest ≡ true) ⊎ (list_any test row ≡ true) → (list_any test row ≡ true → IsFound a rules word (λ r. test r ≡ true)) → IsFound a rules word (λ r. test r ≡ true)
     by (inl passes) later = record { rest = rest; right = right.0; so = passes }
     by (inr any) later = later any
 
 -- a rest with the part, that is in the row
-record IsIn (a : Asked) (rules : List (List PatternStep)) (word : List ℕ) (part : Part) (row : List Rest) : Type 0 where
-  rest : Rest
+record IsIn (a : Asked) (rules : List (List PatternStep)) (word : List ℕ) (part : Part) (row : List FirstPart) : Type 0 where
+  rest : FirstPart
   right : IsRight a rules First word rest
   first : rest.part ≡ part
-  any : (test : Rest → Bool) → test rest ≡ true → list_any test row ≡ true
+  any : (test : FirstPart → Bool) → test rest ≡ true → list_any test row ≡ true
 
-found-part : (a : Asked) (rules : List (List PatternStep)) (word : List ℕ) (part : Part) (row : List Rest) → AllByRecursion (IsRight a rules First word) row → HasPart part row → IsIn a rules word part row
+found-part : (a : Asked) (rules : List (List PatternStep)) (word : List ℕ) (part : Part) (row : List FirstPart) → AllByRecursion (IsRight a rules First word) row → HasPart part row → IsIn a rules word part row
 found-part a rules word part [] right has = absurd has
-found-part a rules word part (rest ∷ row) right (inl first) = record { rest = rest; right = right.0; first = first; any = λ test passes. or-true-left (test rest) (list_any test row) passes }
+found-part a rules word part (rest ∷ row) right (inl first) = record { rest = rest; right = right.0; first = first; any = λ test passes. or_left (test rest) (list_any test row) passes }
 found-part a rules word part (rest ∷ row) right (inr has) =
     let found = found-part a rules word part row right.1 has in
-    record { rest = found.rest; right = found.right; first = found.first; any = λ test passes. or-true-right (test rest) (list_any test row) (found.any test passes) }
+    record { rest = found.rest; right = found.right; first = found.first; any = λ test passes. or_right (test rest) (list_any test row) (found.any test passes) }
 
 -- ---- few enough
 few-less : (a : Asked) (less more : ℕ) → less ≤ more → are_few a more ≡ true → are_few a less ≡ true
@@ -102,7 +81,7 @@ record SomeFew (a : Asked) (found : Option ℕ) : Type 0 where
   few : are_few a number ≡ true
 
 -- a way with few enough parts
-record FewWay (a : Asked) (rest : Rest) : Type 0 where
+record FewWay (a : Asked) (rest : FirstPart) : Type 0 where
   way : Way
   starts : Starts way
   number : ℕ
@@ -116,8 +95,8 @@ record StandsSo (a : Asked) (rules : List (List PatternStep)) (parts : List Part
   so : holds a rules First way parts ≡ true
 
 -- the number of a way is few enough
-few-way : (a : Asked) (rules : List (List PatternStep)) (rest : Rest) → has_few a rest ≡ true → FewWay a rest
-few-way a rules rest few = by (or-cases-true (is_few a rest.by_flags) (list_any (λ own. is_few a (number_at own 0)) rest.by_rules) few)
+few-way : (a : Asked) (rules : List (List PatternStep)) (rest : FirstPart) → has_few a rest ≡ true → FewWay a rest
+few-way a rules rest few = by (or_cases (is_few a rest.by_flags) (list_any (λ own. is_few a (number_at own 0)) rest.by_rules) few)
   where
     some : (number : Option ℕ) → is_few a number ≡ true → SomeFew a number
     some None few = absurd (true≢false (sym few))
@@ -126,26 +105,26 @@ few-way a rules rest few = by (or-cases-true (is_few a rest.by_flags) (list_any 
     by : (is_few a rest.by_flags ≡ true) ⊎ (list_any (λ own. is_few a (number_at own 0)) rest.by_rules ≡ true) → FewWay a rest
     by (inl few) = let it = some rest.by_flags few in record { way = ByFlags; starts = tt; number = it.number; at = it.at; few = it.few }
     by (inr any) =
-        let found = any-at (λ own. is_few a (number_at own 0)) rest.by_rules any in
+        let found = one-at (λ own. is_few a (number_at own 0)) rest.by_rules any in
         let it = some (number_at found.item 0) found.passes in
         record { way = ByRule found.place 0; starts = refl; number = it.number; at = ap (option_and_then (λ own. number_at own 0)) found.at ∙ it.at; few = it.few }
 
 -- and the other way round
-way-few : (a : Asked) (rest : Rest) (way : Way) (number : ℕ) → Starts way → count_of rest way ≡ Some number → are_few a number ≡ true → has_few a rest ≡ true
-way-few a rest ByFlags number starts at few = or-true-left (is_few a rest.by_flags) (list_any (λ own. is_few a (number_at own 0)) rest.by_rules) (ap (is_few a) at ∙ few)
+way-few : (a : Asked) (rest : FirstPart) (way : Way) (number : ℕ) → Starts way → count_of rest way ≡ Some number → are_few a number ≡ true → has_few a rest ≡ true
+way-few a rest ByFlags number starts at few = or_left (is_few a rest.by_flags) (list_any (λ own. is_few a (number_at own 0)) rest.by_rules) (ap (is_few a) at ∙ few)
 way-few a rest (ByRule rule step) number starts at few =
-    or-true-right (is_few a rest.by_flags) (list_any (λ own. is_few a (number_at own 0)) rest.by_rules) (by (slice_get rest.by_rules rule) refl (ap (numbers_at rest.by_rules rule) (sym starts) ∙ at))
+    or_right (is_few a rest.by_flags) (list_any (λ own. is_few a (number_at own 0)) rest.by_rules) (by (slice_get rest.by_rules rule) refl (ap (numbers_at rest.by_rules rule) (sym starts) ∙ at))
   where
     by : (found : Option (List (Option ℕ))) → slice_get rest.by_rules rule ≡ found → option_and_then (λ own. number_at own 0) found ≡ Some number → list_any (λ own. is_few a (number_at own 0)) rest.by_rules ≡ true
     by None there is = absurd (cc)
-    by (Some own) there is = any-from (λ own. is_few a (number_at own 0)) rest.by_rules rule own there (ap (is_few a) is ∙ few)
+    by (Some own) there is = any-at (λ own. is_few a (number_at own 0)) rest.by_rules rule own there (ap (is_few a) is ∙ few)
 
 -- ---- the ways of whole words
 -- parts that stand in a way from the first step of a rule on stand by flags, or follow one of the rules
 way-stands : (a : Asked) (rules : List (List PatternStep)) (way : Way) (parts : List Part) → Starts way → holds a rules First way parts ≡ true → (stand_by_flags a First parts || list_any (follow a First parts) rules) ≡ true
 way-stands a rules ByFlags parts starts so =
-    or-true-left (stand_by_flags a First parts) (list_any (follow a First parts) rules) (and_parts (is_enough First parts) (all_stand (stands_at a.lexicon) First parts) so).1
-way-stands a rules (ByRule rule step) parts starts so = or-true-right (stand_by_flags a First parts) (list_any (follow a First parts) rules) (by (slice_get rules rule) refl matched)
+    or_left (stand_by_flags a First parts) (list_any (follow a First parts) rules) (and_parts (is_enough First parts) (all_stand (stands_at a.lexicon) First parts) so).1
+way-stands a rules (ByRule rule step) parts starts so = or_right (stand_by_flags a First parts) (list_any (follow a First parts) rules) (by (slice_get rules rule) refl matched)
   where
     both : (stand_from (stands_in_rule a.lexicon) First parts ≡ true) × (matches_from rules rule step (flags_of a parts) ≡ true)
     both = and_parts (stand_from (stands_in_rule a.lexicon) First parts) (matches_from rules rule step (flags_of a parts)) so
@@ -156,17 +135,17 @@ way-stands a rules (ByRule rule step) parts starts so = or-true-right (stand_by_
     by : (found : Option (List PatternStep)) → slice_get rules rule ≡ found → option_map_or (λ pattern. matches (drop 0 pattern) (flags_of a parts)) found false ≡ true → list_any (follow a First parts) rules ≡ true
     by None at is = absurd (true≢false (sym is))
     by (Some pattern) at is =
-        any-from (follow a First parts) rules rule pattern at
+        any-at (follow a First parts) rules rule pattern at
         (and_from (all_stand (stands_in_rule a.lexicon) First parts) (matches pattern (flags_of a parts))
         (and_parts (is_enough First parts) (all_stand (stands_in_rule a.lexicon) First parts) both.0).1 is)
 
 stands-way : (a : Asked) (rules : List (List PatternStep)) (parts : List Part) → is_enough First parts ≡ true → (stand_by_flags a First parts || list_any (follow a First parts) rules) ≡ true → StandsSo a rules parts
-stands-way a rules parts two so = by (or-cases-true (stand_by_flags a First parts) (list_any (follow a First parts) rules) so)
+stands-way a rules parts two so = by (or_cases (stand_by_flags a First parts) (list_any (follow a First parts) rules) so)
   where
     by : (stand_by_flags a First parts ≡ true) ⊎ (list_any (follow a First parts) rules ≡ true) → StandsSo a rules parts
     by (inl flags) = record { way = ByFlags; starts = tt; so = and_from (is_enough First parts) (all_stand (stands_at a.lexicon) First parts) two flags }
     by (inr any) =
-        let found = any-at (follow a First parts) rules any in
+        let found = one-at (follow a First parts) rules any in
         let both = and_parts (all_stand (stands_in_rule a.lexicon) First parts) (matches found.item (flags_of a parts)) found.passes in
         record {
           way = ByRule found.place 0;
@@ -177,7 +156,7 @@ stands-way a rules parts two so = by (or-cases-true (stand_by_flags a First part
         }
 
 -- ---- the answer
-made-up : (a : Asked) (rules : List (List PatternStep)) (word : List ℕ) → AreRulesOf a rules → (rest : Rest) → IsRight a rules First word rest → has_few a rest ≡ true → IsMadeUp a word
+made-up : (a : Asked) (rules : List (List PatternStep)) (word : List ℕ) → AreRulesOf a rules → (rest : FirstPart) → IsRight a rules First word rest → has_few a rest ≡ true → IsMadeUp a word
 unfolding make_up
 made-up a rules word are rest right few =
     let it = few-way a rules rest few in
@@ -205,11 +184,11 @@ made-up a rules word are rest right few =
         two : (parts : List Part) → nat_lt 1 (length parts) ≡ true → nat_le 2 (length parts) ≡ true
         two parts is = grind (arith, nat_tests)
 
-few-found : (a : Asked) (rules : List (List PatternStep)) (word : List ℕ) (row : List Rest) → AreRulesOf a rules → AllByRecursion (IsRight a rules First word) row → HasInner a rules First word row → IsMadeUp a word → list_any (has_few a) row ≡ true
+few-found : (a : Asked) (rules : List (List PatternStep)) (word : List ℕ) (row : List FirstPart) → AreRulesOf a rules → AllByRecursion (IsRight a rules First word) row → HasInner a rules First word row → IsMadeUp a word → list_any (has_few a) row ≡ true
 unfolding make_up
 few-found a rules word row are right inner made = by made.parts made.given made.make
   where
-    rest-few : (part next : Part) (more : List Part) (way : Way) (rest : Rest) → Starts way → AreRest a word (part ∷ next ∷ more) → holds a rules First way (part ∷ next ∷ more) ≡ true → are_few a (length (part ∷ next ∷ more)) ≡ true
+    rest-few : (part next : Part) (more : List Part) (way : Way) (rest : FirstPart) → Starts way → AreRest a word (part ∷ next ∷ more) → holds a rules First way (part ∷ next ∷ more) ≡ true → are_few a (length (part ∷ next ∷ more)) ≡ true
         → rest.part ≡ part → (found : Option ℕ) → count_of rest way ≡ found → IsFewest (Leads a word (holds a rules First way) part) found → has_few a rest ≡ true
     rest-few part next more way rest starts is so few first None at none = absurd (none (length (part ∷ next ∷ more)) (record { more = next ∷ more; rest = is; so = so; long = refl }))
     rest-few part next more way rest starts is so few first (Some number) at fewest =
@@ -237,9 +216,9 @@ few-found a rules word row are right inner made = by made.parts made.given made.
             (subst (λ p. IsFewest (Leads a word (holds a rules First stands.way) p) (count_of found.rest stands.way)) found.first (found.right stands.way)))
 
 -- the row has few enough parts exactly where parts make the word up
-pub firsts-answer : (a : Asked) (rules : List (List PatternStep)) (word : List ℕ) (row : List Rest) → AreRulesOf a rules → AllByRecursion (IsRight a rules First word) row → HasInner a rules First word row
+pub firsts-answer : (a : Asked) (rules : List (List PatternStep)) (word : List ℕ) (row : List FirstPart) → AreRulesOf a rules → AllByRecursion (IsRight a rules First word) row → HasInner a rules First word row
     → (IsTrue (is_made_up a word) ↔ IsMadeUp a word) → list_any (has_few a) row ≡ is_made_up a word
 firsts-answer a rules word row are right inner law =
-    both-same (list_any (has_few a) row) (is_made_up a word)
+    both_ways (list_any (has_few a) row) (is_made_up a word)
     (λ any. let found = found-any a rules word (has_few a) row right any in law.1 (made-up a rules word are found.rest found.right found.so))
     (λ made. few-found a rules word row are right inner (law.0 made))

@@ -2,7 +2,7 @@
 use Rattle.std.proofs.Common.{◌≡◌, ◌∙◌, refl, sym, ap, subst, ℕ, zero, suc, ◌+◌, ◌-◌, ◌^◌, ◌<◌, ◌≤◌, Bool, true, false, true≢false, cond, ◌&&◌, ◌==◌, slice_get, ◌⊎◌, inl, inr, List, [], ◌∷◌, ◌++◌, length, take, drop, get_or, Option, None, Some, arith, append-nil, length-drop}
 use Rattle.std.specs.List.{AllByRecursion}
 use Rattle.std.specs.Option.{option_map_or}
-use Rattle.std.proofs.lemmas.Bool.{cases_lt, and_parts, and_from}
+use Rattle.std.proofs.lemmas.Bool.{cases_lt, and_parts, and_from, or_cases}
 use Rattle.std.proofs.lemmas.Bool.Decides.{nat_tests}
 use Rattle.std.proofs.Math.Seq.{take-append_seam, drop-append_seam}
 use Rattle.std.proofs.lemmas.List.{take_more, take_all, take-append-drop}
@@ -17,12 +17,12 @@ use Rattle.spell_types.specs.EntriesOf.{entry_flags}
 use Rattle.spell_types.specs.Parts.{stands_at, stands_in_rule}
 use Rattle.spell_types.specs.Patterns.{matches, fits_step, is_left_out, is_many, steps_after, MatchesOneByOne}
 use Rattle.spell_types.specs.Sanity.{AreSaneAffixes}
-use Rattle.compound_words.specs.declared.rests.Rest.{Rest}
+use Rattle.compound_words.specs.declared.rests.FirstPart.{FirstPart}
 use Rattle.compound_words.specs.declared.rests.Row.{Row}
 use Rattle.compound_words.specs.Counting.{OneOf}
 use Rattle.compound_words.specs.Rests.{Way, ByFlags, ByRule, matches_from, is_enough, stand_from, holds, AreRest, IsRight, HasPart, IsRow, IsRowAt, AreRows, Grows, HasFirsts, HasInner}
 use Rattle.lists.specs.Laws.{each-append, each-weaker}
-use Rattle.compound_words.proofs.LeadLemmas.{matches-nothing, drop-one, or-cases-true}
+use Rattle.compound_words.proofs.LeadLemmas.{matches-nothing, drop-one}
 use Rattle.compound_words.proofs.AddLemmas.{one-left, one-right, one-cases, grows-twice}
 use Rattle.compound_words.proofs.RestLemmas.{given-some, count-within, rest-tail}
 
@@ -68,7 +68,7 @@ record MatchesAt (pattern : List PatternStep) (sets : List (List Flag)) : Type 0
 match-behind : MatchesOneByOne → (pattern steps : List PatternStep) (step : ℕ) (set : List Flag) (sets : List (List Flag)) → drop step pattern ≡ steps → matches steps (set ∷ sets) ≡ true → MatchesAt pattern sets
 match-behind law pattern [] step set sets at so = absurd (true≢false (sym so ∙ matches-nothing set sets))
 match-behind law pattern (s ∷ more) step set sets at so =
-    either (match-behind law pattern more (step + 1) set sets (drop-one step pattern s more at)) (or-cases-true (is_left_out s && matches more (set ∷ sets)) (fits_step s set && matches (steps_after s more) sets) (sym (law.next s more set sets) ∙ so))
+    either (match-behind law pattern more (step + 1) set sets (drop-one step pattern s more at)) (or_cases (is_left_out s && matches more (set ∷ sets)) (fits_step s set && matches (steps_after s more) sets) (sym (law.next s more set sets) ∙ so))
   where
     next : (many : Bool) → drop (cond many step (step + 1)) pattern ≡ cond many (s ∷ more) more
     next true = at
@@ -108,7 +108,7 @@ rows-weaker : (a : Asked) (rules : List (List PatternStep)) (word : List ℕ) (f
 rows-weaker a rules word from row is = record { after = omega (arith, is.after); inside = is.inside; is = is.is }
 
 -- there is no rest from a place
-pub rows-none : (a : Asked) (rules : List (List PatternStep)) (word : List ℕ) (from : ℕ) (rows : List Row) (rests : List Rest) → AreRows a rules word from rows → IsRow a rules (drop from word) rests → rests ≡ [] → AreRows a rules word (from - 1) rows
+pub rows-none : (a : Asked) (rules : List (List PatternStep)) (word : List ℕ) (from : ℕ) (rows : List Row) (rests : List FirstPart) → AreRows a rules word from rows → IsRow a rules (drop from word) rests → rests ≡ [] → AreRows a rules word (from - 1) rows
 rows-none a rules word from rows rests are is none = record {
   right = each-weaker (IsRowAt a rules word from) (IsRowAt a rules word (from - 1)) (rows-weaker a rules word from) rows are.right;
   all = λ place part more way after inside rest so. by place part more way after inside rest so (cases_lt from place);
@@ -122,7 +122,7 @@ rows-none a rules word from rows rests are is none = record {
         absurd (subst (HasPart part) none (is.all part more way (subst (λ p. AreRest a (drop p word) (part ∷ more)) here rest) so))
 
 -- there are some
-pub rows-more : (a : Asked) (rules : List (List PatternStep)) (word : List ℕ) (from : ℕ) (rows : List Row) (rests : List Rest) → AreRows a rules word from rows → 0 < from → from < length word → IsRow a rules (drop from word) rests
+pub rows-more : (a : Asked) (rules : List (List PatternStep)) (word : List ℕ) (from : ℕ) (rows : List Row) (rests : List FirstPart) → AreRows a rules word from rows → 0 < from → from < length word → IsRow a rules (drop from word) rests
     → AreRows a rules word (from - 1) (rows ++ record { place = from; rests = rests } ∷ [])
 rows-more a rules word from rows rests are some inside is = record {
   right = each-append (IsRowAt a rules word (from - 1)) rows (record { place = from; rests = rests } ∷ [])
@@ -143,13 +143,13 @@ row-at a rules word from (row ∷ rows) zero d within each = each.0
 row-at a rules word from (row ∷ rows) (suc place) d within each = row-at a rules word from rows place d (omega (arith, within)) each.1
 
 -- the rests are there whose second part begins at the place of one of the first rows
-pub record AreSoFar (a : Asked) (rules : List (List PatternStep)) (here : Place) (word : List ℕ) (from : ℕ) (rows : List Row) (index : ℕ) (before now : List Rest) : Type 0 where
+pub record AreSoFar (a : Asked) (rules : List (List PatternStep)) (here : Place) (word : List ℕ) (from : ℕ) (rows : List Row) (index : ℕ) (before now : List FirstPart) : Type 0 where
   pub grows : Grows a rules here (drop from word) before now
   pub has : (part next : Part) (more : List Part) (way : Way) → AreRest a (drop from word) (part ∷ next ∷ more) → holds a rules here way (part ∷ next ∷ more) ≡ true
       → OneOf (λ row. row.place ≡ from + length part.text) (take index rows) → HasPart part now
 
 -- the places of rows so far, and one more
-pub rows-one-more : (a : Asked) (rules : List (List PatternStep)) (here : Place) (word : List ℕ) (from : ℕ) (rows : List Row) (index : ℕ) (item d : Row) (before middle now : List Rest)
+pub rows-one-more : (a : Asked) (rules : List (List PatternStep)) (here : Place) (word : List ℕ) (from : ℕ) (rows : List Row) (index : ℕ) (item d : Row) (before middle now : List FirstPart)
     → index < length rows → item ≡ get_or rows index d → AllByRecursion (IsRowAt a rules word from) rows → length word ≤ 2 ^ 64 - 1
     → ((behind : List ℕ) → IsRow a rules behind item.rests → 0 < length behind → length (take (item.place - from) (drop from word) ++ behind) ≤ 2 ^ 64 - 1
     → Grows a rules here (take (item.place - from) (drop from word) ++ behind) middle now × HasFirsts a rules here (take (item.place - from) (drop from word) ++ behind) (take (item.place - from) (drop from word)) now)
@@ -191,7 +191,7 @@ rows-one-more a rules here word from rows index item d before middle now within 
     by part next more way rest so (inr (inr nil)) = absurd nil
 
 -- all rows are gone over
-pub rows-all : MatchesOneByOne → (a : Asked) (rules : List (List PatternStep)) (here : Place) (word : List ℕ) (from : ℕ) (rows : List Row) (index : ℕ) (before now : List Rest)
+pub rows-all : MatchesOneByOne → (a : Asked) (rules : List (List PatternStep)) (here : Place) (word : List ℕ) (from : ℕ) (rows : List Row) (index : ℕ) (before now : List FirstPart)
     → AreSaneAffixes a.lexicon.affixes → length rows ≤ index → AreRows a rules word from rows → AreSoFar a rules here word from rows index before now → HasInner a rules here (drop from word) now
 rows-all law a rules here word from rows index before now sane past are so_far part next more way rest so =
     let behind = stands-behind law a rules here way part next more so in
@@ -203,7 +203,7 @@ rows-all law a rules here word from rows index before now sane past are so_far p
     (are.all (from + length part.text) next more behind.way (omega (arith, some)) (inside-place a sane word from part next more rest) tail behind.so))
 
 -- a row of the rests of one part and of those of more
-pub row-whole : (a : Asked) (rules : List (List PatternStep)) (text front : List ℕ) (start middle now : List Rest) → start ≡ [] → front ≡ text
+pub row-whole : (a : Asked) (rules : List (List PatternStep)) (text front : List ℕ) (start middle now : List FirstPart) → start ≡ [] → front ≡ text
     → Grows a rules Middle front start middle → HasFirsts a rules Middle front front middle → Grows a rules Middle text middle now → HasInner a rules Middle text now → IsRow a rules text now
 row-whole a rules text front start middle now none same grows firsts grown inner = record {
   right = grown.right ((subst (λ t. Grows a rules Middle t start middle) same grows).right (subst (AllByRecursion (IsRight a rules Middle text)) (sym none) tt));
@@ -215,9 +215,6 @@ row-whole a rules text front start middle now none same grows firsts grown inner
         grown.kept part ((subst (λ t. HasFirsts a rules Middle t t middle) same firsts).has part [] way (sym (append-nil part.text) ∙ rest.joined) rest so)
     all part (next ∷ more) way rest so = inner part next more way rest so
 
-pub take-whole : (from : ℕ) (word : List ℕ) → take (length word - from) (drop from word) ≡ drop from word
-take-whole from word = take_all (length word - from) (drop from word) (omega (arith, length-drop from word))
-
-pub empty-none : (rests : List Rest) → (length rests == 0) ≡ true → rests ≡ []
+pub empty-none : (rests : List FirstPart) → (length rests == 0) ≡ true → rests ≡ []
 empty-none [] is = refl
 empty-none (rest ∷ rests) is = absurd (grind (arith, nat_tests))

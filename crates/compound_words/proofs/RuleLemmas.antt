@@ -4,7 +4,7 @@ use Rattle.std.specs.BTreeSet.{BTreeSet}
 use Rattle.std.specs.List.{AllByRecursion, list_any}
 use Rattle.std.specs.Option.{option_map_or}
 use Rattle.std.proofs.lemmas.List.{take_more}
-use Rattle.std.proofs.lemmas.Bool.{and_parts}
+use Rattle.std.proofs.lemmas.Bool.{and_parts, or_cases}
 use Rattle.std.proofs.lemmas.Bool.Decides.{nat_tests}
 use Rattle.spell_types.specs.declared.Entry.{Entry}
 use Rattle.spell_types.specs.declared.Lexicon.{Lexicon}
@@ -23,13 +23,13 @@ use Rattle.spell_types.specs.Patterns.{matches, fits_step, is_left_out, steps_af
 use Rattle.lists.specs.Laws.{each-append, each-weaker}
 use Rattle.compound_words.specs.Prepared.{has_number, HasFlagsOf, has_step_in, has_first_sign}
 use Rattle.compound_words.specs.Rests.{AreRulesOf}
-use Rattle.compound_words.proofs.LeadLemmas.{matches-nothing, or-cases-true}
+use Rattle.compound_words.proofs.LeadLemmas.{matches-nothing}
 use Rattle.compound_words.proofs.StepLemmas.{or-false}
 
 -- ---- a step fits the flags of an entry only where the set has its number
 flag-among : (numbers : BTreeSet ℕ) (flags : List Flag) (flag : Flag) → AllByRecursion (λ f. has_number numbers f ≡ true) flags → list_any (λ held. held.0 == flag.0) flags ≡ true → has_number numbers flag ≡ true
 flag-among numbers [] flag all any = absurd (true≢false (sym any))
-flag-among numbers (held ∷ flags) flag all any = by (or-cases-true (held.0 == flag.0) (list_any (λ held. held.0 == flag.0) flags) any) (flag-among numbers flags flag all.1)
+flag-among numbers (held ∷ flags) flag all any = by (or_cases (held.0 == flag.0) (list_any (λ held. held.0 == flag.0) flags) any) (flag-among numbers flags flag all.1)
   where
     same : (held.0 == flag.0) ≡ true → held.0 ≡ flag.0
     same is = grind (arith, nat_tests)

@@ -16,7 +16,7 @@ use Rattle.spell_types.specs.Joints.{is_joint}
 use Rattle.spell_types.specs.Parts.{stands_at, stands_in_rule}
 use Rattle.spell_types.specs.Patterns.{matches, fits_step, is_left_out, is_many}
 use Rattle.compound_words.specs.declared.rests.Behind.{Behind}
-use Rattle.compound_words.specs.declared.rests.Rest.{Rest}
+use Rattle.compound_words.specs.declared.rests.FirstPart.{FirstPart}
 use Rattle.compound_words.specs.declared.rests.Row.{Row}
 use Rattle.compound_words.specs.declared.search.Search.{Search}
 use Rattle.compound_words.specs.Counting.{fewest, least, one_more, number_at, IsFewest, OneOf}
@@ -83,20 +83,20 @@ abbrev pub numbers_at : List (List (Option ℕ)) → ℕ → ℕ → Option ℕ
 numbers_at numbers rule step = option_and_then (λ own. number_at own step) (slice_get numbers rule)
 
 -- the number for a way
-abbrev pub count_of : Rest → Way → Option ℕ
+abbrev pub count_of : FirstPart → Way → Option ℕ
 count_of rest ByFlags = rest.by_flags
 count_of rest (ByRule rule step) = numbers_at rest.by_rules rule step
 
 -- the numbers tell for each way how few parts, of which its part is the first, write the text
-abbrev pub IsRight : Asked → List (List PatternStep) → Place → List ℕ → Rest → Type 0
+abbrev pub IsRight : Asked → List (List PatternStep) → Place → List ℕ → FirstPart → Type 0
 IsRight a rules here text rest = (way : Way) → IsFewest (Leads a text (holds a rules here way) rest.part) (count_of rest way)
 
 -- the part stands first in one of them
-abbrev pub HasPart : Part → List Rest → Type 0
+abbrev pub HasPart : Part → List FirstPart → Type 0
 HasPart part rests = OneOf (λ rest. rest.part ≡ part) rests
 
 -- these are the first parts of all that write the text behind a place inside the word
-pub record IsRow (a : Asked) (rules : List (List PatternStep)) (text : List ℕ) (rests : List Rest) : Type 0 where
+pub record IsRow (a : Asked) (rules : List (List PatternStep)) (text : List ℕ) (rests : List FirstPart) : Type 0 where
   pub right : AllByRecursion (IsRight a rules Middle text) rests
   pub all : (part : Part) (more : List Part) (way : Way) → AreRest a text (part ∷ more) → holds a rules Middle way (part ∷ more) ≡ true → HasPart part rests
 
@@ -113,11 +113,11 @@ pub record AreRows (a : Asked) (rules : List (List PatternStep)) (word : List �
       → AreRest a (drop place word) (part ∷ more) → holds a rules Middle way (part ∷ more) ≡ true → OneOf (λ row. row.place ≡ place) rows
 
 -- the rests that references lead to
-abbrev pub rests_at : List (Bor Rest) → List Rest
+abbrev pub rests_at : List (Bor FirstPart) → List FirstPart
 rests_at rests = map (λ rest. rest.now) rests
 
 -- whether the part may stand before the first part of a rest
-abbrev pub may_precede : Asked → Part → Rest → Bool
+abbrev pub may_precede : Asked → Part → FirstPart → Bool
 may_precede a part rest = is_joint a.lexicon part.text part.d rest.part.text rest.part.d
 
 -- how few parts may stand behind the last part: none, unless the steps of a rule do not match nothing
@@ -151,7 +151,7 @@ number_with a rules place part behind (ByRule rule step) =
     if stands_in_rule a.lexicon part.d place then number_by_rule (entry_flags a.lexicon part.d) rules behind rule step else None
 
 -- the rest begins with the part, and its numbers are these
-pub record HasNumbers (a : Asked) (rules : List (List PatternStep)) (place : Place) (part : Part) (behind : Behind) (rest : Rest) : Type 0 where
+pub record HasNumbers (a : Asked) (rules : List (List PatternStep)) (place : Place) (part : Part) (behind : Behind) (rest : FirstPart) : Type 0 where
   pub first : rest.part ≡ part
   pub numbers : (way : Way) → count_of rest way ≡ number_with a rules place part behind way
 
@@ -160,18 +160,18 @@ abbrev pub HasNone : Asked → List (List PatternStep) → Place → Part → Be
 HasNone a rules place part behind = (way : Way) → number_with a rules place part behind way ≡ None
 
 -- the rest that was made has the numbers, or there are none
-abbrev pub IsMade : Asked → List (List PatternStep) → Place → Part → Behind → Option Rest → Type 0
+abbrev pub IsMade : Asked → List (List PatternStep) → Place → Part → Behind → Option FirstPart → Type 0
 IsMade a rules place part behind None = HasNone a rules place part behind
 IsMade a rules place part behind (Some rest) = HasNumbers a rules place part behind rest
 
 -- the row after the rest was added that was made, if one was
-pub record IsAdded (a : Asked) (rules : List (List PatternStep)) (place : Place) (part : Part) (behind : Behind) (before now : List Rest) : Type 0 where
-  pub made : Option Rest
+pub record IsAdded (a : Asked) (rules : List (List PatternStep)) (place : Place) (part : Part) (behind : Behind) (before now : List FirstPart) : Type 0 where
+  pub made : Option FirstPart
   pub is : IsMade a rules place part behind made
   pub added : now ≡ before ++ option_to_list made
 
 -- a row to which rests of a text were added: it has what it had, and if that was right, all is
-pub record Grows (a : Asked) (rules : List (List PatternStep)) (here : Place) (text : List ℕ) (before now : List Rest) : Type 0 where
+pub record Grows (a : Asked) (rules : List (List PatternStep)) (here : Place) (text : List ℕ) (before now : List FirstPart) : Type 0 where
   pub right : AllByRecursion (IsRight a rules here text) before → AllByRecursion (IsRight a rules here text) now
   pub kept : (part : Part) → HasPart part before → HasPart part now
 
@@ -186,11 +186,11 @@ pub record AreParts (a : Asked) (text : List ℕ) (parts : List Part) : Type 0 w
   pub all : (part : Part) → IsGivenAs a text part → OneOf (λ other. other ≡ part) parts
 
 -- the row has each part from which others write a text, where it begins with so much of it
-pub record HasFirsts (a : Asked) (rules : List (List PatternStep)) (here : Place) (text front : List ℕ) (row : List Rest) : Type 0 where
+pub record HasFirsts (a : Asked) (rules : List (List PatternStep)) (here : Place) (text front : List ℕ) (row : List FirstPart) : Type 0 where
   pub has : (part : Part) (more : List Part) (way : Way) → part.text ≡ front → AreRest a text (part ∷ more) → holds a rules here way (part ∷ more) ≡ true → HasPart part row
 
 -- the row has the first part of each list of two parts or more that writes the text
-abbrev pub HasInner : Asked → List (List PatternStep) → Place → List ℕ → List Rest → Type 0
+abbrev pub HasInner : Asked → List (List PatternStep) → Place → List ℕ → List FirstPart → Type 0
 HasInner a rules here text row =
     (part next : Part) (more : List Part) (way : Way) → AreRest a text (part ∷ next ∷ more) → holds a rules here way (part ∷ next ∷ more) ≡ true → HasPart part row
 
@@ -204,5 +204,5 @@ abbrev pub is_few : Asked → Option ℕ → Bool
 is_few a number = option_map_or (are_few a) number false
 
 -- whether a rest has few enough parts in one of the ways
-abbrev pub has_few : Asked → Rest → Bool
+abbrev pub has_few : Asked → FirstPart → Bool
 has_few a rest = is_few a rest.by_flags || list_any (λ own. is_few a (number_at own 0)) rest.by_rules

@@ -19,7 +19,7 @@ pub(crate) type Numbers = Items<Option<usize>>;
 
 /// How few parts write the rest of a word, of which this is the first.
 #[derive(Drop)]
-pub(crate) struct Rest {
+pub(crate) struct FirstPart {
     pub(crate) part: Part,
     /// Where they stand by their flags.
     pub(crate) by_flags: Option<usize>,
@@ -31,14 +31,14 @@ pub(crate) struct Rest {
 #[derive(Drop)]
 pub(crate) struct Row {
     pub(crate) place: usize,
-    pub(crate) rests: Items<Rest>,
+    pub(crate) rests: Items<FirstPart>,
 }
 
 /// What stands behind a part: nothing, where the word ends, or one of some rests.
 #[derive(Clone, Copy)]
 pub(crate) struct Behind<'a> {
     pub(crate) is_end: bool,
-    pub(crate) rests: &'a [&'a Rest],
+    pub(crate) rests: &'a [&'a FirstPart],
 }
 
 impl Behind<'_> {
@@ -66,7 +66,7 @@ impl Behind<'_> {
     }
 }
 
-fn fewest_by_flags(rests: &[&Rest]) -> Option<usize>
+fn fewest_by_flags(rests: &[&FirstPart]) -> Option<usize>
     ensures { result ≡ fewest (map (λ rest. count_of rest Way.ByFlags) (rests_at rests.now)) }
 {
     let mut found = None;
@@ -76,7 +76,7 @@ fn fewest_by_flags(rests: &[&Rest]) -> Option<usize>
     found
 }
 
-fn fewest_by_step(rests: &[&Rest], rule: usize, step: usize) -> Option<usize>
+fn fewest_by_step(rests: &[&FirstPart], rule: usize, step: usize) -> Option<usize>
     ensures { result ≡ fewest (map (λ rest. count_of rest (Way.ByRule rule step)) (rests_at rests.now)) }
 {
     let mut found = None;
@@ -86,7 +86,7 @@ fn fewest_by_step(rests: &[&Rest], rule: usize, step: usize) -> Option<usize>
     found
 }
 
-impl Rest {
+impl FirstPart {
     /// How few parts there are if a rule matches them from a step on.
     fn by_step(&self, rule: usize, step: usize) -> Option<usize>
         ensures { result ≡ count_of self.now (Way.ByRule rule step) }
@@ -102,7 +102,7 @@ pub(crate) fn rest_with(
     place: Place,
     part: Part,
     behind: &Behind,
-) -> Result<Option<Rest>, NoMemory>
+) -> Result<Option<FirstPart>, NoMemory>
     ensures { IfOk result (IsMade (asked_by search.now) (patterns_of search.now) place part behind.now) }
 {
     let by_flags = number_by_flags(search, place, &part, behind);
@@ -110,7 +110,7 @@ pub(crate) fn rest_with(
     if by_flags.is_none() && !has_number(&by_rules) {
         return Ok(None);
     }
-    Ok(Some(Rest {
+    Ok(Some(FirstPart {
         part,
         by_flags,
         by_rules,

@@ -9,7 +9,7 @@ ghost use Rattle.compound_words.specs.Counting.{number_at};
 ghost use Rattle.compound_words.specs.Rests.{asked_by, patterns_of, rests_at, may_precede, is_few, has_few, IsAdded, Grows, HasFirsts, HasInner, IsRow, AreRows, AreRulesOf};
 
 use crate::counting::number_at;
-use crate::rests::{Behind, Numbers, Rest, Row, rest_with};
+use crate::rests::{Behind, FirstPart, Numbers, Row, rest_with};
 use crate::search::Search;
 use lists::{Items, NoMemory};
 use spell_types::{Part, Place, compounds_have_parts, patterns_match};
@@ -54,7 +54,7 @@ fn rests_from(
     word: &[char],
     from: usize,
     rows: &[Row],
-) -> Result<Items<Rest>, NoMemory>
+) -> Result<Items<FirstPart>, NoMemory>
     requires within { from < length word.now }
     requires fits { length word.now ≤ 2 ^ 64 - 1 }
     requires rows { AreRows (asked_by search.now) (patterns_of search.now) word.now from rows.now }
@@ -74,7 +74,7 @@ fn add_before_rows(
     word: &[char],
     from: usize,
     rows: &[Row],
-    row: &mut Items<Rest>,
+    row: &mut Items<FirstPart>,
 ) -> Result<(), NoMemory>
     requires rows { AreRows (asked_by search.now) (patterns_of search.now) word.now from rows.now }
     requires fits { length word.now ≤ 2 ^ 64 - 1 }
@@ -95,7 +95,7 @@ fn add_last(
     alloc: Global,
     search: &Search,
     text: &[char],
-    row: &mut Items<Rest>,
+    row: &mut Items<FirstPart>,
 ) -> Result<(), NoMemory>
     ensures grows { OnOk result (Grows (asked_by search.now) (patterns_of search.now) Place.Middle text.now row.old row.new) }
     ensures has { OnOk result (HasFirsts (asked_by search.now) (patterns_of search.now) Place.Middle text.now text.now row.new) }
@@ -121,8 +121,8 @@ fn add_before(
     search: &Search,
     here: Place,
     text: &[char],
-    rests: &[Rest],
-    row: &mut Items<Rest>,
+    rests: &[FirstPart],
+    row: &mut Items<FirstPart>,
 ) -> Result<(), NoMemory>
     ensures grows { (behind : List ℕ) → IsRow (asked_by search.now) (patterns_of search.now) behind rests.now → 0 < length behind
         → length (text.now ++ behind) ≤ 2 ^ 64 - 1
@@ -152,7 +152,7 @@ fn add(
     place: Place,
     part: Part,
     behind: &Behind,
-    row: &mut Items<Rest>,
+    row: &mut Items<FirstPart>,
 ) -> Result<(), NoMemory>
     ensures { OnOk result (IsAdded (asked_by search.now) (patterns_of search.now) place part behind.now row.old row.new) }
 {
@@ -167,8 +167,8 @@ fn followers<'a>(
     alloc: Global,
     search: &Search,
     part: &Part,
-    rests: &'a [Rest],
-) -> Result<Vec<&'a Rest>, NoMemory>
+    rests: &'a [FirstPart],
+) -> Result<Vec<&'a FirstPart>, NoMemory>
     ensures { IfOk result (λ found. rests_at found.items ≡ filter (may_precede (asked_by search.now) part.now) rests.now) }
 {
     let mut found = Vec::new(alloc);
@@ -181,14 +181,14 @@ fn followers<'a>(
 }
 
 /// Whether one of the rests has few enough parts.
-fn one_has_few(search: &Search, rests: &[Rest]) -> bool
+fn one_has_few(search: &Search, rests: &[FirstPart]) -> bool
     ensures { result ≡ list_any (has_few (asked_by search.now)) rests.now }
 {
     rests.iter().any(|rest| has_few(search, rest))
 }
 
 /// Whether a rest has few enough parts, in one of the ways that they may stand.
-fn has_few(search: &Search, rest: &Rest) -> bool
+fn has_few(search: &Search, rest: &FirstPart) -> bool
     ensures { result ≡ has_few (asked_by search.now) rest.now }
 {
     is_few(search, rest.by_flags) || rule_has_few(search, &rest.by_rules)

@@ -5,7 +5,7 @@ use Rattle.std.specs.List.{AllByRecursion}
 use Rattle.lists.specs.Laws.{each-append, each-weaker}
 use Rattle.spell_types.specs.declared.conversions.Conversion.{Conversion}
 use Rattle.spell_types.specs.Conversions.{fits, longer_of, longest, best_fit, IsBestFit, NoneFits}
-use Rattle.conversions.proofs.Steps.{some_same}
+use Rattle.std.proofs.lemmas.Option.{same_Some}
 
 nothing_found : (row : Conversion) → Some row ≡ None → ⊥
 nothing_found row is = cc
@@ -49,7 +49,7 @@ best_is : (text : List ℕ) (table : List Conversion) (row : Conversion) → lon
 best_is text [] row found = cc
 best_is text (first ∷ rows) row found =
     (elim (fits text first) as (λ b. fits text first ≡ b → longest (cond b (first ∷ filter (fits text) rows) (filter (fits text) rows)) ≡ Some row → IsBestFit (first ∷ rows) text row) [
-      | true ↦ λ fit is. subst (λ r. IsBestFit (first ∷ rows) text r) (some_same (longer_of first (longest (filter (fits text) rows))) row is)
+      | true ↦ λ fit is. subst (λ r. IsBestFit (first ∷ rows) text r) (same_Some (longer_of first (longest (filter (fits text) rows))) row is)
           (of_fitting text first rows (longest (filter (fits text) rows)) fit (none_fits text rows) (best_is text rows))
       | false ↦ λ unfit is. later_is_best text first rows row (best_is text rows row is) (λ fit. absurd (false≢true (sym unfit ∙ fit)))
     ]) refl found

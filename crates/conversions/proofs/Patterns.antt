@@ -15,7 +15,7 @@ use Rattle.std.proofs.lemmas.List.Kept.{IsSortedBy-filter}
 use Rattle.std.proofs.lemmas.List.Sorted.{ranks_by, sorted_far}
 use Rattle.std.proofs.lemmas.Option.{get_or_from_slice_get, slice_get_within}
 use Rattle.std.proofs.lemmas.Slice.Eq.{bytes_eq-Decides}
-use Rattle.lists.specs.Laws.{contains-filter}
+use Rattle.lists.specs.Laws.{contains-filter, filter-holds, filter-among}
 use Rattle.lists.specs.TextOrder.{AreInOrder, beginning, having}
 use Rattle.conversions.specs.Patterns.{Pattern, pattern_cmp, AreSorted, FitsUpTo, IsBestUpTo, BestUpTo}
 
@@ -39,12 +39,6 @@ equal-rise text other place later same order =
     by order = grind (arith, nat_tests)
 
 -- ---- what stays among others
-kept-among : (test : Pattern → Bool) (patterns : List Pattern) (p : Pattern) → Contains (filter test patterns) p → Contains patterns p
-kept-among test patterns p = All-contains (Contains patterns) (filter test patterns) p (All-filter test (Contains patterns) patterns (All-contains_itself patterns))
-
-kept-passes : (test : Pattern → Bool) (patterns : List Pattern) (p : Pattern) → Contains (filter test patterns) p → test p ≡ true
-kept-passes test patterns p = All-contains (λ q. test q ≡ true) (filter test patterns) p (filter_passes test patterns)
-
 first-among : (found : List Pattern) (p : Pattern) → slice_get found 0 ≡ Some p → Contains found p
 first-among found p first = (0, slice_get_within found 0 p first, get_or_from_slice_get found 0 p p first)
 
@@ -89,10 +83,6 @@ pub alike_more : (patterns alike now : List Pattern) (text : List ℕ) (depth c 
 alike_more patterns alike now text depth c sorted within is so_far goes_on =
     goes_on patterns (take depth text) (sorted-in_order patterns sorted) (length-take-le depth text (omega (arith, within))) so_far
     ∙ ap (λ front. beginning front patterns) (next_front text depth c within is)
-
-pub nothing : {X : Type 0} (xs : List X) → length xs ≡ 0 → xs ≡ []
-nothing [] none = refl
-nothing (x ∷ xs) none = absurd (omega (arith, none))
 
 -- ---- the best so far
 pub none_yet : (patterns : List Pattern) (text : List ℕ) → BestUpTo patterns text 0 None
@@ -139,7 +129,7 @@ none_begins patterns text n best within none was = best-kept patterns text n (le
 next_best : (patterns : List Pattern) (text : List ℕ) (n : ℕ) (best : Pattern) (found : List Pattern) → AreSorted patterns → n + 1 ≤ length text → found ≡ having (take (n + 1) text) patterns → slice_get found 0 ≡ Some best
     → IsBestUpTo patterns text (n + 1) best
 next_best patterns text n best found sorted within is first = record {
-  among = kept-among has patterns best inside;
+  among = filter-among has patterns best inside;
   fit = fits-taken text n best.0.items within same;
   longest = λ p among fit. omega (arith, fit.upto, ap length same, length-take-le (n + 1) text within);
   first = λ p among equal. rising p equal (contains-filter has patterns p among ((bytes_eq-Decides p.0.items (take (n + 1) text)).1 (equal ∙ same)));
@@ -155,7 +145,7 @@ next_best patterns text n best found sorted within is first = record {
     inside = first-among (filter has patterns) best first'
 
     same : best.0.items ≡ take (n + 1) text
-    same = (bytes_eq-Decides best.0.items (take (n + 1) text)).0 (kept-passes has patterns best inside)
+    same = (bytes_eq-Decides best.0.items (take (n + 1) text)).0 (filter-holds has patterns best inside)
 
     rising : (p : Pattern) → p.0.items ≡ best.0.items → Contains (filter has patterns) p → best.1 ≤ p.1
     rising p equal (k, within, at) =

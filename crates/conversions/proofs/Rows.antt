@@ -5,7 +5,7 @@ use Rattle.std.specs.Option.{option_copied, option_map}
 use Rattle.std.proofs.lemmas.Bool.{and_parts, and_from, cases_order, lt-ltb, ltb-true}
 use Rattle.std.proofs.lemmas.List.{length-take}
 use Rattle.std.proofs.lemmas.List.Elements.{All-contains}
-use Rattle.std.proofs.lemmas.Option.{slice_get-map, slice_get-get_or, slice_get_past, slice_get_read, slice_get_within, get_or_from_slice_get}
+use Rattle.std.proofs.lemmas.Option.{slice_get-map, slice_get-get_or, slice_get_past, slice_get_read, slice_get_within, get_or_from_slice_get, same_Some}
 use Rattle.std.proofs.lemmas.Slice.Eq.{bytes_eq-Decides}
 use Rattle.spell_types.specs.declared.conversions.Conversion.{Conversion}
 use Rattle.spell_types.specs.Conversions.{fits, best_fit, IsBestFit}
@@ -57,9 +57,6 @@ row-of table p right = by (slice_get table p.1) refl right
     by None at is = absurd (cc)
     by (Some row) at is = let same : row.from ≡ p.0.items = cc in (row, at, same)
 
-some_same : (row other : Conversion) → Some row ≡ Some other → row ≡ other
-some_same row other same = cc
-
 pattern-of : (table : List Conversion) (patterns : List Pattern) (place : ℕ) (row : Conversion) → ArePatternsOf table patterns → slice_get table place ≡ Some row
     → (p : Pattern) × Contains patterns p × (p.1 ≡ place) × (p.0.items ≡ row.from)
 pattern-of table patterns place row are at = by (are.whole place (slice_get_within table place row at))
@@ -68,7 +65,7 @@ pattern-of table patterns place row are at = by (are.whole place (slice_get_with
     here k p found is =
         let among : Contains patterns p = (k, slice_get_within patterns k p found, get_or_from_slice_get patterns k p p found) in
         let own : (r : Conversion) × (slice_get table p.1 ≡ Some r) × (r.from ≡ p.0.items) = row-of table p (All-contains (IsPatternOf table) patterns p are.right among) in
-        let same : own.0 ≡ row = some_same own.0 row (sym own.1 ∙ ap (slice_get table) is ∙ at) in
+        let same : own.0 ≡ row = same_Some own.0 row (sym own.1 ∙ ap (slice_get table) is ∙ at) in
         (p, among, is, sym own.2 ∙ ap (λ (r : Conversion). r.from) same)
 
     at-k : (k : ℕ) (found : Option Pattern) → slice_get patterns k ≡ found → option_map (λ (p : Pattern). p.1) found ≡ Some place → (p : Pattern) × Contains patterns p × (p.1 ≡ place) × (p.0.items ≡ row.from)
@@ -121,7 +118,7 @@ best_row table patterns text p are best =
         fit_row = best.fit
 
         ordered : (p.1 ≡ length it.before) ⊎ ((p.1 < length it.before) ⊎ (length it.before < p.1)) → row ≡ other
-        ordered (inl same) = some_same row other (sym in_table ∙ ap (slice_get (it.before ++ other ∷ it.behind)) same ∙ at-place it.before it.behind other)
+        ordered (inl same) = same_Some row other (sym in_table ∙ ap (slice_get (it.before ++ other ∷ it.behind)) same ∙ at-place it.before it.behind other)
         ordered (inr (inl less)) =
             let shorter : length row.from < length other.from =
             at-before (λ o. IsTrue (fits text o) → length o.from < length other.from) it.before (other ∷ it.behind) p.1 row in_table less it.shorter_before (row_fits row from) in

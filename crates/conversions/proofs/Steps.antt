@@ -6,19 +6,17 @@ use Rattle.std.proofs.lemmas.Slice.Eq.{starts_is}
 use Rattle.std.proofs.lemmas.Bool.{and_parts}
 use Rattle.spell_types.specs.declared.conversions.Conversion.{Conversion}
 use Rattle.spell_types.specs.Conversions.{fits, longer_of, longest, best_fit, replaced, more_read, converted_behind, converted}
+use Rattle.std.proofs.lemmas.Option.{same_Some}
 
 passes_longer : (p : Conversion → Bool) (first : Conversion) (best : Option Conversion) → p first ≡ true → ((row : Conversion) → best ≡ Some row → p row ≡ true) → p (longer_of first best) ≡ true
 passes_longer p first None one others = one
 passes_longer p first (Some row) one others = elim (nat_lt (length first.from) (length row.from)) as (λ b. p (cond b row first) ≡ true) [ true ↦ others row refl | false ↦ one ]
 
-pub some_same : (row other : Conversion) → Some row ≡ Some other → row ≡ other
-some_same row other same = cc
-
 longest_passes : (p : Conversion → Bool) (rows : List Conversion) (row : Conversion) → longest (filter p rows) ≡ Some row → p row ≡ true
 longest_passes p [] row found = cc
 longest_passes p (first ∷ rows) row found =
     (elim (p first) as (λ b. p first ≡ b → longest (cond b (first ∷ filter p rows) (filter p rows)) ≡ Some row → p row ≡ true) [
-      | true ↦ λ one is. ap p (sym (some_same (longer_of first (longest (filter p rows))) row is)) ∙ passes_longer p first (longest (filter p rows)) one (longest_passes p rows)
+      | true ↦ λ one is. ap p (sym (same_Some (longer_of first (longest (filter p rows))) row is)) ∙ passes_longer p first (longest (filter p rows)) one (longest_passes p rows)
       | false ↦ λ _ is. longest_passes p rows row is
     ]) refl found
 

@@ -4,7 +4,7 @@ use Rattle.std.specs.Option.{option_copied}
 use Rattle.std.specs.Str.{chars, IsUtf8}
 use Rattle.std.specs.Char.{IsScalar}
 use Rattle.std.specs.Str.Pattern.{FindsTextPrefix, LacksTextAt, StripsPrefix}
-use Rattle.std.proofs.lemmas.Bool.{and_parts}
+use Rattle.std.proofs.lemmas.Bool.{and_parts, ne_eqb}
 use Rattle.std.proofs.lemmas.Bool.Decides.{nat_tests}
 use Rattle.std.proofs.lemmas.List.{append-nil}
 use Rattle.std.proofs.lemmas.Str.{chars-append, chars_past_char, scalars-chars, inside_one, IsUtf8-encode, encode_ascii, chars-nil}
@@ -40,27 +40,23 @@ all-behind [] rest plain = refl
 all-behind (b ∷ bytes) rest plain =
     plain-behind b (bytes ++ rest) (plain 0 (omega arith)) ∙ all-behind bytes rest (λ k within. plain (suc k) (omega (arith, within)))
 
--- a byte of a character is the character, or it is no ASCII byte
-unequal : (b n : ℕ) → (b ≡ n → ⊥) → (b == n) ≡ false
-unequal b n other = grind (arith, nat_tests)
-
 plain-character : (c : ℕ) → c ≢ 47 → c ≢ 92 → ArePlain (encode c)
 plain-character c no_slash no_backslash k within =
     let inside : get_or (encode c) k 0 < 128 → c ≡ get_or (encode c) k 0 = inside_one c [] (encode c) k (sym (append-nil (encode c))) within in (
-      unequal (get_or (encode c) k 0) 47 (λ is. no_slash (inside (omega (arith, is)) ∙ is)),
-      unequal (get_or (encode c) k 0) 92 (λ is. no_backslash (inside (omega (arith, is)) ∙ is)),
+      ne_eqb (get_or (encode c) k 0) 47 (λ is. no_slash (inside (omega (arith, is)) ∙ is)),
+      ne_eqb (get_or (encode c) k 0) 92 (λ is. no_backslash (inside (omega (arith, is)) ∙ is)),
     )
 
 -- ---- a backslash that no slash follows
 lone-before : (rest : List ℕ) → ((more : List ℕ) → rest ≢ 47 ∷ more) → before_slash (92 ∷ rest) ≡ 92 ∷ before_slash rest
 lone-before [] lone = refl
 lone-before (next ∷ more) lone =
-    ap (λ t. cond t (next ∷ before_slash more) (92 ∷ before_slash (next ∷ more))) (unequal next 47 (λ is. lone more (ap (λ n. n ∷ more) is)))
+    ap (λ t. cond t (next ∷ before_slash more) (92 ∷ before_slash (next ∷ more))) (ne_eqb next 47 (λ is. lone more (ap (λ n. n ∷ more) is)))
 
 lone-behind : (rest : List ℕ) → ((more : List ℕ) → rest ≢ 47 ∷ more) → behind_slash (92 ∷ rest) ≡ behind_slash rest
 lone-behind [] lone = refl
 lone-behind (next ∷ more) lone =
-    ap (λ t. cond t (behind_slash more) (behind_slash (next ∷ more))) (unequal next 47 (λ is. lone more (ap (λ n. n ∷ more) is)))
+    ap (λ t. cond t (behind_slash more) (behind_slash (next ∷ more))) (ne_eqb next 47 (λ is. lone more (ap (λ n. n ∷ more) is)))
 
 -- ---- the first character of a text
 first-scalar : (text rest : List ℕ) (c : ℕ) → IsUtf8 text → text ≡ encode c ++ rest → IsScalar c
@@ -127,7 +123,7 @@ nothing-before text (Some x) none is = sym (ap behind_slash is ∙ stops x.now)
     stops [] = refl
     stops (next ∷ more) = refl
 nothing-before [] None none isnt = refl
-nothing-before (c ∷ text) None none isnt = absurd (begins c text (unequal c 47 (λ is. isnt text (ap (λ n. n ∷ text) is))) none)
+nothing-before (c ∷ text) None none isnt = absurd (begins c text (ne_eqb c 47 (λ is. isnt text (ap (λ n. n ∷ text) is))) none)
   where
     begins : (c : ℕ) (text : List ℕ) → is_slash c ≡ false → before_slash (c ∷ text) ≡ [] → ⊥
     begins c [] no_slash none = cc

@@ -1,6 +1,6 @@
 -- The words that a word covers, as a list and as a rule.
 use Rattle.std.proofs.Common.{◌≡◌, ◌≢◌, ◌↔◌, ℕ, Bool, true, false, not, cond, ◌||◌, ◌⊎◌, inl, inr, List, [], ◌∷◌, ◌++◌, filter, AllPairs, IsTrue, Some, slice_get, refl, sym, ap, ◌∙◌, arith}
-use Rattle.std.proofs.lemmas.Bool.{false≢true}
+use Rattle.std.proofs.lemmas.Bool.{false≢true, or_right, or_left, or_cases}
 use Rattle.std.proofs.lemmas.List.Folds.{list_any-append}
 use Rattle.std.proofs.lemmas.List.Elements.{filter_passes}
 use Rattle.std.proofs.lemmas.List.Kept.{AllPairs-cons, AllPairs-filter}
@@ -42,21 +42,9 @@ once-without_repeats (word ∷ words) =
     (λ k d within. differs_from word _ (filter_passes kept (without_repeats words) k d within))
     (AllPairs-filter (λ one other. one ≢ other) kept (without_repeats words) (once-without_repeats words))
 
-either : (a b : Bool) → (a || b) ≡ true → (a ≡ true) ⊎ (b ≡ true)
-either true b holds = inl refl
-either false b holds = inr holds
-
-left_holds : (a b : Bool) → a ≡ true → (a || b) ≡ true
-left_holds true b holds = refl
-left_holds false b holds = absurd (false≢true holds)
-
-right_holds : (a b : Bool) → b ≡ true → (a || b) ≡ true
-right_holds true b holds = refl
-right_holds false b holds = holds
-
 lone : (word other : List ℕ) → is_among (word ∷ []) other ≡ true → other ≡ word
 lone word other among =
-    elim (either (is_same_word word other) false among) [
+    elim (or_cases (is_same_word word other) false among) [
       | inl same ↦ sym (same-≡ word other same)
       | inr never ↦ absurd (false≢true never)
     ]
@@ -72,14 +60,14 @@ from_capital written word true upper among = (upper, lone (first_lowered written
 from_capital written word false upper among = absurd (false≢true among)
 
 to_capital : (written word : List ℕ) (b : Bool) → begins_upper written ≡ b → AsCapital written word → is_among (cond b (first_lowered written ∷ []) []) word ≡ true
-to_capital written word true upper rule = left_holds _ false (≡-same (first_lowered written) word (sym rule.1))
+to_capital written word true upper rule = or_left _ false (≡-same (first_lowered written) word (sym rule.1))
 to_capital written word false upper rule = absurd (false≢true (sym upper ∙ rule.0))
 
 from_capitals : (written word : List ℕ) (b : Bool) → has_lower written ≡ b → is_among (cond b [] (all_lowered written ∷ rest_lowered written ∷ [])) word ≡ true → AsCapitals written word
 from_capitals written word true lower among = absurd (false≢true among)
 from_capitals written word false lower among = (
   ap not lower,
-  elim (either (is_same_word (all_lowered written) word) _ among) [
+  elim (or_cases (is_same_word (all_lowered written) word) _ among) [
     | inl same ↦ inl (sym (same-≡ (all_lowered written) word same))
     | inr more ↦ inr (lone (rest_lowered written) word more)
   ],
@@ -89,8 +77,8 @@ to_capitals : (written word : List ℕ) (b : Bool) → has_lower written ≡ b �
 to_capitals written word true lower rule = absurd (false≢true (sym (ap not lower) ∙ rule.0))
 to_capitals written word false lower rule =
     elim rule.1 [
-      | inl all ↦ left_holds _ _ (≡-same (all_lowered written) word (sym all))
-      | inr rest ↦ right_holds _ _ (left_holds _ false (≡-same (rest_lowered written) word (sym rest)))
+      | inl all ↦ or_left _ _ (≡-same (all_lowered written) word (sym all))
+      | inr rest ↦ or_right _ _ (or_left _ false (≡-same (rest_lowered written) word (sym rest)))
     ]
 
 among-covered_by : (written word : List ℕ) → is_among (covered_by written) word ≡ (is_same_word written word || (is_among (spellings_of_capital written) word || is_among (spellings_of_capitals written) word))
@@ -101,19 +89,19 @@ among-covered_by written word =
 
 by_rule : (written word : List ℕ) (a b : Bool) → (AsCapital written word → a ≡ true) → (AsCapitals written word → b ≡ true) → Covers written word → (is_same_word written word || (a || b)) ≡ true
 by_rule written word a b capital capitals rule = elim rule [
-  | inl same ↦ left_holds (is_same_word written word) (a || b) (≡-same written word (sym same))
-  | inr more ↦ right_holds (is_same_word written word) (a || b) (elim more [
-    | inl one ↦ left_holds a b (capital one)
-    | inr two ↦ right_holds a b (capitals two)
+  | inl same ↦ or_left (is_same_word written word) (a || b) (≡-same written word (sym same))
+  | inr more ↦ or_right (is_same_word written word) (a || b) (elim more [
+    | inl one ↦ or_left a b (capital one)
+    | inr two ↦ or_right a b (capitals two)
   ])
 ]
 
 -- the words in the list are those that the rule names
 pub covered-members : (written word : List ℕ) → IsTrue (is_among (covered_by written) word) ↔ Covers written word
 covered-members written word = (
-  λ among. elim (either (is_same_word written word) _ (sym (among-covered_by written word) ∙ among)) [
+  λ among. elim (or_cases (is_same_word written word) _ (sym (among-covered_by written word) ∙ among)) [
     | inl same ↦ inl (sym (same-≡ written word same))
-    | inr more ↦ elim (either (is_among (spellings_of_capital written) word) _ more) [
+    | inr more ↦ elim (or_cases (is_among (spellings_of_capital written) word) _ more) [
       | inl one ↦ inr (inl (from_capital written word (begins_upper written) refl one))
       | inr two ↦ inr (inr (from_capitals written word (has_lower written) refl two))
     ]

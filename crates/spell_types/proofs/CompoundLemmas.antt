@@ -7,20 +7,19 @@ use Rattle.std.proofs.lemmas.List.Elements.{All-from_recursion}
 use Rattle.std.proofs.lemmas.List.Folds.{Any-from_list_any, list_any_at}
 use Rattle.std.proofs.lemmas.Option.{slice_get_within}
 use Rattle.std.proofs.lemmas.Slice.Eq.{bytes_eq-Decides}
-use Rattle.lists.specs.Laws.{each-append, each-weaker, contains-head, contains-tail, contains-map, contains-flat_map, contains-filter, contains-range}
+use Rattle.lists.specs.Laws.{each-map, each-flat_map, each-weaker, contains-head, contains-tail, contains-map, contains-flat_map, contains-filter, contains-range}
 use Rattle.spell_types.specs.declared.Entry.{Entry}
 use Rattle.spell_types.specs.declared.Lexicon.{Lexicon}
 use Rattle.spell_types.specs.declared.derivations.Derivation.{Derivation}
 use Rattle.spell_types.specs.declared.parts.Part.{Part}
 use Rattle.spell_types.specs.declared.parts.Place.{Place}
 use Rattle.spell_types.specs.declared.parts.Place.TheVariants.{First, Middle, Last}
-use Rattle.spell_types.specs.declared.rules.Rule.{Rule}
-use Rattle.spell_types.specs.declared.rules.Side.{Side}
 use Rattle.spell_types.specs.declared.rules.Side.TheVariants.{Prefix, Suffix}
 use Rattle.spell_types.specs.Cases.{is_same_word}
 use Rattle.spell_types.specs.Compounds.{Asked, may_be_part, part_with, part_from, all_parts, written, all_stand, stand_by_flags, flags_of, follow, do_meet, may_end, end_well, are_few, make_up, lists_within, is_made_up, is_compound, IsGiven, IsMadeUp, Stand, Follow, IsCompound}
-use Rattle.spell_types.specs.Derivations.{is_same_side, is_right, is_in_order, formed, named_with, form_of, choices, derivation_of, all_from, all_derivations}
+use Rattle.spell_types.specs.Derivations.{is_right, is_in_order, formed, named_with, form_of, choices, derivation_of, all_from, all_derivations}
 use Rattle.spell_types.specs.Joints.{is_joint}
+use Rattle.spell_types.specs.Laws.{contains-choice, right-within}
 use Rattle.spell_types.specs.Parts.{is_long_enough, stands_at, stands_in_rule}
 use Rattle.spell_types.specs.Patterns.{matches}
 use Rattle.spell_types.specs.Replacements.{has_rep_fault}
@@ -28,14 +27,6 @@ use Rattle.spell_types.specs.Sanity.{AreSaneAffixes}
 use Rattle.spell_types.proofs.PatternLemmas.{matches-relation, relation-matches}
 
 -- ---- what holds of each
-pub each-map : {X Y : Type 0} (P : Y → Type 0) (f : X → Y) (xs : List X) → AllByRecursion (λ x. P (f x)) xs → AllByRecursion P (map f xs)
-each-map P f [] each = tt
-each-map P f (x ∷ xs) each = (each.0, each-map P f xs each.1)
-
-pub each-flat_map : {X Y : Type 0} (P : Y → Type 0) (f : X → List Y) (xs : List X) → AllByRecursion (λ x. AllByRecursion P (f x)) xs → AllByRecursion P (flat_map f xs)
-each-flat_map P f [] each = tt
-each-flat_map P f (x ∷ xs) each = each-append P (f x) (flat_map f xs) each.0 (each-flat_map P f xs each.1)
-
 -- ---- lists of at most so many items
 -- the lists that begin with an item
 abbrev begun : {X : Type 0} → List (List X) → X → List (List X)
@@ -76,24 +67,6 @@ contains-filter_map h (z ∷ xs) x y (suc k, within, at) is = by (h z) (contains
     by (Some first) inside = contains-tail first y (filter_map h xs) inside
 
 -- ---- all derivations
-abbrev InRange : ℕ → Option ℕ → Type 0
-InRange count None = Unit {0}
-InRange count (Some place) = place < count
-
-contains-choice : (count : ℕ) (named : Option ℕ) → InRange count named → Contains (choices count) named
-contains-choice count None inside = contains-head None (map (λ place. Some place) (range_with_len 0 count))
-contains-choice count (Some place) inside =
-    contains-tail None (Some place) (map (λ place. Some place) (range_with_len 0 count))
-    (contains-map (λ place. Some place) (range_with_len 0 count) place (contains-range count place inside))
-
-right-within : (rules : List Rule) (side : Side) (named : Option ℕ) → is_right rules side named ≡ true → InRange (length rules) named
-right-within rules side None right = tt
-right-within rules side (Some place) right = at (slice_get rules place) refl right
-  where
-    at : (found : Option Rule) → slice_get rules place ≡ found → is_some (option_and_then (λ rule. if is_same_side side rule.side then Some rule else None) found) ≡ true → place < length rules
-    at None is some = absurd (cc)
-    at (Some rule) is some = slice_get_within rules place rule is
-
 -- a derivation that has a form names an entry, and rules of its sides
 record NamesAll (lexicon : Lexicon) (d : Derivation) : Type 0 where
   entry : d.entry < length lexicon.entries

@@ -1,5 +1,6 @@
 -- What a compound rule matches, by the sets that its first step stands for.
-use Rattle.std.proofs.Common.{◌≡◌, ◌∙◌, refl, sym, ap, subst, ℕ, suc, if◌then◌else◌, ◌+◌, ◌<◌, Bool, true, false, ◌&&◌, ◌||◌, List, [], ◌∷◌, ◌++◌, length, take, drop, arith, ◌⊎◌, inl, inr, length-append, zero-add}
+use Rattle.std.proofs.Common.{◌≡◌, ◌∙◌, refl, sym, ap, subst, ℕ, suc, if◌then◌else◌, ◌+◌, ◌<◌, Bool, true, ◌&&◌, ◌||◌, List, [], ◌∷◌, ◌++◌, length, take, drop, arith, ◌⊎◌, inl, inr, length-append, zero-add}
+use Rattle.std.specs.Cmp.{both_ways}
 use Rattle.std.specs.List.{AllByRecursion, list_all, range_with_len, Any}
 use Rattle.std.proofs.lemmas.Bool.{and_parts, and_from, or_cases, or_left, or_right, eqb-true, leb-true}
 use Rattle.std.proofs.lemmas.List.{take-append-drop, take_at, drop_at, nil_from_length}
@@ -13,11 +14,6 @@ use Rattle.spell_types.specs.Patterns.{may_be, fits_step, stands_for, matches, i
 
 -- ---- tests
 -- two tests that hold together are the same
-same-test : (a b : Bool) → (a ≡ true → b ≡ true) → (b ≡ true → a ≡ true) → a ≡ b
-same-test true b there back = sym (there refl)
-same-test false true there back = back refl
-same-test false false there back = refl
-
 all-each : {X : Type 0} (test : X → Bool) (xs : List X) → list_all test xs ≡ true → AllByRecursion (λ x. test x ≡ true) xs
 all-each test [] all = tt
 all-each test (x ∷ xs) all = let parts = and_parts (test x) (list_all test xs) all in (parts.0, all-each test xs parts.1)
@@ -83,7 +79,7 @@ module _ (step : PatternStep) (more : List PatternStep) where
   -- no set is left
   matches-none : matches (step ∷ more) [] ≡ (is_left_out step && matches more [])
   matches-none =
-      same-test (matches (step ∷ more) []) (is_left_out step && matches more [])
+      both_ways (matches (step ∷ more) []) (is_left_out step && matches more [])
       (λ holds. there (matches-begins [] holds)) (λ both. begins-matches [] (left-out [] both))
     where
       by : (own rest : List (List Flag)) → [] ≡ own ++ rest → may_be step.times (length own) ≡ true → matches more rest ≡ true → (is_left_out step && matches more []) ≡ true
@@ -134,7 +130,7 @@ module _ (step : PatternStep) (more : List PatternStep) where
 
   matches-next : (set : List Flag) (sets : List (List Flag)) → matches (step ∷ more) (set ∷ sets) ≡ (out (set ∷ sets) || fits set sets)
   matches-next set sets =
-      same-test (matches (step ∷ more) (set ∷ sets)) (out (set ∷ sets) || fits set sets)
+      both_ways (matches (step ∷ more) (set ∷ sets)) (out (set ∷ sets) || fits set sets)
       (λ holds. there (matches-begins (set ∷ sets) holds))
       (λ either. begins-matches (set ∷ sets) (back (or_cases (out (set ∷ sets)) (fits set sets) either)))
     where

@@ -7,14 +7,13 @@ use Rattle.std.proofs.lemmas.List.{take-append-drop, take_at, drop_at, drop-drop
 use Rattle.std.proofs.lemmas.List.Elements.{All-from_recursion, recursion_from_All, All-contains, All-contains_itself, filter_passes}
 use Rattle.std.proofs.lemmas.List.Folds.{Any-from_list_any, list_any_at}
 use Rattle.std.proofs.lemmas.Slice.Eq.{starts_is}
-use Rattle.lists.specs.Laws.{each-weaker, contains-map, contains-flat_map, contains-filter, contains-range}
+use Rattle.lists.specs.Laws.{each-map, each-flat_map, each-weaker, contains-map, contains-flat_map, contains-filter, contains-range}
 use Rattle.spell_types.specs.declared.Lexicon.{Lexicon}
 use Rattle.spell_types.specs.declared.breaks.Anchored.{Anchored}
 use Rattle.spell_types.specs.declared.conversions.Rep.{Rep}
 use Rattle.spell_types.specs.Licences.{is_alone, is_derived}
 use Rattle.spell_types.specs.Replacements.{stands_anchored, replaced_at, variants_by, rep_variants, has_rep_fault, HasRepFault}
 use Rattle.spell_types.specs.Sanity.{AreSaneAffixes}
-use Rattle.spell_types.proofs.CompoundLemmas.{each-map, each-flat_map}
 
 -- ---- a text at a place of a word
 -- the text stands there, and it is anchored right

@@ -9,6 +9,7 @@ pub mod Derivations
 pub mod EntriesOf
 pub mod Flags
 pub mod Joints
+pub mod Laws
 pub mod Licences
 pub mod Numbers
 pub mod Parts

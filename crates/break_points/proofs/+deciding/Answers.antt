@@ -4,11 +4,11 @@ use Rattle.std.specs.Prelude.{slice_range}
 use Rattle.std.specs.List.{list_any}
 use Rattle.std.proofs.lemmas.Fn.{says_at}
 use Rattle.std.proofs.lemmas.List.Folds.{list_any_at}
-use Rattle.break_points.specs.declared.marks.Mark.{Mark}
-use Rattle.break_points.specs.Marks.{way_by, way_passes}
+use Rattle.break_points.specs.declared.occurrences.Occurrence.{Occurrence}
+use Rattle.break_points.specs.Occurrences.{way_by, way_passes}
 use Rattle.break_points.specs.Pieces.{all_left, is_broken_by, is_shorter}
 use Rattle.break_points.proofs.Deciding.{ok_weaker, base_decided, barred_decided, parts_decided, behind_same, before_same, front_within, both_decided}
-use Rattle.break_points.proofs.MarkWays.{marks_decide, way-shorter}
+use Rattle.break_points.proofs.OccurrenceWays.{occurrences_decide, way-shorter}
 use Rattle.break_points.proofs.+deciding.Goals as goal
 
 pub decide_anew-returns-in-Base : goal.decide_anew-returns-in-Base
@@ -27,28 +27,28 @@ decide_anew-returns-in-Other g t c = λ judged breaks answers are right.
 
 pub decide_parts-decide_way-requires : goal.decide_parts-decide_way-requires
 decide_parts-decide_way-requires g t c κs within =
-    let mark : Mark = get_or c.args.marks.now c.loop-mark.mark-index (record { place = 0; len = 0; front = false; back = false }) in
+    let occurrence : Occurrence = get_or c.args.occurrences.now c.loop-occurrence.occurrence-index (record { place = 0; len = 0; front = false; back = false }) in
     let shorter : is_shorter (slice_range c.args.word.now c.args.piece.from c.args.piece.to) c.in-Some.way ≡ true =
-    way-shorter mark.front mark.back c.args.word.now c.args.piece.from c.args.piece.to mark.place mark.len c.in-Some.way c.requires.within (sym c.in-Some.ensures) in
+    way-shorter occurrence.front occurrence.back c.args.word.now c.args.piece.from c.args.piece.to occurrence.place occurrence.len c.in-Some.way c.requires.within (sym c.in-Some.ensures) in
     search rules
 
 pub decide_parts-returns-then-branch : goal.decide_parts-returns-then-branch
 decide_parts-returns-then-branch g t c = λ judged breaks answers are right.
-    let so_far = c.loop-mark.invariant judged breaks answers are right in
+    let so_far = c.loop-occurrence.invariant judged breaks answers are right in
     let here = c.in_ok-decide_way.ensures judged breaks answers are so_far.1 in
     let test = all_left (is_broken_by judged breaks) (slice_range c.args.word.now c.args.piece.from c.args.piece.to) in (
-      sym (list_any_at (λ mark. way_passes test (way_by mark c.args.piece)) c.args.marks.now c.loop-mark.mark-index (record { place = 0; len = 0; front = false; back = false }) (omega arith)
+      sym (list_any_at (λ occurrence. way_passes test (way_by occurrence c.args.piece)) c.args.occurrences.now c.loop-occurrence.occurrence-index (record { place = 0; len = 0; front = false; back = false }) (omega arith)
           (ap (way_passes test) (sym c.in-Some.ensures) ∙ sym here.0 ∙ c.if-branch.true))
-          ∙ marks_decide (is_broken_by judged breaks) breaks c.args.word.now c.args.marks.now c.args.piece c.requires.within are,
+          ∙ occurrences_decide (is_broken_by judged breaks) breaks c.args.word.now c.args.occurrences.now c.args.piece c.requires.within are,
       here.1,
     )
 
 pub decide_parts-returns : goal.decide_parts-returns
 decide_parts-returns g t c = λ judged breaks answers are right.
-    let so_far = c.loop-mark.invariant judged breaks answers are right in
+    let so_far = c.loop-occurrence.invariant judged breaks answers are right in
     let test = all_left (is_broken_by judged breaks) (slice_range c.args.word.now c.args.piece.from c.args.piece.to) in (
-      sym so_far.0 ∙ ap (list_any (λ mark. way_passes test (way_by mark c.args.piece))) (take_all c.loop-mark.mark-index c.args.marks.now (omega arith))
-          ∙ marks_decide (is_broken_by judged breaks) breaks c.args.word.now c.args.marks.now c.args.piece c.requires.within are,
+      sym so_far.0 ∙ ap (list_any (λ occurrence. way_passes test (way_by occurrence c.args.piece))) (take_all c.loop-occurrence.occurrence-index c.args.occurrences.now (omega arith))
+          ∙ occurrences_decide (is_broken_by judged breaks) breaks c.args.word.now c.args.occurrences.now c.args.piece c.requires.within are,
       so_far.1,
     )
 

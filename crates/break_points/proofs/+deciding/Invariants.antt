@@ -5,7 +5,7 @@ use Rattle.std.specs.List.{list_any}
 use Rattle.spell_types.specs.declared.breaks.Anchored.{Anchored}
 use Rattle.break_points.specs.declared.Judged.{Judged}
 use Rattle.break_points.specs.Judging.{AnswersAs}
-use Rattle.break_points.specs.Marks.{AreMarks, way_by, way_passes}
+use Rattle.break_points.specs.Occurrences.{AreOccurrences, way_by, way_passes}
 use Rattle.break_points.specs.Pieces.{is_broken_piece, is_broken_by, IsRight, all_left}
 use Rattle.break_points.proofs.+deciding.Given as goal
 
@@ -21,9 +21,9 @@ decreases-decide_parts g l = 4 * (l.piece.to - l.piece.from) + 1
 abbrev pub decreases-decide_way : goal.decreases-decide_way
 decreases-decide_way g l = 4 * (l.piece.to - l.piece.from)
 
-abbrev pub invariant-decide_parts-loop-mark : goal.invariant-decide_parts-loop-mark
-invariant-decide_parts-loop-mark g l =
-    (judged : List ℕ → Judged) (breaks : List Anchored) → AnswersAs (FnReturnsAt g.F.Fn l.judge) judged → AreMarks breaks l.word l.marks
+abbrev pub invariant-decide_parts-loop-occurrence : goal.invariant-decide_parts-loop-occurrence
+invariant-decide_parts-loop-occurrence g l =
+    (judged : List ℕ → Judged) (breaks : List Anchored) → AnswersAs (FnReturnsAt g.F.Fn l.judge) judged → AreOccurrences breaks l.word l.occurrences
     → IsRight (is_broken_piece judged breaks l.word) l.fn.table
-    → (list_any (λ mark. way_passes (all_left (is_broken_by judged breaks) (slice_range l.word l.piece.from l.piece.to)) (way_by mark l.piece)) (take l.mark-index l.marks) ≡ false)
+    → (list_any (λ occurrence. way_passes (all_left (is_broken_by judged breaks) (slice_range l.word l.piece.from l.piece.to)) (way_by occurrence l.piece)) (take l.occurrence-index l.occurrences) ≡ false)
     × IsRight (is_broken_piece judged breaks l.word) l.table

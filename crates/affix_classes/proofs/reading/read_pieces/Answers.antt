@@ -1,8 +1,9 @@
 -- Each piece that is read moves on, and at the end all is read.
 use Rattle.std.proofs.Common.{◌≡◌, ◌≢◌, ◌+◌, None, length, length-drop, ap, arith, rules}
+use Rattle.lists.specs.Laws.{take-rest}
 use Rattle.affix_classes.specs.declared.reading.ConditionFault.TheVariants.{NoMemory}
 use Rattle.affix_classes.specs.ConditionTexts.{pieces_of}
-use Rattle.affix_classes.proofs.PieceLemmas.{sliced, piece_read, none_read, all_read}
+use Rattle.affix_classes.proofs.PieceLemmas.{piece_read, none_read, all_read}
 use Rattle.affix_classes.proofs.reading.read_pieces.Goals as goal
 
 pub returns-in_err-piece-clause-fault : goal.returns-in_err-piece-clause-fault
@@ -15,7 +16,7 @@ returns-in_err-piece-clause-fault c =
 pub loop-place-preserved : goal.loop-place-preserved
 loop-place-preserved c =
     let l = c.loop-place in record {
-      within = omega (arith, c.in_ok-piece.ensures.within, ap length (sliced (l.place + 1) c.args.text.now), length-drop (l.place + 1) c.args.text.now);
+      within = omega (arith, c.in_ok-piece.ensures.within, ap length (take-rest (l.place + 1) c.args.text.now), length-drop (l.place + 1) c.args.text.now);
       whole = piece_read c.args.text.now l.made c.push.new.self l.place c.index-text-place.result c.in_ok-piece.piece c.in_ok-piece.more c.loop-place-test.true c.index-text-place.is c.in_ok-piece.ensures.piece c.in_ok-push.ensures.ok l.invariant.whole;
     }
 

@@ -2,8 +2,8 @@
 use Rattle.std.proofs.Common.{◌∙◌, ap}
 use Rattle.spell_types.specs.declared.rules.Side.TheVariants.{Prefix}
 use Rattle.spell_types.specs.Derivations.{is_same_side}
+use Rattle.spell_types.specs.Laws.{own_side}
 use Rattle.affix_tables.proofs.EndLemmas.{reached}
-use Rattle.affix_tables.proofs.LawLemmas.{own_side}
 use Rattle.affix_tables.proofs.AffixTables.prefix_reach.Goals as goal
 
 pub returns-clause-rules : goal.returns-clause-rules

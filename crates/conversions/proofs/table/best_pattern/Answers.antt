@@ -2,8 +2,9 @@
 use Rattle.std.proofs.Common.{◌∙◌, ◌≡◌, ◌+◌, ◌<◌, ◌≤◌, sym, subst, take, length, eqb-true, arith}
 use Rattle.std.specs.Option.{option_copied}
 use Rattle.lists.specs.TextOrder.{beginning}
+use Rattle.std.proofs.lemmas.List.{nil_from_length}
 use Rattle.conversions.specs.Patterns.{BestUpTo}
-use Rattle.conversions.proofs.Patterns.{all_begin, alike_more, nothing, none_yet, none_begins, first_best, none_best}
+use Rattle.conversions.proofs.Patterns.{all_begin, alike_more, none_yet, none_begins, first_best, none_best}
 use Rattle.conversions.proofs.table.best_pattern.Goals as goal
 use Rattle.conversions.proofs.table.best_pattern.Goals.{in-Some, in_default}
 
@@ -22,7 +23,7 @@ returns-then-is_empty c =
     let now : c.going_on-alike.result.now ≡ beginning (take (depth + 1) text) patterns =
     alike_more patterns c.loop-depth.alike.now c.going_on-alike.result.now text depth c.index-text-depth.result c.requires within c.index-text-depth.is c.loop-depth.invariant.alike c.going_on-alike.ensures in
     none_begins patterns text depth (option_copied c.loop-depth.best) (omega arith)
-    (sym now ∙ nothing c.going_on-alike.result.now (eqb-true (length c.going_on-alike.result.now) 0 (sym c.if-is_empty.ensures)))
+    (sym now ∙ nil_from_length c.going_on-alike.result.now (eqb-true (length c.going_on-alike.result.now) 0 (sym c.if-is_empty.ensures)))
     c.loop-depth.invariant.best
 
 pub loop-depth-preserved : goal.loop-depth-preserved

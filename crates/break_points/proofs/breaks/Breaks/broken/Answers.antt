@@ -3,11 +3,11 @@ use Rattle.std.proofs.Common.{◌≡◌, ◌∙◌, refl, sym, ap, subst, length
 use Rattle.std.specs.List.{list_any}
 use Rattle.std.proofs.lemmas.Fn.{says_at}
 use Rattle.break_points.specs.declared.table.Stretch.{Stretch}
-use Rattle.break_points.specs.Marks.{AreMarks}
+use Rattle.break_points.specs.Occurrences.{AreOccurrences}
 use Rattle.break_points.specs.Patterns.{anchored_of}
 use Rattle.break_points.specs.Pieces.{all_left, is_broken_by, is_broken_piece, ways_of}
 use Rattle.break_points.proofs.Deciding.{ok_weaker, base_decided, barred_decided, parts_decided, whole_word}
-use Rattle.break_points.proofs.MarkWays.{no_marks}
+use Rattle.break_points.proofs.OccurrenceWays.{no_occurrences}
 use Rattle.break_points.proofs.breaks.Breaks.broken.Goals as goal
 
 pub returns-in-Base : goal.returns-in-Base
@@ -20,22 +20,22 @@ returns-in-Barred g c = λ judged answers.
 
 pub returns-then-is_empty : goal.returns-then-is_empty
 returns-then-is_empty g c = λ judged answers.
-    let marks = c.in_ok-marks.marks.items in
-    let none : length marks ≡ 0 = omega (arith, eqb-true (vec_len c.in_ok-marks.marks) 0 (sym c.if-is_empty.ensures), c.in_ok-marks.marks.ok) in
+    let occurrences = c.in_ok-occurrences.occurrences.items in
+    let none : length occurrences ≡ 0 = omega (arith, eqb-true (vec_len c.in_ok-occurrences.occurrences) 0 (sym c.if-is_empty.ensures), c.in_ok-occurrences.occurrences.ok) in
     parts_decided judged c.args.self.now c.args.word.now c.in_ok-judge.field-0 _ (answers _ _ (says_at g.F.Fn c.judge.ensures c.in_ok-judge.was)) c.in-Other.is
-    (no_marks (is_broken_by judged c.args.self.now) c.args.self.now c.args.word.now marks none
-    (subst (λ breaks. AreMarks breaks c.args.word.now marks) (ap (map anchored_of) c.as_slice.ensures.value ∙ c.self.view_is) c.in_ok-marks.ensures))
+    (no_occurrences (is_broken_by judged c.args.self.now) c.args.self.now c.args.word.now occurrences none
+    (subst (λ breaks. AreOccurrences breaks c.args.word.now occurrences) (ap (map anchored_of) c.as_slice.ensures.value ∙ c.self.view_is) c.in_ok-occurrences.ensures))
 
 pub returns : goal.returns
 returns g c = λ judged answers.
     let breaks = c.args.self.now in
     let word = c.args.word.now in
-    let marks = c.in_ok-marks.marks.items in
+    let occurrences = c.in_ok-occurrences.occurrences.items in
     let piece : Stretch = record { from = 0; to = length word } in
-    let are : AreMarks breaks word marks =
-    subst (λ breaks. AreMarks breaks word marks) (ap (map anchored_of) c.as_slice.ensures.value ∙ c.self.view_is) c.in_ok-marks.ensures in
+    let are : AreOccurrences breaks word occurrences =
+    subst (λ breaks. AreOccurrences breaks word occurrences) (ap (map anchored_of) c.as_slice.ensures.value ∙ c.self.view_is) c.in_ok-occurrences.ensures in
     let test = is_broken_by judged breaks in
     ok_weaker c.decide_parts.result _ _
     (λ answer p. parts_decided judged breaks word c.in_ok-judge.field-0 answer (answers _ _ (says_at g.F.Fn c.judge.ensures c.in_ok-judge.was)) c.in-Other.is
     (p.0 ∙ ap (λ w. list_any (all_left test w) (ways_of breaks w)) (whole_word word piece refl refl)))
-    (c.decide_parts.ensures judged breaks answers (subst (AreMarks breaks word) (sym c.as_slice-2.ensures.value) are) (c.new-table.ensures (is_broken_piece judged breaks word)))
+    (c.decide_parts.ensures judged breaks answers (subst (AreOccurrences breaks word) (sym c.as_slice-2.ensures.value) are) (c.new-table.ensures (is_broken_piece judged breaks word)))
