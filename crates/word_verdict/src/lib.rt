@@ -4,7 +4,9 @@
 ghost use Rattle.std.specs.Prelude.{◌≡◌, IfOk};
 ghost use Rattle.spell_types.specs.Sanity.{IsSane};
 ghost use Rattle.conversions.specs.Patterns.{or_word};
+ghost use Rattle.word_verdict.specs.Preparing.{ArePrepared};
 
+mod crossing;
 mod numbers;
 mod pieces;
 mod words;
@@ -15,7 +17,7 @@ use compound_words::Compounds;
 use conversions::{Conversions, Ignored};
 use lists::NoMemory;
 use mark_types::Judge;
-use pieces::Dictionary;
+use pieces::Prepared;
 use spell_types::{Affixes, Chars, Entries, Lexicon};
 use std::alloc::Global;
 use std::marker::Model;
@@ -48,19 +50,49 @@ impl Speller {
         requires { IsSane (record { affixes = affixes; entries = entries }) }
         ensures { IfOk result (λ made. made ≡ record { affixes = affixes; entries = entries }) }
     {
-        let conversions = Conversions::new(alloc, &affixes.iconv)?;
-        let ignored = Ignored::new(alloc, &affixes.ignore)?;
-        let breaks = Breaks::new(alloc, &affixes.breaks)?;
         let lexicon = Lexicon { affixes, entries };
-        let compounds = Compounds::new(alloc, &lexicon)?;
+        let beside = Beside::prepare(alloc, &lexicon)?;
         let stems = Stems::new(alloc, lexicon)?;
-        Ok(Speller {
-            stems,
-            compounds,
-            conversions,
-            ignored,
-            breaks,
+        Ok(beside.with_stems(stems))
+    }
+}
+
+/// What is prepared of a dictionary beside its stems. It is made in a function that only borrows the dictionary: one that owns it
+/// over many `?` takes minutes to prove.
+#[derive(Drop)]
+struct Beside {
+    compounds: Compounds,
+    conversions: Conversions,
+    ignored: Ignored,
+    breaks: Breaks,
+}
+
+impl Beside {
+    /// What is prepared of this dictionary.
+    fn prepare(alloc: Global, lexicon: &Lexicon) -> Result<Beside, NoMemory>
+        requires { IsSane lexicon.now }
+        ensures { IfOk result (λ made. ArePrepared lexicon.now made.compounds made.conversions made.ignored made.breaks) }
+    {
+        Ok(Beside {
+            compounds: Compounds::new(alloc, lexicon)?,
+            conversions: Conversions::new(alloc, &lexicon.affixes.iconv)?,
+            ignored: Ignored::new(alloc, &lexicon.affixes.ignore)?,
+            breaks: Breaks::new(alloc, &lexicon.affixes.breaks)?,
         })
+    }
+
+    /// The dictionary with the stems that it was prepared for.
+    fn with_stems(self, stems: Stems) -> Speller
+        requires { ArePrepared stems self.compounds self.conversions self.ignored self.breaks }
+        ensures { result ≡ stems }
+    {
+        Speller {
+            stems,
+            compounds: self.compounds,
+            conversions: self.conversions,
+            ignored: self.ignored,
+            breaks: self.breaks,
+        }
     }
 }
 
@@ -72,7 +104,7 @@ impl Judge for Speller {
         let made = self.conversions.convert(alloc, written)?;
         let converted = made_or(&made, written);
         let left = self.ignored.drop_from(alloc, converted)?;
-        let dictionary = Dictionary {
+        let dictionary = Prepared {
             stems: &self.stems,
             compounds: &self.compounds,
         };

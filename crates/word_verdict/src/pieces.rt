@@ -18,7 +18,7 @@ use std::alloc::Global;
 
 /// A dictionary, and what was prepared of it for its compounds.
 #[derive(Clone, Copy)]
-pub(crate) struct Dictionary<'a> {
+pub(crate) struct Prepared<'a> {
     pub(crate) stems: &'a Stems,
     pub(crate) compounds: &'a Compounds,
 }
@@ -27,7 +27,7 @@ pub(crate) struct Dictionary<'a> {
 #[tactic(auto, unfolding(crate::specs::Judging::judged, crate::specs::Judging::covers_right_spelling, spell_types::specs::Bases::is_base, spell_types::specs::Bases::is_right_spelling, spell_types::specs::Cases::covered_by))]
 pub(crate) fn judge_piece(
     alloc: Global,
-    dictionary: &Dictionary,
+    dictionary: &Prepared,
     piece: &[char],
 ) -> Result<Judged, NoMemory>
     requires { AreCompoundsOf dictionary.now.stems.now dictionary.now.compounds.now }
@@ -49,7 +49,7 @@ pub(crate) fn judge_piece(
 #[tactic(auto, unfolding(crate::specs::Judging::covers_right_spelling, spell_types::specs::Cases::covered_by))]
 fn covers_right_spelling(
     alloc: Global,
-    dictionary: &Dictionary,
+    dictionary: &Prepared,
     word: &[char],
 ) -> Result<bool, NoMemory>
     requires { AreCompoundsOf dictionary.now.stems.now dictionary.now.compounds.now }
@@ -76,7 +76,7 @@ fn may_cover_others(word: &[char]) -> bool
 /// Whether one of these spellings is right for the word that is written so.
 fn one_is_right(
     alloc: Global,
-    dictionary: &Dictionary,
+    dictionary: &Prepared,
     written: &[char],
     spellings: &[Chars],
 ) -> Result<bool, NoMemory>
@@ -96,7 +96,7 @@ fn one_is_right(
 #[tactic(auto, unfolding(spell_types::specs::Bases::is_right_spelling))]
 fn is_right(
     alloc: Global,
-    dictionary: &Dictionary,
+    dictionary: &Prepared,
     written: &[char],
     spelling: &[char],
 ) -> Result<bool, NoMemory>
@@ -114,7 +114,7 @@ fn is_right(
 /// longest.
 fn is_alone_or_compound(
     alloc: Global,
-    dictionary: &Dictionary,
+    dictionary: &Prepared,
     written: &[char],
     spelling: &[char],
 ) -> Result<bool, NoMemory>
@@ -131,7 +131,7 @@ fn is_alone_or_compound(
 /// Whether a spelling is a compound where a word is written so.
 fn is_compound(
     alloc: Global,
-    dictionary: &Dictionary,
+    dictionary: &Prepared,
     written: &[char],
     spelling: &[char],
 ) -> Result<bool, NoMemory>

@@ -9,7 +9,7 @@ ghost use Rattle.compound_words.specs.Prepared.{AreCompoundsOf};
 ghost use Rattle.word_verdict.specs.Accepting.{is_accepted_short, is_accepted_before_dots};
 
 use crate::numbers::{is_number, undotted};
-use crate::pieces::{Dictionary, judge_piece};
+use crate::pieces::{Prepared, judge_piece};
 use break_points::Breaks;
 use lists::NoMemory;
 use spell_types::Lexicon;
@@ -21,7 +21,7 @@ const MOST_CHARACTERS: usize = 100;
 /// Whether a dictionary accepts a word that is looked up.
 pub(crate) fn accepts(
     alloc: Global,
-    dictionary: &Dictionary,
+    dictionary: &Prepared,
     breaks: &Breaks,
     word: &[char],
 ) -> Result<bool, NoMemory>
@@ -43,7 +43,7 @@ pub(crate) fn accepts(
 #[tactic(auto, using(crate::proofs::AcceptLemmas::refuses_undotted, crate::proofs::AcceptLemmas::accepts_undotted))]
 fn accepts_short(
     alloc: Global,
-    dictionary: &Dictionary,
+    dictionary: &Prepared,
     breaks: &Breaks,
     word: &[char],
 ) -> Result<bool, NoMemory>
@@ -65,7 +65,7 @@ fn accepts_short(
 /// Whether what stands before the dots at the end of a word is accepted, where dots are word characters.
 fn accepts_before_dots(
     alloc: Global,
-    dictionary: &Dictionary,
+    dictionary: &Prepared,
     breaks: &Breaks,
     rest: &[char],
 ) -> Result<bool, NoMemory>
@@ -85,7 +85,7 @@ fn accepts_before_dots(
 /// Whether a word is accepted, perhaps in pieces.
 fn is_broken(
     alloc: Global,
-    dictionary: &Dictionary,
+    dictionary: &Prepared,
     breaks: &Breaks,
     word: &[char],
 ) -> Result<bool, NoMemory>
