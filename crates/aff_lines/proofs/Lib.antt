@@ -1,4 +1,3 @@
-mod FaultLemmas
 mod NameLemmas
 mod RowLemmas
 mod ReadLemmas

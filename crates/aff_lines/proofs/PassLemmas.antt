@@ -2,31 +2,27 @@
 use Rattle.std.proofs.Common.{◌≡◌, ℕ, zero, suc, ◌+◌, ◌-◌, ◌<◌, ◌==◌, Bool, true, false, cond, List, [], ◌∷◌, ◌++◌, length, map, take, drop, Option, refl, sym, ap, ◌∙◌, get_or, append_assoc, arith}
 use Rattle.std.specs.Borrow.{Bor}
 use Rattle.std.specs.List.{filter, flat_map}
-use Rattle.std.specs.Option.{option_or}
 use Rattle.std.proofs.lemmas.List.{take_more, append-nil, map-append}
 use Rattle.std.proofs.lemmas.Bool.Decides.{nat_tests}
 use Rattle.std.proofs.lemmas.Grind.{flat_map-append}
-use Rattle.lists.specs.Laws.{or-none}
+use Rattle.line_faults.specs.Laws.{least_append}
 use Rattle.spell_types.specs.declared.flags.Flag.{Flag}
 use Rattle.spell_types.specs.declared.flags.FlagKind.{FlagKind}
 use Rattle.aff_lines.specs.declared.faults.AffWhy.TheVariants.{Twice}
-use Rattle.aff_lines.specs.declared.faults.Fault.{Fault}
 use Rattle.aff_lines.specs.declared.names.Described.{Described}
-use Rattle.aff_lines.specs.declared.names.Directive.TheVariants as Directive
 use Rattle.aff_lines.specs.declared.names.Pass.{Pass}
 use Rattle.aff_lines.specs.declared.names.Row.{Row}
 use Rattle.aff_lines.specs.declared.rows.DirectiveLine.{DirectiveLine}
-use Rattle.aff_lines.specs.Faults.{sooner, least_of, first_fault}
+use Rattle.aff_lines.specs.Faults.{Fault, cause_number, sooner, least_of}
 use Rattle.aff_lines.specs.Grammar.{at, row_faults, past_faults, rows_faults, place_faults}
 use Rattle.aff_lines.specs.Names.{Description, description_of, is_of, all_directives, directives_in}
-use Rattle.aff_lines.specs.Passes.{directive_faults, pass_faults, faults_in, lines_at, set_in, kind_said, bad_faults, passes_of}
-use Rattle.aff_lines.specs.Rows.{lines_of}
-use Rattle.aff_lines.proofs.FaultLemmas.{found_more, least_append}
+use Rattle.aff_lines.specs.Passes.{directive_faults, pass_faults, faults_in, lines_at, set_in}
 
 some-left : (left : ℕ) → (suc left == 0) ≡ false
 some-left left = grind (arith, nat_tests)
 
-rows-step : (kind : FlagKind) (row : Row) (left next : ℕ) (line : DirectiveLine) (more : List DirectiveLine) → next ≡ left - 1
+-- the first of the rows that are wanted, and those behind it
+pub rows-step : (kind : FlagKind) (row : Row) (left next : ℕ) (line : DirectiveLine) (more : List DirectiveLine) → next ≡ left - 1
     → rows_faults kind row left (line ∷ more) ≡ place_faults kind row left line ++ rows_faults kind row next more
 rows-step kind row zero next line more is =
     let none : next ≡ 0 = omega (arith, is) in
@@ -37,16 +33,6 @@ rows-step kind row (suc left) next line more is =
     append_assoc (row_faults kind row line) (flat_map (row_faults kind row) (take left more)) (flat_map past_faults (drop left more))
     ∙ ap (λ n. row_faults kind row line ++ rows_faults kind row n more) (sym same)
     ∙ ap (λ here. here ++ rows_faults kind row next more) (sym own)
-
--- a turn of the loop over the rows of a table
-pub rows_turn : (kind : FlagKind) (row : Row) (found here now total : Option Fault) (left next : ℕ) (own more : List DirectiveLine) (line : DirectiveLine)
-    → now ≡ sooner found here → here ≡ least_of (place_faults kind row left line) → next ≡ left - 1 → own ≡ line ∷ more
-    → sooner found (least_of (rows_faults kind row left own)) ≡ total
-    → sooner now (least_of (rows_faults kind row next more)) ≡ total
-rows_turn kind row found here now total left next own more line merged told less is so_far =
-    ap (λ f. sooner f (least_of (rows_faults kind row next more))) (merged ∙ ap (sooner found) told)
-    ∙ found_more found total (place_faults kind row left line) (rows_faults kind row next more) (rows_faults kind row left own)
-    (ap (rows_faults kind row left) is ∙ rows-step kind row left next line more less) so_far
 
 -- the faults of a row of the code's table, if it is one of the pass
 abbrev pub described_faults : FlagKind → List DirectiveLine → Pass → Described → List Fault
@@ -68,7 +54,7 @@ pass_turn kind rows pass directives place d found here now within merged told so
     merged
     ∙ ap (λ f. sooner f here) so_far
     ∙ ap (sooner (least_of earlier)) told
-    ∙ sym (ap least_of whole ∙ least_append earlier own)
+    ∙ sym (ap least_of whole ∙ least_append cause_number earlier own)
 
 -- the end of that loop
 pub all-described : (kind : FlagKind) (rows : List DirectiveLine) (pass : Pass) (directives : List Described)
@@ -129,20 +115,3 @@ sets_turn kind sets pushed set lines place line within is grown same so_far =
     ∙ ap (λ s. sets ++ s ∷ []) same
     ∙ ap (λ s. s ++ set_in kind line.now ∷ []) so_far
     ∙ sym (ap (map (set_in kind)) whole ∙ map-append (set_in kind) (lines_at before) (line.now ∷ []))
-
--- the first fault of three passes
-first_of_three : (first second third : List Fault) (a b c : Option Fault) → a ≡ least_of first → b ≡ least_of second → c ≡ least_of third
-    → option_or a (option_or b c) ≡ first_fault (first ∷ second ∷ third ∷ [])
-first_of_three first second third a b c is_a is_b is_c =
-    ap (λ o. option_or o (option_or b c)) is_a
-    ∙ ap (λ o. option_or (least_of first) (option_or o c)) is_b
-    ∙ ap (λ o. option_or (least_of first) (option_or (least_of second) o)) (is_c ∙ sym (or-none (least_of third)))
-
-pub first_of_early : (bad : Option ℕ) (rows : List DirectiveLine) (kind : FlagKind) (a b c : Option Fault)
-    → kind ≡ kind_said (lines_of Directive.FlagType rows)
-    → a ≡ least_of (pass_faults kind rows Pass.First ++ bad_faults bad)
-    → b ≡ least_of (pass_faults kind rows Pass.Second) → c ≡ least_of (pass_faults kind rows Pass.Third)
-    → option_or a (option_or b c) ≡ first_fault (passes_of bad rows)
-first_of_early bad rows kind a b c same is_a is_b is_c =
-    first_of_three (pass_faults kind rows Pass.First ++ bad_faults bad) (pass_faults kind rows Pass.Second) (pass_faults kind rows Pass.Third) a b c is_a is_b is_c
-    ∙ ap (λ k. first_fault ((pass_faults k rows Pass.First ++ bad_faults bad) ∷ pass_faults k rows Pass.Second ∷ pass_faults k rows Pass.Third ∷ [])) same

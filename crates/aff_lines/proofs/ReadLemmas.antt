@@ -1,31 +1,25 @@
 -- The first fault of a file, read as a set.
-use Rattle.std.proofs.Common.{◌≡◌, ℕ, List, Option, Some, None, sym, ap, ◌∙◌, subst, Result, Ok, Err, IfOk, IfErr}
+use Rattle.std.proofs.Common.{◌≡◌, ℕ, List, Option, None, sym, ap, ◌∙◌, Result, Ok, Err, IfOk, IfErr}
 use Rattle.std.specs.List.{filter_map}
 use Rattle.text_lines.specs.declared.found.Line.{Line}
 use Rattle.text_lines.specs.Lines.{bad_line, good_lines}
-use Rattle.aff_lines.specs.declared.faults.Fault.{Fault}
+use Rattle.line_faults.specs.Faults.{fault_at}
+use Rattle.line_faults.specs.Laws.{first-least, no-first}
 use Rattle.aff_lines.specs.declared.faults.AffFault.{AffFault}
 use Rattle.aff_lines.specs.declared.faults.AffFault.TheVariants.{At, NoMemory}
-use Rattle.aff_lines.specs.Faults.{first_fault, IsFault, IsLeast, Refuses}
+use Rattle.aff_lines.specs.Faults.{Fault, cause_number, first_fault, Refuses}
 use Rattle.aff_lines.specs.declared.Directives.{Directives}
 use Rattle.aff_lines.specs.declared.rows.DirectiveLine.{DirectiveLine}
 use Rattle.aff_lines.specs.Passes.{IsFirst, Says, Reads, early_passes, passes_of}
 use Rattle.aff_lines.specs.Rows.{row_in}
-use Rattle.aff_lines.proofs.FaultLemmas.{FirstIs, first_law}
-
-pub no-fault : (passes : List (List Fault)) → first_fault passes ≡ None → (pass : ℕ) (fault : Fault) → IsFault passes pass fault → ⊥
-no-fault passes none = subst (λ (o : Option Fault). FirstIs passes o) none (first_law passes)
-
-pub least-fault : (passes : List (List Fault)) (fault : Fault) → first_fault passes ≡ Some fault → (pass : ℕ) × IsLeast (IsFault passes pass) fault
-least-fault passes fault first = subst (λ (o : Option Fault). FirstIs passes o) first (first_law passes)
 
 pub refuses-first : (passes : List (List Fault)) (fault : AffFault) → IsFirst passes fault → Refuses passes fault
-refuses-first passes (At line why) first = least-fault passes (record { line = line; why = why }) first
+refuses-first passes (At line why) first = first-least cause_number passes (fault_at line why) first
 refuses-first passes NoMemory first = tt
 
 pub reads_first : (bytes : List ℕ) (found : Result Directives AffFault) → IfOk found (λ read. first_fault (early_passes bytes) ≡ None) → IfOk found (Says bytes)
     → IfOk found (Reads bytes)
-reads_first bytes (Ok read) fine says = record { no_fault = no-fault (early_passes bytes) fine; says = says }
+reads_first bytes (Ok read) fine says = record { no_fault = no-first cause_number (early_passes bytes) fine; says = says }
 reads_first bytes (Err fault) fine says = tt
 
 pub refuses_first : (bytes : List ℕ) (found : Result Directives AffFault) → IfErr found (IsFirst (early_passes bytes)) → IfErr found (Refuses (early_passes bytes))

@@ -1,9 +1,10 @@
 -- Which faults a file has, and which of them is told.
-use Rattle.std.specs.Prelude.{◌≡◌, ℕ, zero, suc, ◌==◌, ◌||◌, ◌&&◌, ◌⊎◌, nat_lt, Bool, false, List, [], ◌∷◌, ◌++◌, Option, None, Some, if◌then◌else◌, codes}
-use Rattle.std.specs.Option.{option_or}
+use Rattle.std.specs.Prelude.{ℕ, Bool, List, Option, codes}
+use Rattle.line_faults.specs.Faults as order
+use Rattle.line_faults.specs.Faults.{IsFault, fault_at}
+use Rattle.line_faults.specs.declared.Fault.{Fault as LineFault}
 use Rattle.aff_lines.specs.declared.faults.AffWhy.{AffWhy}
 use Rattle.aff_lines.specs.declared.faults.AffWhy.TheVariants.{NotUtf8, OtherEncoding, LeftOut, MissingField, Twice, BadNumber, TooMany, TableShort, OtherFlag, BadCross, BadFlag, BadAlias, BadCondition, BadPattern}
-use Rattle.aff_lines.specs.declared.faults.Fault.{Fault}
 use Rattle.aff_lines.specs.declared.faults.AffFault.{AffFault}
 use Rattle.aff_lines.specs.declared.faults.AffFault.TheVariants.{At, NoMemory}
 
@@ -41,56 +42,36 @@ why_name BadAlias = codes "BadAlias"
 why_name BadCondition = codes "BadCondition"
 why_name BadPattern = codes "BadPattern"
 
--- whether a fault goes before another: it is at a lower line, or at the same line with a lower cause
+abbrev pub Fault : Type 0
+Fault = LineFault AffWhy
+
+-- ---- which fault is told: by line, and at one line by the place of its cause
+
 abbrev pub is_before : Fault → Fault → Bool
-is_before fault other =
-    nat_lt fault.line other.line || (fault.line == other.line && nat_lt (cause_number fault.why) (cause_number other.why))
+is_before = order.is_before cause_number
 
--- the earlier of two faults
 abbrev pub sooner : Option Fault → Option Fault → Option Fault
-sooner None other = other
-sooner (Some first) None = Some first
-sooner (Some first) (Some other) = if is_before other first then Some other else Some first
+sooner = order.sooner cause_number
 
--- the earliest of these faults
 abbrev pub least_of : List Fault → Option Fault
-least_of [] = None
-least_of (fault ∷ more) = sooner (Some fault) (least_of more)
+least_of = order.least_of cause_number
 
--- the earliest fault of two lists is the earlier of those of each
-abbrev pub FaultsJoin : Type 0
-FaultsJoin = (faults more : List Fault) → least_of (faults ++ more) ≡ sooner (least_of faults) (least_of more)
-
--- the earliest fault of the first pass that has one
 abbrev pub first_fault : List (List Fault) → Option Fault
-first_fault [] = None
-first_fault (faults ∷ later) = option_or (least_of faults) (first_fault later)
+first_fault = order.first_fault cause_number
 
-abbrev pub IsAmong : List Fault → Fault → Type 0
-IsAmong [] fault = ⊥
-IsAmong (first ∷ more) fault = (first ≡ fault) ⊎ IsAmong more fault
+abbrev pub IsLeast : (Fault → Type 0) → Fault → Type 0
+IsLeast = order.IsLeast cause_number
 
--- the fault is one of the pass with this number, from 0; a pass counts only where the passes before it have no fault
-abbrev pub IsFault : List (List Fault) → ℕ → Fault → Type 0
-IsFault [] pass fault = ⊥
-IsFault (faults ∷ later) zero fault = IsAmong faults fault
-IsFault (faults ∷ later) (suc pass) fault = (faults ≡ []) × IsFault later pass fault
-
--- the fault is one of the bad ones, and none of them goes before it
-pub record IsLeast (bad : Fault → Type 0) (fault : Fault) : Type 0 where
-  pub among : bad fault
-  pub first : (other : Fault) → bad other → is_before other fault ≡ false
-
--- what is found is the least of these faults, or they are none
 abbrev pub LeastIs : List Fault → Option Fault → Type 0
-LeastIs faults None = faults ≡ []
-LeastIs faults (Some fault) = IsLeast (IsAmong faults) fault
+LeastIs = order.LeastIs cause_number
 
--- what is found of each list is its least fault
+abbrev pub FaultsJoin : Type 0
+FaultsJoin = order.FaultsJoin cause_number
+
 abbrev pub FindsLeast : Type 0
-FindsLeast = (faults : List Fault) → LeastIs faults (least_of faults)
+FindsLeast = order.FindsLeast cause_number
 
 -- what is told of a file whose passes have these faults
 abbrev pub Refuses : List (List Fault) → AffFault → Type 0
-Refuses passes (At line why) = (pass : ℕ) × IsLeast (IsFault passes pass) (record { line = line; why = why })
+Refuses passes (At line why) = order.IsFirstFault cause_number passes (fault_at line why)
 Refuses passes NoMemory = Unit {0}

@@ -2,16 +2,17 @@
 use Rattle.std.specs.Prelude.{ℕ, ◌==◌, nat_le, List, [], ◌∷◌, ◌++◌, take, drop, length, Option, None, Some, if◌then◌else◌}
 use Rattle.std.specs.List.{flat_map}
 use Rattle.spell_types.specs.declared.flags.FlagKind.{FlagKind}
+use Rattle.line_faults.specs.Faults.{fault_at}
 use Rattle.aff_lines.specs.declared.faults.AffWhy.{AffWhy}
 use Rattle.aff_lines.specs.declared.faults.AffWhy.TheVariants.{LeftOut, Twice, TooMany, TableShort}
-use Rattle.aff_lines.specs.declared.faults.Fault.{Fault}
 use Rattle.aff_lines.specs.declared.names.Form.{Form}
 use Rattle.aff_lines.specs.declared.names.Row.{Row}
 use Rattle.aff_lines.specs.declared.rows.DirectiveLine.{DirectiveLine}
+use Rattle.aff_lines.specs.Faults.{Fault}
 use Rattle.aff_lines.specs.Causes.{unless, line_why, row_why, number_at}
 
 abbrev pub at : AffWhy → DirectiveLine → Fault
-at why line = record { line = line.number; why = why }
+at why line = fault_at line.number why
 
 abbrev pub faults_at : Option AffWhy → DirectiveLine → List Fault
 faults_at None line = []

@@ -6,19 +6,19 @@ use Rattle.text_lines.specs.Lines.{bad_line}
 use Rattle.spell_types.specs.declared.flags.FlagKind.{FlagKind}
 use Rattle.spell_types.specs.declared.flags.FlagKind.TheVariants.{Single}
 use Rattle.spell_types.specs.declared.flags.Flag.{Flag}
+use Rattle.line_faults.specs.Faults.{IsFault, fault_at}
 use Rattle.flag_sets.specs.declared.FlagFault.{FlagFault}
 use Rattle.flag_sets.specs.FlagTexts.{flag_field, one_flag}
 use Rattle.aff_lines.specs.declared.Directives.{Directives}
 use Rattle.aff_lines.specs.declared.faults.AffFault.{AffFault}
 use Rattle.aff_lines.specs.declared.faults.AffFault.TheVariants.{At, NoMemory}
 use Rattle.aff_lines.specs.declared.faults.AffWhy.TheVariants.{NotUtf8}
-use Rattle.aff_lines.specs.declared.faults.Fault.{Fault}
 use Rattle.aff_lines.specs.declared.names.Directive.{Directive}
 use Rattle.aff_lines.specs.declared.names.Form.{Form}
 use Rattle.aff_lines.specs.declared.names.Pass.{Pass}
 use Rattle.aff_lines.specs.declared.rows.DirectiveLine.{DirectiveLine}
 use Rattle.aff_lines.specs.Causes.{number_at, number_in, kind_named}
-use Rattle.aff_lines.specs.Faults.{first_fault, IsFault}
+use Rattle.aff_lines.specs.Faults.{Fault, first_fault}
 use Rattle.aff_lines.specs.Grammar.{once_faults, table_faults, all_left_out}
 use Rattle.aff_lines.specs.Rows.{rows_of, lines_of, value_of}
 use Rattle.aff_lines.specs.Names.{Description, is_of, directives_in}
@@ -97,7 +97,7 @@ aliases_said kind own = sets_in kind (table_rows own)
 -- the fault of the first line that is not UTF-8
 abbrev pub bad_faults : Option ℕ → List Fault
 bad_faults None = []
-bad_faults (Some line) = record { line = line; why = NotUtf8 } ∷ []
+bad_faults (Some line) = fault_at line NotUtf8 ∷ []
 
 -- the faults of the first three passes over these rows, where this is the first line that is not UTF-8
 abbrev pub passes_of : Option ℕ → List DirectiveLine → List (List Fault)
@@ -122,5 +122,5 @@ pub record Reads (bytes : List ℕ) (found : Directives) : Type 0 where
 
 -- the fault is the first of the passes
 abbrev pub IsFirst : List (List Fault) → AffFault → Type 0
-IsFirst passes (At line why) = first_fault passes ≡ Some (record { line = line; why = why })
+IsFirst passes (At line why) = first_fault passes ≡ Some (fault_at line why)
 IsFirst passes NoMemory = Unit {0}

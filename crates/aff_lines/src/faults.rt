@@ -1,7 +1,9 @@
-//! The causes of faults, and which of two faults is told.
+//! The causes of faults.
 
 ghost use Rattle.std.specs.Prelude.{◌≡◌};
-ghost use Rattle.aff_lines.specs.Faults.{cause_number, why_name, is_before, sooner};
+ghost use Rattle.aff_lines.specs.Faults.{cause_number, why_name};
+
+use line_faults::Cause;
 
 /// What is wrong with a line. Of two causes at one line the one that stands first here is told.
 #[derive(Clone, Copy, Debug, PartialEq, Eq)]
@@ -62,11 +64,7 @@ impl AffWhy {
 }
 
 /// A fault of an .aff file.
-#[derive(Clone, Copy, Debug, PartialEq, Eq)]
-pub struct Fault {
-    pub line: u64,
-    pub why: AffWhy,
-}
+pub type Fault = line_faults::Fault<AffWhy>;
 
 /// Why an .aff file is not read.
 #[derive(Clone, Copy, Debug, PartialEq, Eq)]
@@ -77,53 +75,26 @@ pub enum AffFault {
     NoMemory,
 }
 
-/// The earlier of two faults: the one at the lower line, and at one line the one whose cause stands first.
-pub fn sooner(first: Option<Fault>, other: Option<Fault>) -> Option<Fault>
-    ensures { result ≡ sooner first other }
-{
-    match (first, other) {
-        (None, other) => other,
-        (first, None) => first,
-        (Some(first), Some(other)) => Some(earlier(first, other)),
-    }
-}
+impl Cause for AffWhy {
+    ghost number = { cause_number };
 
-fn earlier(first: Fault, other: Fault) -> Fault
-    ensures { Some result ≡ sooner (Some first) (Some other) }
-{
-    if is_before(other, first) {
-        other
-    } else {
-        first
-    }
-}
-
-fn is_before(fault: Fault, other: Fault) -> bool
-    ensures { result ≡ is_before fault other }
-{
-    fault.line < other.line
-        || (fault.line == other.line && cause_number(fault.why) < cause_number(other.why))
-}
-
-/// The place of a cause among all causes, from 1.
-#[tactic(auto, unfolding(crate::specs::Faults::cause_number))]
-fn cause_number(why: AffWhy) -> u8
-    ensures { result ≡ cause_number why }
-{
-    match why {
-        AffWhy::NotUtf8 => 1,
-        AffWhy::OtherEncoding => 2,
-        AffWhy::LeftOut => 3,
-        AffWhy::MissingField => 4,
-        AffWhy::Twice => 5,
-        AffWhy::BadNumber => 6,
-        AffWhy::TooMany => 7,
-        AffWhy::TableShort => 8,
-        AffWhy::OtherFlag => 9,
-        AffWhy::BadCross => 10,
-        AffWhy::BadFlag => 11,
-        AffWhy::BadAlias => 12,
-        AffWhy::BadCondition => 13,
-        AffWhy::BadPattern => 14,
+    #[tactic(auto, unfolding(crate::specs::Faults::cause_number))]
+    fn number(self) -> u8 {
+        match self {
+            AffWhy::NotUtf8 => 1,
+            AffWhy::OtherEncoding => 2,
+            AffWhy::LeftOut => 3,
+            AffWhy::MissingField => 4,
+            AffWhy::Twice => 5,
+            AffWhy::BadNumber => 6,
+            AffWhy::TooMany => 7,
+            AffWhy::TableShort => 8,
+            AffWhy::OtherFlag => 9,
+            AffWhy::BadCross => 10,
+            AffWhy::BadFlag => 11,
+            AffWhy::BadAlias => 12,
+            AffWhy::BadCondition => 13,
+            AffWhy::BadPattern => 14,
+        }
     }
 }

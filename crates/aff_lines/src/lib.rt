@@ -8,13 +8,14 @@
 
 ghost use Rattle.std.specs.Prelude.{◌≡◌, ◌++◌, ℕ, List, None, Some, All, IfOk, IfErr, IfSome};
 ghost use Rattle.spell_types.specs.Flags.{AreOrdinary};
-ghost use Rattle.aff_lines.specs.declared.faults.Fault.{Fault};
-ghost use Rattle.aff_lines.specs.Faults.{first_fault, least_of, FaultsJoin, FindsLeast, IsFault, IsLeast, Refuses};
+ghost use Rattle.line_faults.specs.Faults.{IsFault};
+ghost use Rattle.aff_lines.specs.Faults.{Fault, first_fault, least_of, FaultsJoin, FindsLeast, IsLeast, Refuses};
 ghost use Rattle.aff_lines.specs.Passes.{early_passes, passes_of, Says, Reads, IsFirst, bad_faults, pass_faults};
 ghost use Rattle.aff_lines.specs.declared.names.Pass.{Pass};
 
 use crate::rows::read_rows;
 use crate::values::{kind_said, read_aliases};
+use line_faults::{first_of_passes, sooner};
 use lists::{Items, NoMemory};
 use spell_types::{FlagKind, FlagSet};
 use std::alloc::Global;
@@ -29,7 +30,7 @@ mod rows;
 mod values;
 
 pub use causes::{line_why, number_at, number_in, unless};
-pub use faults::{AffFault, AffWhy, Fault, sooner};
+pub use faults::{AffFault, AffWhy, Fault};
 pub use flagged_texts::{bare_text, flag_behind};
 pub use names::{
     Directive, Form, Pass, Row, directive_named, every_directive_has_one_row, no_name_stands_twice,
@@ -91,14 +92,13 @@ fn early_fault(bad: Option<u64>, rows: &[DirectiveLine]) -> Option<Fault>
     ensures { result ≡ first_fault (passes_of bad rows.now) }
 {
     let kind = kind_said(rows);
-    let first = encoding_fault(kind, bad, rows);
-    let second = find_fault(kind, rows, Pass::Second);
-    let third = find_fault(kind, rows, Pass::Third);
-    first.or(second.or(third))
+    let third = first_of_passes(find_fault(kind, rows, Pass::Third), None);
+    let second = first_of_passes(find_fault(kind, rows, Pass::Second), third);
+    first_of_passes(encoding_fault(kind, bad, rows), second)
 }
 
 /// The earliest fault of the first pass.
-#[tactic(auto, using(crate::proofs::FaultLemmas::least_append))]
+#[tactic(auto, using(line_faults::specs::Laws::least_append))]
 fn encoding_fault(kind: FlagKind, bad: Option<u64>, rows: &[DirectiveLine]) -> Option<Fault>
     ensures { result ≡ least_of (pass_faults kind rows.now Pass.First ++ bad_faults bad) }
 {
@@ -122,14 +122,18 @@ pub fn first_faults_are_least()
         → (pass : ℕ) (fault : Fault) → ¬ IsFault passes pass fault }
     ensures least { (passes : List (List Fault)) (fault : Fault) → first_fault passes ≡ Some fault
         → (pass : ℕ) × IsLeast (IsFault passes pass) fault }
-{}
+{
+    line_faults::first_faults_are_least::<AffWhy>();
+}
 
 /// The earliest fault of two lists of faults is the earlier of the earliest of each, and the earliest of one is its least
 /// fault, or there is none.
 pub fn earliest_faults()
     ensures join { FaultsJoin }
     ensures least { FindsLeast }
-{}
+{
+    line_faults::earliest_faults::<AffWhy>();
+}
 
 impl From<NoMemory> for AffFault {
     ghost use Rattle.aff_lines.specs.declared.faults.AffFault.{AffFault};

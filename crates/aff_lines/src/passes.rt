@@ -10,9 +10,10 @@ ghost use Rattle.aff_lines.specs.Passes.{form_faults, pass_faults, faults_in};
 ghost use Rattle.aff_lines.specs.Rows.{lines_of};
 
 use crate::causes::{line_why, number_at, row_why, unless};
-use crate::faults::{AffWhy, Fault, sooner};
+use crate::faults::{AffWhy, Fault};
 use crate::names::{Described, Directive, Form, Pass, Row, directives, is_of};
 use crate::rows::{DirectiveLine, count_of, next_of};
+use line_faults::sooner;
 use spell_types::FlagKind;
 
 /// How many rows a table may have.

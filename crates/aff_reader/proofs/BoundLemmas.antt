@@ -3,6 +3,7 @@ use Rattle.std.proofs.Common.{◌≡◌, ℕ, ◌+◌, ◌-◌, ◌≤◌, ◌==
 use Rattle.std.specs.List.{sum}
 use Rattle.std.specs.Option.{option_map, option_to_list}
 use Rattle.std.specs.Result.{result_ok}
+use Rattle.std.proofs.lemmas.Bool.{leb-true}
 use Rattle.std.proofs.lemmas.Bool.Decides.{nat_tests}
 use Rattle.std.proofs.lemmas.List.{length-append, append-nil}
 use Rattle.std.proofs.lemmas.List.Sums.{sum_by-cons}
@@ -10,10 +11,9 @@ use Rattle.spell_types.specs.declared.flags.Flag.{Flag}
 use Rattle.spell_types.specs.declared.flags.FlagKind.{FlagKind}
 use Rattle.spell_types.specs.declared.rules.Rule.{Rule}
 use Rattle.aff_lines.specs.declared.faults.AffWhy.TheVariants.{TooMany}
-use Rattle.aff_lines.specs.declared.faults.Fault.{Fault}
 use Rattle.aff_lines.specs.declared.rows.DirectiveLine.{DirectiveLine}
 use Rattle.aff_lines.specs.Causes.{unless}
-use Rattle.aff_lines.specs.Faults.{least_of, FindsLeast, LeastIs}
+use Rattle.aff_lines.specs.Faults.{Fault, least_of, FindsLeast, LeastIs}
 use Rattle.aff_lines.specs.Grammar.{faults_at}
 use Rattle.aff_reader.specs.declared.class_lines.Class.{Class}
 use Rattle.aff_reader.specs.declared.class_lines.Crossing.{Crossing}
@@ -301,16 +301,13 @@ pub second-none : {A : Type 0} (xs ys : List A) → xs ++ ys ≡ [] → ys ≡ [
 second-none [] ys h = h
 second-none (x ∷ xs) ys h = absurd cc
 
-test-within : (total limit : ℕ) → nat_le total limit ≡ true → total ≤ limit
-test-within total limit h = grind (arith, nat_tests)
-
 here-within : (kind : FlagKind) (limit : ℕ) (before : List DirectiveLine) (line : DirectiveLine) → announced kind before ≤ limit → limit_faults kind limit before line ≡ []
     → announced kind (before ++ line ∷ []) ≤ limit
 unfolding limit_faults
 here-within kind limit before line so_far none = by-test (heads (placed_after kind before line)) refl
   where
     by-total : (b : Bool) → nat_le (announced kind (before ++ line ∷ [])) limit ≡ b → faults_at (unless b TooMany) line ≡ [] → announced kind (before ++ line ∷ []) ≤ limit
-    by-total true h no_fault = test-within (announced kind (before ++ line ∷ [])) limit h
+    by-total true h no_fault = leb-true (announced kind (before ++ line ∷ [])) limit h
     by-total false h no_fault = absurd cc
 
     by-test : (b : Bool) → heads (placed_after kind before line) ≡ b → announced kind (before ++ line ∷ []) ≤ limit

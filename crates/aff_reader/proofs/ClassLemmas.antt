@@ -1,8 +1,8 @@
 -- What is known of the classes, one line after another.
-use Rattle.std.proofs.Common.{◌≡◌, ℕ, ◌==◌, ◌&&◌, Bool, true, false, cond, List, [], ◌∷◌, ◌++◌, Option, Some, None, refl, sym, ap, ◌∙◌, arith}
+use Rattle.std.proofs.Common.{◌≡◌, ℕ, ◌==◌, Bool, true, false, cond, List, [], ◌∷◌, ◌++◌, Option, Some, None, refl, sym, ap, ◌∙◌, arith}
 use Rattle.std.specs.Option.{option_map}
 use Rattle.std.specs.BTreeMap.{BTreeMap}
-use Rattle.std.proofs.lemmas.Bool.Decides.{nat_tests}
+use Rattle.std.proofs.lemmas.Bool.{and_parts, and_from, eqb-true, eq-eqb}
 use Rattle.std.proofs.lemmas.List.{append-nil}
 use Rattle.std.proofs.lemmas.List.Elements.{filter-append}
 use Rattle.spell_types.specs.declared.flags.FlagKind.{FlagKind}
@@ -25,32 +25,20 @@ same-side Prefix Suffix h = absurd cc
 same-side Suffix Prefix h = absurd cc
 same-side Suffix Suffix h = refl
 
-and-first : (a b : Bool) → (a && b) ≡ true → a ≡ true
-and-first true b h = refl
-and-first false b h = absurd cc
-
-and-second : (a b : Bool) → (a && b) ≡ true → b ≡ true
-and-second true b h = h
-and-second false b h = absurd cc
-
-same-number : (a b : ℕ) → (a == b) ≡ true → a ≡ b
-same-number a b h = grind (arith, nat_tests)
-
 pub same-class : (class other : Class) → is_same_class class other ≡ true → class ≡ other
 same-class class other h =
-    let side = same-side class.side other.side (and-first (is_same_side class.side other.side) (class.flag.0 == other.flag.0) h) in
-    let number = same-number class.flag.0 other.flag.0 (and-second (is_same_side class.side other.side) (class.flag.0 == other.flag.0) h) in
-    ap (λ s. class_with s class.flag) side ∙ ap (λ n. class_with other.side (record { 0 = n })) number
-
-self-side : (side : Side) → is_same_side side side ≡ true
-self-side Prefix = refl
-self-side Suffix = refl
-
-self-test : (side : Bool) (n : ℕ) → side ≡ true → (side && n == n) ≡ true
-self-test side n h = grind (arith, nat_tests)
+    let parts = and_parts (is_same_side class.side other.side) (class.flag.0 == other.flag.0) h in
+    ap (λ s. class_with s class.flag) (same-side class.side other.side parts.0)
+    ∙ ap (λ n. class_with other.side (record { 0 = n })) (eqb-true class.flag.0 other.flag.0 parts.1)
 
 pub same-self : (class : Class) → is_same_class class class ≡ true
-same-self class = self-test (is_same_side class.side class.side) class.flag.0 (self-side class.side)
+same-self class =
+    and_from (is_same_side class.side class.side) (class.flag.0 == class.flag.0) (same_side class.side)
+    (eq-eqb class.flag.0 class.flag.0 refl)
+  where
+    same_side : (side : Side) → is_same_side side side ≡ true
+    same_side Prefix = refl
+    same_side Suffix = refl
 
 -- the lines of a class, with one more
 

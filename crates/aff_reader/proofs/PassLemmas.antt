@@ -8,9 +8,9 @@ use Rattle.spell_types.specs.declared.flags.Flag.{Flag}
 use Rattle.spell_types.specs.declared.flags.FlagKind.{FlagKind}
 use Rattle.aff_lines.specs.declared.faults.AffFault.{AffFault}
 use Rattle.aff_lines.specs.declared.faults.AffFault.TheVariants.{At, NoMemory}
-use Rattle.aff_lines.specs.declared.faults.Fault.{Fault}
 use Rattle.aff_lines.specs.declared.rows.DirectiveLine.{DirectiveLine}
-use Rattle.aff_lines.specs.Faults.{least_of, first_fault, is_before, sooner, IsFault, IsLeast}
+use Rattle.line_faults.specs.Faults.{IsFault}
+use Rattle.aff_lines.specs.Faults.{Fault, least_of, first_fault, is_before, sooner, IsLeast}
 use Rattle.aff_lines.specs.Passes.{early_passes, IsFirst}
 use Rattle.aff_lines.specs.Rows.{rows_of}
 use Rattle.aff_reader.specs.Grammar.{kind_of, aliases_of, late_faults, aff_passes, aff_said, unless_fault, aff_read, AffReads, AffRefuses, IsRead}

@@ -1,5 +1,5 @@
 -- What the rows of tables say, one row after another.
-use Rattle.std.proofs.Common.{◌≡◌, ℕ, ◌+◌, ◌<◌, true, List, [], ◌∷◌, ◌++◌, length, take, filter, Option, Some, None, Result, Ok, Err, IfOk, refl, sym, ap, ◌∙◌, subst, arith, get_or}
+use Rattle.std.proofs.Common.{◌≡◌, ℕ, ◌+◌, ◌<◌, true, List, [], ◌∷◌, ◌++◌, length, take, filter, Option, Some, None, refl, sym, ap, ◌∙◌, arith, get_or}
 use Rattle.std.specs.Borrow.{Bor}
 use Rattle.std.specs.List.{cons_option, filter_map, flat_map, slice_get, slice_split}
 use Rattle.std.specs.Option.{option_to_list}
@@ -12,9 +12,8 @@ use Rattle.std.proofs.lemmas.List.Elements.{filter_map-append, filter_passes}
 use Rattle.std.proofs.lemmas.Option.{slice_get_within, get_or_from_slice_get}
 use Rattle.std.proofs.lemmas.Str.{encodes-chars}
 use Rattle.text_lines.specs.Fields.{fields, has_bytes, is_blank}
-use Rattle.aff_lines.specs.declared.faults.Fault.{Fault}
 use Rattle.aff_lines.specs.declared.rows.DirectiveLine.{DirectiveLine}
-use Rattle.aff_lines.specs.Faults.{sooner, least_of, FaultsJoin}
+use Rattle.aff_lines.specs.Faults.{Fault, sooner, least_of, FaultsJoin}
 use Rattle.aff_lines.specs.Passes.{lines_at}
 
 bytes-some : (piece : List ℕ) → has_bytes piece ≡ true → 0 < length piece
@@ -37,20 +36,16 @@ spelled-some (c ∷ cs) bs is some = omega arith
 pub chars-some : (bs : List ℕ) → IsUtf8 bs → 0 < length bs → 0 < length (chars bs)
 chars-some bs utf8 some = spelled-some (chars bs) bs (encodes-chars bs utf8) some
 
-pub made-some : {E : Type 0} (made : Result (List ℕ) E) (cs : List ℕ) → IfOk made (λ own. own ≡ cs) → 0 < length cs → IfOk made (λ own. 0 < length own)
-made-some (Ok own) cs is some = subst (λ (all : List ℕ). 0 < length all) (sym is) some
-made-some (Err fault) cs is some = tt
-
-one-or-none : {A : Type 0} (said : Option A) → cons_option said [] ≡ option_to_list said
-one-or-none None = refl
-one-or-none (Some own) = refl
-
 -- the lines of the rows up to the loop's place, and that of one row more
 lines-more : (rows : List (Bor DirectiveLine)) (place : ℕ) (row : Bor DirectiveLine) → place < length rows → row ≡ get_or rows place row
     → lines_at (take (place + 1) rows) ≡ lines_at (take place rows) ++ row.now ∷ []
 lines-more rows place row within is =
     ap lines_at (take_more rows place row within ∙ ap (λ (r : Bor DirectiveLine). take place rows ++ r ∷ []) (sym is))
     ∙ map-append (λ (l : Bor DirectiveLine). l.now) (take place rows) (row ∷ [])
+
+one-or-none : {A : Type 0} (said : Option A) → cons_option said [] ≡ option_to_list said
+one-or-none None = refl
+one-or-none (Some own) = refl
 
 -- a turn of a loop over the rows of a table
 pub table-turn : {A : Type 0} (said : DirectiveLine → Option A) (made pushed : List A) (rows : List (Bor DirectiveLine)) (place : ℕ) (row : Bor DirectiveLine)

@@ -8,12 +8,11 @@ use Rattle.std.proofs.lemmas.List.Sums.{sum_by-append}
 use Rattle.spell_types.specs.declared.flags.Flag.{Flag}
 use Rattle.spell_types.specs.declared.flags.FlagKind.{FlagKind}
 use Rattle.spell_types.specs.declared.rules.Rule.{Rule}
-use Rattle.aff_lines.specs.declared.faults.Fault.{Fault}
 use Rattle.aff_lines.specs.declared.rows.DirectiveLine.{DirectiveLine}
 use Rattle.aff_lines.specs.declared.faults.AffWhy.TheVariants.{TooMany}
 use Rattle.aff_lines.specs.Causes.{unless}
 use Rattle.aff_lines.specs.Grammar.{faults_at}
-use Rattle.aff_lines.specs.Faults.{sooner, least_of, FaultsJoin}
+use Rattle.aff_lines.specs.Faults.{Fault, sooner, least_of, FaultsJoin}
 use Rattle.aff_reader.specs.declared.class_lines.Classes.{Classes}
 use Rattle.aff_reader.specs.declared.class_lines.Placed.{Placed}
 use Rattle.aff_reader.specs.ClassLines.{side_of, placed_after, each_after, Knows}

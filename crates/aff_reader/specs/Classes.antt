@@ -8,8 +8,8 @@ use Rattle.spell_types.specs.declared.flags.Flag.{Flag}
 use Rattle.spell_types.specs.declared.rules.Rule.{Rule}
 use Rattle.spell_types.specs.declared.rules.Side.{Side}
 use Rattle.aff_lines.specs.declared.faults.AffWhy.TheVariants.{MissingField, BadNumber, TooMany, TableShort, BadCross, BadFlag}
-use Rattle.aff_lines.specs.declared.faults.Fault.{Fault}
 use Rattle.aff_lines.specs.declared.rows.DirectiveLine.{DirectiveLine}
+use Rattle.aff_lines.specs.Faults.{Fault}
 use Rattle.aff_lines.specs.Causes.{unless}
 use Rattle.aff_lines.specs.Grammar.{at, faults_at, past_faults}
 use Rattle.aff_reader.specs.declared.class_lines.Class.{Class}

@@ -1,6 +1,6 @@
 -- The compound rules of an .aff file: their faults, and what they say.
 use Rattle.std.specs.Prelude.{ℕ, List, [], unwrap_or, Option, option_and_then, Result, Ok, Err}
-use Rattle.std.specs.List.{filter_map, flat_map}
+use Rattle.std.specs.List.{flat_map}
 use Rattle.std.specs.Result.{result_ok, result_err}
 use Rattle.spell_types.specs.declared.flags.FlagKind.{FlagKind}
 use Rattle.spell_types.specs.declared.patterns.PatternStep.{PatternStep}
@@ -9,8 +9,8 @@ use Rattle.compound_pattern.specs.declared.reading.PatternFault.TheVariants.{Bad
 use Rattle.compound_pattern.specs.PatternTexts.{pattern_of}
 use Rattle.aff_lines.specs.declared.faults.AffWhy.{AffWhy}
 use Rattle.aff_lines.specs.declared.faults.AffWhy.TheVariants.{BadFlag, BadPattern}
-use Rattle.aff_lines.specs.declared.faults.Fault.{Fault}
 use Rattle.aff_lines.specs.declared.rows.DirectiveLine.{DirectiveLine}
+use Rattle.aff_lines.specs.Faults.{Fault}
 use Rattle.aff_lines.specs.Grammar.{faults_at}
 use Rattle.aff_lines.specs.Passes.{table_rows}
 use Rattle.aff_reader.specs.ClassLines.{field_of}
@@ -40,7 +40,3 @@ pattern_faults kind own = flat_map (text_faults kind) (unwrap_or (table_rows own
 -- the compound rule that a row says
 abbrev pub pattern_in : FlagKind → DirectiveLine → Option (List PatternStep)
 pattern_in kind row = option_and_then (λ text. result_ok (pattern_from kind text)) (field_of row 1)
-
--- the compound rules that the lines of COMPOUNDRULE list, in their order
-abbrev pub patterns_said : FlagKind → List DirectiveLine → List (List PatternStep)
-patterns_said kind own = filter_map (pattern_in kind) (unwrap_or (table_rows own) [])

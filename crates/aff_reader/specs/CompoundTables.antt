@@ -1,13 +1,11 @@
 -- What the tables of an .aff file say of compounds.
-use Rattle.std.specs.Prelude.{ℕ, ◌==◌, List, [], map, unwrap_or, Option, None, Some, if◌then◌else◌}
-use Rattle.std.specs.List.{filter_map}
+use Rattle.std.specs.Prelude.{ℕ, ◌==◌, List, map, Option, None, Some, if◌then◌else◌}
 use Rattle.std.specs.Str.{chars}
 use Rattle.spell_types.specs.declared.conversions.Rep.{Rep}
 use Rattle.spell_types.specs.declared.flags.FlagKind.{FlagKind}
 use Rattle.spell_types.specs.declared.joints.JointPattern.{JointPattern}
 use Rattle.aff_lines.specs.declared.rows.DirectiveLine.{DirectiveLine}
 use Rattle.aff_lines.specs.FlaggedTexts.{bare_text, flag_behind}
-use Rattle.aff_lines.specs.Passes.{table_rows}
 use Rattle.aff_reader.specs.AnchoredTexts.{anchored_of}
 use Rattle.aff_reader.specs.ClassLines.{field_of}
 use Rattle.aff_reader.specs.ClassRules.{is_zero, unless_zero}
@@ -28,10 +26,6 @@ rep_of _ _ = None
 abbrev pub rep_in : DirectiveLine → Option Rep
 rep_in row = rep_of (text_at row 1) (text_at row 2)
 
--- the misspellings that the lines of REP list, in their order
-abbrev pub reps_said : List DirectiveLine → List Rep
-reps_said own = filter_map rep_in (unwrap_or (table_rows own) [])
-
 -- Two parts that may not meet, by what is written for the left and for the right one. Only of the left one `0` is the word as
 -- it is.
 abbrev pub joint_with : FlagKind → List ℕ → List ℕ → JointPattern
@@ -50,7 +44,3 @@ joint_of kind _ _ = None
 -- the two parts that a row of CHECKCOMPOUNDPATTERN says
 abbrev pub joint_in : FlagKind → DirectiveLine → Option JointPattern
 joint_in kind row = joint_of kind (field_of row 1) (field_of row 2)
-
--- those that the lines of CHECKCOMPOUNDPATTERN list, in their order
-abbrev pub joints_said : FlagKind → List DirectiveLine → List JointPattern
-joints_said kind own = filter_map (joint_in kind) (unwrap_or (table_rows own) [])

@@ -8,18 +8,18 @@ use Rattle.spell_types.specs.declared.signs.Options.{Options}
 use Rattle.spell_types.specs.declared.signs.Signs.{Signs}
 use Rattle.aff_lines.specs.declared.faults.AffFault.{AffFault}
 use Rattle.aff_lines.specs.declared.faults.AffFault.TheVariants.{At, NoMemory}
-use Rattle.aff_lines.specs.declared.faults.Fault.{Fault}
 use Rattle.aff_lines.specs.declared.names.Directive.TheVariants as Directive
 use Rattle.aff_lines.specs.declared.names.Pass.TheVariants as Pass
 use Rattle.aff_lines.specs.declared.rows.DirectiveLine.{DirectiveLine}
-use Rattle.aff_lines.specs.Faults.{first_fault, IsFault, Refuses}
+use Rattle.line_faults.specs.Faults.{IsFault}
+use Rattle.aff_lines.specs.Faults.{Fault, first_fault, Refuses}
 use Rattle.aff_lines.specs.Passes.{early_passes, pass_faults, kind_said, aliases_said, flag_said, number_said, is_said, value_said}
 use Rattle.aff_lines.specs.Rows.{rows_of, lines_of}
 use Rattle.aff_reader.specs.ClassRules.{rule_without}
 use Rattle.aff_reader.specs.Classes.{class_faults, rules_said}
-use Rattle.aff_reader.specs.CompoundRules.{pattern_faults, patterns_said}
-use Rattle.aff_reader.specs.CompoundTables.{reps_said, joints_said}
-use Rattle.aff_reader.specs.Tables.{conversions_said, breaks_said}
+use Rattle.aff_reader.specs.CompoundRules.{pattern_faults, pattern_in}
+use Rattle.aff_reader.specs.CompoundTables.{rep_in, joint_in}
+use Rattle.aff_reader.specs.Tables.{table_said, conversion_in, breaks_said}
 
 -- the type of flags of a file
 abbrev pub kind_of : List ℕ → FlagKind
@@ -92,11 +92,11 @@ affixes_said kind aliases rows = record {
   options = options_said rows;
   ignore = ignored_said rows;
   wordchars = characters_said (value_said (lines_of Directive.WordCharacters rows));
-  iconv = conversions_said (lines_of Directive.InputConversion rows);
-  reps = reps_said (lines_of Directive.Replacement rows);
+  iconv = table_said conversion_in (lines_of Directive.InputConversion rows);
+  reps = table_said rep_in (lines_of Directive.Replacement rows);
   breaks = breaks_said (lines_of Directive.Break rows);
-  joints = joints_said kind (lines_of Directive.CheckCompoundPattern rows);
-  patterns = patterns_said kind (lines_of Directive.CompoundRule rows);
+  joints = table_said (joint_in kind) (lines_of Directive.CheckCompoundPattern rows);
+  patterns = table_said (pattern_in kind) (lines_of Directive.CompoundRule rows);
 }
 
 -- what a file without faults says

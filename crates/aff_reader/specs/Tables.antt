@@ -10,6 +10,10 @@ use Rattle.aff_lines.specs.Passes.{table_rows}
 use Rattle.aff_reader.specs.AnchoredTexts.{anchored_of}
 use Rattle.aff_reader.specs.ClassLines.{field_of}
 
+-- what the rows of a table say, in their order, where these are its lines
+abbrev pub table_said : {A : Type 0} → (DirectiveLine → Option A) → List DirectiveLine → List A
+table_said says own = filter_map says (unwrap_or (table_rows own) [])
+
 -- the characters of a field of a row; where the file has no fault each row has those that it needs
 abbrev pub text_at : DirectiveLine → ℕ → Option (List ℕ)
 text_at row k = option_map chars (field_of row k)
@@ -21,10 +25,6 @@ conversion_of _ _ = None
 -- the conversion that a row of ICONV says
 abbrev pub conversion_in : DirectiveLine → Option Conversion
 conversion_in row = conversion_of (text_at row 1) (text_at row 2)
-
--- the conversions that the lines of ICONV list, in their order
-abbrev pub conversions_said : List DirectiveLine → List Conversion
-conversions_said own = filter_map conversion_in (unwrap_or (table_rows own) [])
 
 -- the break pattern that a row of BREAK says
 abbrev pub break_in : DirectiveLine → Option Anchored

@@ -16,7 +16,8 @@ ghost use Rattle.aff_reader.specs.Classes.{says_cross, has_rules, header_faults,
 
 use crate::class_lines::{ClassSoFar, Classes, Placed, Role, count_of, field_of, is_text, side_of};
 use crate::class_rules::{read_rule, without_ignored};
-use aff_lines::{AffWhy, DirectiveLine, Fault, earliest_faults, fault_at, sooner, unless};
+use aff_lines::{AffWhy, DirectiveLine, Fault, earliest_faults, fault_at, unless};
+use line_faults::sooner;
 use lists::{Items, NoMemory};
 use spell_types::{FlagKind, FlagSet, Rule};
 use std::alloc::Global;

@@ -1,20 +1,19 @@
 //! The compound rules of an .aff file: their faults, and what they say.
 
-ghost use Rattle.std.specs.Prelude.{◌≡◌, ◌++◌, All, filter_map, IfOk, OnOk};
+ghost use Rattle.std.specs.Prelude.{◌≡◌, IfOk};
 ghost use Rattle.std.specs.List.{flat_map};
-ghost use Rattle.std.specs.Option.{option_to_list};
 ghost use Rattle.spell_types.specs.Sanity.{IsOrdinaryPattern};
 ghost use Rattle.aff_lines.specs.declared.names.Directive.{Directive};
 ghost use Rattle.aff_lines.specs.Faults.{least_of};
 ghost use Rattle.aff_lines.specs.Passes.{lines_at};
 ghost use Rattle.aff_lines.specs.Rows.{lines_of};
-ghost use Rattle.aff_reader.specs.CompoundRules.{pattern_from, pattern_why, text_faults, pattern_faults, pattern_in, patterns_said};
+ghost use Rattle.aff_reader.specs.CompoundRules.{pattern_from, pattern_why, text_faults, pattern_faults, pattern_in};
 
 use crate::class_lines::field_of;
-use aff_lines::{
-    AffWhy, Directive, DirectiveLine, Fault, earliest_faults, fault_at, sooner, table_rows,
-};
+use crate::row_values::RowValue;
+use aff_lines::{AffWhy, Directive, DirectiveLine, Fault, earliest_faults, fault_at, table_rows};
 use compound_pattern::{PatternFault, read_pattern};
+use line_faults::sooner;
 use lists::{Items, NoMemory};
 use spell_types::{FlagKind, Pattern};
 use std::alloc::Global;
@@ -34,19 +33,21 @@ pub(crate) fn pattern_fault(
     }
 }
 
-/// The compound rules: the rows of COMPOUNDRULE, for rows in which `pattern_fault` finds no fault.
-pub(crate) fn read_patterns(
-    alloc: Global,
-    kind: FlagKind,
-    rows: &[DirectiveLine],
-) -> Result<Items<Pattern>, NoMemory>
-    ensures said { IfOk result
-        (λ made. made ≡ patterns_said kind (lines_of Directive.CompoundRule rows.now)) }
-    ensures ordinary { IfOk result (All IsOrdinaryPattern) }
-{
-    match table_rows(alloc, Directive::CompoundRule, rows)? {
-        Some(listed) => listed_patterns(alloc, kind, &listed),
-        None => Ok(Items::new(alloc)),
+/// A row of COMPOUNDRULE, for rows in which `pattern_fault` finds no fault.
+impl RowValue for Pattern {
+    ghost said_in = { pattern_in };
+
+    ghost IsSound = { IsOrdinaryPattern };
+
+    fn read_row(
+        alloc: Global,
+        kind: FlagKind,
+        row: &DirectiveLine,
+    ) -> Result<Option<Pattern>, NoMemory> {
+        match field_of(row, 1) {
+            Some(text) => Ok(pattern_from(alloc, kind, text)?.ok()),
+            None => Ok(None),
+        }
     }
 }
 
@@ -65,41 +66,6 @@ fn listed_fault(
         found = sooner(found, fault_at(why, row));
     }
     Ok(found)
-}
-
-/// The compound rules that these rows say.
-fn listed_patterns(
-    alloc: Global,
-    kind: FlagKind,
-    rows: &[&DirectiveLine],
-) -> Result<Items<Pattern>, NoMemory>
-    ensures said { IfOk result (λ made. made ≡ filter_map (pattern_in kind) (lines_at rows.now)) }
-    ensures ordinary { IfOk result (All IsOrdinaryPattern) }
-{
-    let mut made = Items::new(alloc);
-    for row in rows {
-        push_pattern(alloc, &mut made, kind, row)?;
-    }
-    Ok(made)
-}
-
-/// Adds the compound rule that a row says, if it says one.
-fn push_pattern(
-    alloc: Global,
-    made: &mut Items<Pattern>,
-    kind: FlagKind,
-    row: &DirectiveLine,
-) -> Result<(), NoMemory>
-    ensures said { OnOk result (made.new ≡ made.old ++ option_to_list (pattern_in kind row.now)) }
-    ensures ordinary { All IsOrdinaryPattern made.old → OnOk result (All IsOrdinaryPattern made.new) }
-{
-    let Some(text) = field_of(row, 1) else {
-        return Ok(());
-    };
-    if let Ok(pattern) = pattern_from(alloc, kind, text)? {
-        made.push(pattern)?;
-    }
-    Ok(())
 }
 
 /// What is wrong with the text of a row, if it has one.

@@ -1,59 +1,47 @@
-//! What the tables of an .aff file say of compounds.
+//! What the rows of tables in an .aff file say of compounds.
 
-ghost use Rattle.std.specs.Prelude.{◌≡◌, ◌++◌, ◌<◌, All, length, filter_map, IfOk, OnOk};
-ghost use Rattle.std.specs.Option.{option_to_list};
+ghost use Rattle.std.specs.Prelude.{◌≡◌, ◌<◌, Some, length, IfOk};
 ghost use Rattle.spell_types.specs.Sanity.{IsOrdinaryJoint};
-ghost use Rattle.aff_lines.specs.declared.names.Directive.{Directive};
-ghost use Rattle.aff_lines.specs.Passes.{lines_at};
-ghost use Rattle.aff_lines.specs.Rows.{lines_of};
-ghost use Rattle.aff_reader.specs.CompoundTables.{meant_by, spaced, rep_in, reps_said, joint_with, joint_in, joints_said};
+ghost use Rattle.aff_reader.specs.CompoundTables.{meant_by, spaced, rep_of, rep_in, joint_with, joint_in};
 
 use crate::anchored_texts::read_anchored;
 use crate::class_lines::field_of;
 use crate::class_rules::{is_zero, unless_zero};
+use crate::row_values::RowValue;
 use crate::tables::text_at;
-use aff_lines::{Directive, DirectiveLine, bare_text, flag_behind, table_rows};
+use aff_lines::{DirectiveLine, bare_text, flag_behind};
 use lists::{Items, NoMemory};
 use spell_types::{Chars, FlagKind, JointPattern, Rep, chars_of};
 use std::alloc::Global;
 
-/// Common misspellings: the rows of REP.
-pub(crate) fn read_reps(alloc: Global, rows: &[DirectiveLine]) -> Result<Items<Rep>, NoMemory>
-    ensures said { IfOk result (λ made. made ≡ reps_said (lines_of Directive.Replacement rows.now)) }
-    ensures some { IfOk result (All (λ rep. 0 < length rep.from.text)) }
-{
-    match table_rows(alloc, Directive::Replacement, rows)? {
-        Some(listed) => listed_reps(alloc, &listed),
-        None => Ok(Items::new(alloc)),
+/// A row of REP: a common misspelling.
+impl RowValue for Rep {
+    ghost said_in = { λ kind. rep_in };
+
+    ghost IsSound = { λ rep. 0 < length rep.from.text };
+
+    fn read_row(
+        alloc: Global,
+        _kind: FlagKind,
+        row: &DirectiveLine,
+    ) -> Result<Option<Rep>, NoMemory> {
+        match (text_at(alloc, row, 1)?, text_at(alloc, row, 2)?) {
+            (Some(from), Some(to)) => Ok(Some(rep_of(alloc, &from, &to)?)),
+            _ => Ok(None),
+        }
     }
 }
 
-/// The misspellings that the rows of REP say.
-fn listed_reps(alloc: Global, rows: &[&DirectiveLine]) -> Result<Items<Rep>, NoMemory>
-    ensures said { IfOk result (λ made. made ≡ filter_map rep_in (lines_at rows.now)) }
-    ensures some { IfOk result (All (λ rep. 0 < length rep.from.text)) }
+/// The misspelling of two texts of REP.
+fn rep_of(alloc: Global, from: &[char], to: &[char]) -> Result<Rep, NoMemory>
+    ensures said { IfOk result (λ rep. Some rep ≡ rep_of (Some from.now) (Some to.now)) }
+    ensures some { 0 < length from.now → IfOk result (λ rep. 0 < length rep.from.text) }
 {
-    let mut made = Items::new(alloc);
-    for row in rows {
-        push_rep(alloc, &mut made, row)?;
-    }
-    Ok(made)
-}
-
-/// Adds the misspelling that a row says.
-fn push_rep(alloc: Global, made: &mut Items<Rep>, row: &DirectiveLine) -> Result<(), NoMemory>
-    ensures said { OnOk result (made.new ≡ made.old ++ option_to_list (rep_in row.now)) }
-    ensures some { All (λ rep. 0 < length rep.from.text) made.old
-        → OnOk result (All (λ rep. 0 < length rep.from.text) made.new) }
-{
-    if let (Some(from), Some(to)) = (text_at(alloc, row, 1)?, text_at(alloc, row, 2)?) {
-        let from = spaced(alloc, &from)?;
-        made.push(Rep {
-            from: read_anchored(alloc, &from)?,
-            to: spaced(alloc, &to)?,
-        })?;
-    }
-    Ok(())
+    let from = spaced(alloc, from)?;
+    Ok(Rep {
+        from: read_anchored(alloc, &from)?,
+        to: spaced(alloc, to)?,
+    })
 }
 
 /// The characters that a text of REP stands for.
@@ -71,52 +59,22 @@ fn meant_by(c: char) -> char
     if c == '_' { ' ' } else { c }
 }
 
-/// The parts that may not meet: the rows of CHECKCOMPOUNDPATTERN.
-pub(crate) fn read_joints(
-    alloc: Global,
-    kind: FlagKind,
-    rows: &[DirectiveLine],
-) -> Result<Items<JointPattern>, NoMemory>
-    ensures said { IfOk result
-        (λ made. made ≡ joints_said kind (lines_of Directive.CheckCompoundPattern rows.now)) }
-    ensures ordinary { IfOk result (All IsOrdinaryJoint) }
-{
-    match table_rows(alloc, Directive::CheckCompoundPattern, rows)? {
-        Some(listed) => listed_joints(alloc, kind, &listed),
-        None => Ok(Items::new(alloc)),
-    }
-}
+/// A row of CHECKCOMPOUNDPATTERN: parts that may not meet.
+impl RowValue for JointPattern {
+    ghost said_in = { joint_in };
 
-/// The parts that the rows of CHECKCOMPOUNDPATTERN say.
-fn listed_joints(
-    alloc: Global,
-    kind: FlagKind,
-    rows: &[&DirectiveLine],
-) -> Result<Items<JointPattern>, NoMemory>
-    ensures said { IfOk result (λ made. made ≡ filter_map (joint_in kind) (lines_at rows.now)) }
-    ensures ordinary { IfOk result (All IsOrdinaryJoint) }
-{
-    let mut made = Items::new(alloc);
-    for row in rows {
-        push_joint(alloc, &mut made, kind, row)?;
-    }
-    Ok(made)
-}
+    ghost IsSound = { IsOrdinaryJoint };
 
-/// Adds the parts that a row says.
-fn push_joint(
-    alloc: Global,
-    made: &mut Items<JointPattern>,
-    kind: FlagKind,
-    row: &DirectiveLine,
-) -> Result<(), NoMemory>
-    ensures said { OnOk result (made.new ≡ made.old ++ option_to_list (joint_in kind row.now)) }
-    ensures ordinary { All IsOrdinaryJoint made.old → OnOk result (All IsOrdinaryJoint made.new) }
-{
-    if let (Some(left), Some(right)) = (field_of(row, 1), field_of(row, 2)) {
-        made.push(joint_with(alloc, kind, left, right)?)?;
+    fn read_row(
+        alloc: Global,
+        kind: FlagKind,
+        row: &DirectiveLine,
+    ) -> Result<Option<JointPattern>, NoMemory> {
+        match (field_of(row, 1), field_of(row, 2)) {
+            (Some(left), Some(right)) => Ok(Some(joint_with(alloc, kind, left, right)?)),
+            _ => Ok(None),
+        }
     }
-    Ok(())
 }
 
 /// Two parts that may not meet, by what is written for each of them.

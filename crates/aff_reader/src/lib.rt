@@ -11,16 +11,17 @@ ghost use Rattle.aff_reader.specs.Grammar.{AffReads, AffRefuses, IsRead, aff_rea
 
 use aff_lines::{
     AffFault, Directive, DirectiveLine, Directives, Fault, Pass, earliest_faults, find_fault,
-    first_faults_are_least, flag_said, is_said, number_said, read_directives, sooner, value_said,
+    first_faults_are_least, flag_said, is_said, number_said, read_directives, value_said,
 };
 pub use classes::classes_have_their_rules;
 use classes::{class_fault, read_rules};
-use compound_rules::{pattern_fault, read_patterns};
-use compound_tables::{read_joints, read_reps};
+use compound_rules::pattern_fault;
+use line_faults::sooner;
 use lists::{Items, NoMemory};
+use row_values::read_table;
 use spell_types::{Affixes, Chars, FlagKind, FlagSet, Options, Signs, alias_sets, chars_of};
 use std::alloc::Global;
-use tables::{read_breaks, read_conversions};
+use tables::read_breaks;
 
 mod anchored_texts;
 mod class_lines;
@@ -28,6 +29,7 @@ mod class_rules;
 mod classes;
 mod compound_rules;
 mod compound_tables;
+mod row_values;
 mod tables;
 
 /// How many characters a part of a compound has at least where the file doesn't say.
@@ -112,11 +114,11 @@ fn read_affixes(
         options: options_of(rows),
         ignore,
         wordchars: characters_of(alloc, value_said(Directive::WordCharacters, rows))?,
-        iconv: read_conversions(alloc, rows)?,
-        reps: read_reps(alloc, rows)?,
-        breaks: read_breaks(alloc, rows)?,
-        joints: read_joints(alloc, kind, rows)?,
-        patterns: read_patterns(alloc, kind, rows)?,
+        iconv: read_table(alloc, kind, Directive::InputConversion, rows)?,
+        reps: read_table(alloc, kind, Directive::Replacement, rows)?,
+        breaks: read_breaks(alloc, kind, rows)?,
+        joints: read_table(alloc, kind, Directive::CheckCompoundPattern, rows)?,
+        patterns: read_table(alloc, kind, Directive::CompoundRule, rows)?,
     })
 }
 

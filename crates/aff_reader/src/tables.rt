@@ -1,103 +1,68 @@
-//! What the tables of an .aff file say.
+//! What the rows of tables in an .aff file say: of conversions, and of places where words may be broken.
 
-ghost use Rattle.std.specs.Prelude.{◌≡◌, ◌++◌, ◌<◌, ℕ, List, Some, All, length, filter_map, IfOk, OnOk};
-ghost use Rattle.std.specs.Option.{option_to_list};
+ghost use Rattle.std.specs.Prelude.{◌≡◌, ◌<◌, ℕ, List, Some, All, length, IfOk};
 ghost use Rattle.std.specs.Str.{chars};
 ghost use Rattle.aff_lines.specs.declared.names.Directive.{Directive};
-ghost use Rattle.aff_lines.specs.Passes.{lines_at};
 ghost use Rattle.aff_lines.specs.Rows.{lines_of};
-ghost use Rattle.aff_reader.specs.Tables.{text_at, conversion_in, conversions_said, break_in, default_breaks, breaks_said};
+ghost use Rattle.aff_reader.specs.Tables.{text_at, conversion_in, break_in, default_breaks, breaks_said};
 
 use crate::anchored_texts::read_anchored;
 use crate::class_lines::field_of;
+use crate::row_values::{RowValue, read_listed};
 use aff_lines::{Directive, DirectiveLine, table_rows};
 use lists::{Items, NoMemory};
-use spell_types::{Anchored, Chars, Conversion, chars_of};
+use spell_types::{Anchored, Chars, Conversion, FlagKind, chars_of};
 use std::alloc::Global;
 
-/// The conversions of input: the rows of ICONV.
-pub(crate) fn read_conversions(
-    alloc: Global,
-    rows: &[DirectiveLine],
-) -> Result<Items<Conversion>, NoMemory>
-    ensures said { IfOk result
-        (λ made. made ≡ conversions_said (lines_of Directive.InputConversion rows.now)) }
-    ensures some { IfOk result (All (λ row. 0 < length row.from)) }
-{
-    match table_rows(alloc, Directive::InputConversion, rows)? {
-        Some(listed) => listed_conversions(alloc, &listed),
-        None => Ok(Items::new(alloc)),
+/// A row of ICONV.
+impl RowValue for Conversion {
+    ghost said_in = { λ kind. conversion_in };
+
+    ghost IsSound = { λ row. 0 < length row.from };
+
+    fn read_row(
+        alloc: Global,
+        _kind: FlagKind,
+        row: &DirectiveLine,
+    ) -> Result<Option<Conversion>, NoMemory> {
+        match (text_at(alloc, row, 1)?, text_at(alloc, row, 2)?) {
+            (Some(from), Some(to)) => Ok(Some(Conversion { from, to })),
+            _ => Ok(None),
+        }
+    }
+}
+
+/// A row of BREAK.
+impl RowValue for Anchored {
+    ghost said_in = { λ kind. break_in };
+
+    ghost IsSound = { λ anchored. 0 < length anchored.text };
+
+    fn read_row(
+        alloc: Global,
+        _kind: FlagKind,
+        row: &DirectiveLine,
+    ) -> Result<Option<Anchored>, NoMemory> {
+        match text_at(alloc, row, 1)? {
+            Some(text) => Ok(Some(read_anchored(alloc, &text)?)),
+            None => Ok(None),
+        }
     }
 }
 
 /// Where words may be broken: the rows of BREAK, or what holds without that option.
 pub(crate) fn read_breaks(
     alloc: Global,
+    kind: FlagKind,
     rows: &[DirectiveLine],
 ) -> Result<Items<Anchored>, NoMemory>
     ensures said { IfOk result (λ made. made ≡ breaks_said (lines_of Directive.Break rows.now)) }
     ensures some { IfOk result (All (λ anchored. 0 < length anchored.text)) }
 {
     match table_rows(alloc, Directive::Break, rows)? {
-        Some(listed) => listed_breaks(alloc, &listed),
+        Some(listed) => read_listed(alloc, kind, &listed),
         None => default_breaks(alloc),
     }
-}
-
-/// The conversions that the rows of ICONV say.
-fn listed_conversions(alloc: Global, rows: &[&DirectiveLine]) -> Result<Items<Conversion>, NoMemory>
-    ensures said { IfOk result (λ made. made ≡ filter_map conversion_in (lines_at rows.now)) }
-    ensures some { IfOk result (All (λ row. 0 < length row.from)) }
-{
-    let mut made = Items::new(alloc);
-    for row in rows {
-        push_conversion(alloc, &mut made, row)?;
-    }
-    Ok(made)
-}
-
-/// Adds the conversion that a row says.
-fn push_conversion(
-    alloc: Global,
-    made: &mut Items<Conversion>,
-    row: &DirectiveLine,
-) -> Result<(), NoMemory>
-    ensures said { OnOk result (made.new ≡ made.old ++ option_to_list (conversion_in row.now)) }
-    ensures some { All (λ row. 0 < length row.from) made.old
-        → OnOk result (All (λ row. 0 < length row.from) made.new) }
-{
-    if let (Some(from), Some(to)) = (text_at(alloc, row, 1)?, text_at(alloc, row, 2)?) {
-        made.push(Conversion { from, to })?;
-    }
-    Ok(())
-}
-
-/// The break patterns that the rows of BREAK say.
-fn listed_breaks(alloc: Global, rows: &[&DirectiveLine]) -> Result<Items<Anchored>, NoMemory>
-    ensures said { IfOk result (λ made. made ≡ filter_map break_in (lines_at rows.now)) }
-    ensures some { IfOk result (All (λ anchored. 0 < length anchored.text)) }
-{
-    let mut made = Items::new(alloc);
-    for row in rows {
-        push_break(alloc, &mut made, row)?;
-    }
-    Ok(made)
-}
-
-/// Adds the break pattern that a row says.
-fn push_break(
-    alloc: Global,
-    made: &mut Items<Anchored>,
-    row: &DirectiveLine,
-) -> Result<(), NoMemory>
-    ensures said { OnOk result (made.new ≡ made.old ++ option_to_list (break_in row.now)) }
-    ensures some { All (λ anchored. 0 < length anchored.text) made.old
-        → OnOk result (All (λ anchored. 0 < length anchored.text) made.new) }
-{
-    if let Some(text) = text_at(alloc, row, 1)? {
-        made.push(read_anchored(alloc, &text)?)?;
-    }
-    Ok(())
 }
 
 /// The break patterns of a file that has no line BREAK.

@@ -1,17 +1,19 @@
 -- The word, the flags and the faults of an entry.
-use Rattle.std.proofs.Common.{◌≡◌, ◌≢◌, ℕ, ◌==◌, Bool, true, false, cond, List, [], ◌∷◌, ◌++◌, length, map, Option, Some, None, Err, Bor, unwrap_or, refl, sym, ap, ◌∙◌, subst, arith, append_assoc, lit<}
+use Rattle.std.proofs.Common.{◌≡◌, ◌≢◌, ℕ, ◌==◌, Bool, true, false, cond, List, [], ◌∷◌, ◌++◌, length, map, Option, Some, None, Err, Bor, unwrap_or, refl, sym, ap, ◌∙◌, subst, append_assoc, lit<}
 use Rattle.std.specs.List.{AllByRecursion}
 use Rattle.std.specs.Option.{option_copied}
 use Rattle.std.specs.Str.{chars, IsUtf8}
-use Rattle.std.proofs.lemmas.Bool.Decides.{nat_tests}
+use Rattle.std.proofs.lemmas.Bool.{ne_eqb}
 use Rattle.std.proofs.lemmas.Str.{chars-append, IsUtf8-encode, encode_ascii}
 use Rattle.spell_types.specs.declared.Affixes.{Affixes}
 use Rattle.flag_sets.specs.Slashes.{before_slash, behind_slash}
 use Rattle.dic_reader.specs.declared.faults.DicWhy.{DicWhy}
 use Rattle.dic_reader.specs.declared.faults.DicWhy.TheVariants.{EmptyWord}
 use Rattle.dic_reader.specs.Entries.{Listed, entry_at, flag_text, whole_word, word_of, flags_of}
-use Rattle.dic_reader.specs.Faults.{Fault, fault_at, least_of, word_faults, flag_whys, flag_faults, entry_faults, entry_said, unless_fault, entry_read}
-use Rattle.dic_reader.proofs.FaultLemmas.{flags-behind-word, none-before-stays}
+use Rattle.dic_reader.specs.Faults.{Fault, cause_number, least_of, word_faults, flag_whys, flag_faults, entry_faults, entry_said, entry_read}
+use Rattle.dic_reader.proofs.FaultLemmas.{flags-behind-word}
+use Rattle.line_faults.specs.Faults.{fault_at, unless_fault}
+use Rattle.line_faults.specs.Laws.{none-before-stays}
 use Rattle.lists.specs.Laws.{each-append}
 
 -- ---- the word and the flags of an entry
@@ -43,16 +45,13 @@ front-flags entry rest stripped result found place is same behind given =
     ap (λ r. r.now) given ∙ opened found place ∙ ap (λ o. unwrap_or o []) (behind ∙ ap (λ r. behind_slash r.now) same) ∙ sym (ap flag_text is)
 
 -- where no slash stands at the front
-unequal : (b n : ℕ) → (b ≡ n → ⊥) → (b == n) ≡ false
-unequal b n other = grind (arith, nat_tests)
-
 plain-word-of : (entry : List ℕ) → ((rest : List ℕ) → entry ≢ 47 ∷ rest) → whole_word entry ≡ chars (before_slash entry)
 plain-word-of [] plain = refl
-plain-word-of (c ∷ more) plain = ap (λ t. chars (cond t (c ∷ before_slash more) (before_slash (c ∷ more)))) (unequal c 47 (λ is. plain more (ap (λ n. n ∷ more) is)))
+plain-word-of (c ∷ more) plain = ap (λ t. chars (cond t (c ∷ before_slash more) (before_slash (c ∷ more)))) (ne_eqb c 47 (λ is. plain more (ap (λ n. n ∷ more) is)))
 
 plain-flag-text : (entry : List ℕ) → ((rest : List ℕ) → entry ≢ 47 ∷ rest) → flag_text entry ≡ unwrap_or (behind_slash entry) []
 plain-flag-text [] plain = refl
-plain-flag-text (c ∷ more) plain = ap (λ t. unwrap_or (behind_slash (cond t more (c ∷ more))) []) (unequal c 47 (λ is. plain more (ap (λ n. n ∷ more) is)))
+plain-flag-text (c ∷ more) plain = ap (λ t. unwrap_or (behind_slash (cond t more (c ∷ more))) []) (ne_eqb c 47 (λ is. plain more (ap (λ n. n ∷ more) is)))
 
 pub plain-word : (old word new : List ℕ) (rest entry : Bor (List ℕ)) → ((more : List ℕ) → entry.now ≢ 47 ∷ more) → rest ≡ entry
     → word ≡ old → new ≡ word ++ chars (before_slash rest.now) → new ≡ old ++ whole_word entry.now
@@ -93,4 +92,4 @@ no-word affixes number text word is empty =
     let flags = flag_faults affixes (entry_at number text) in
     ap (λ w. unless_fault (least_of (cond (length w == 0) (fault ∷ []) [] ++ flags)) (entry_said affixes (entry_at number text))) (sym is)
     ∙ ap (λ b. unless_fault (least_of (cond b (fault ∷ []) [] ++ flags)) (entry_said affixes (entry_at number text))) empty
-    ∙ ap (λ o. unless_fault o (entry_said affixes (entry_at number text))) (none-before-stays fault flags (flags-behind-word number (flags_of affixes text)))
+    ∙ ap (λ o. unless_fault o (entry_said affixes (entry_at number text))) (none-before-stays cause_number fault flags (flags-behind-word number (flags_of affixes text)))

@@ -1,15 +1,20 @@
 -- The first fault of entries whose lines rise.
-use Rattle.std.proofs.Common.{◌≡◌, ℕ, ◌+◌, ◌<◌, ◌≤◌, Bool, true, false, cond, List, [], ◌∷◌, ◌++◌, length, map, drop, Some, None, refl, sym, ap, ◌∙◌, subst, arith, get_or, add-one, suc, zero}
+use Rattle.std.proofs.Common.{◌≡◌, ℕ, ◌+◌, ◌<◌, ◌≤◌, Bool, true, false, cond, List, [], ◌∷◌, ◌++◌, length, map, drop, Some, None, refl, sym, ap, ◌∙◌, subst, arith, get_or, suc, zero, All, length-drop}
 use Rattle.std.specs.List.{cons_option, slice_get, flat_map, range_with_len, AllByRecursion, AllPairs}
 use Rattle.std.proofs.lemmas.Grind.{flat_map-append}
+use Rattle.std.proofs.lemmas.List.{get_or-drop, get_or-map, get_or_default}
+use Rattle.std.proofs.lemmas.List.FromFn.{get_or-range_with_len}
+use Rattle.std.proofs.lemmas.Option.{slice_get_past}
 use Rattle.text_lines.specs.declared.found.Line.{Line}
 use Rattle.text_lines.specs.Lines.{text_of}
 use Rattle.spell_types.specs.declared.Affixes.{Affixes}
 use Rattle.dic_reader.specs.declared.faults.DicWhy.TheVariants.{TooMany}
 use Rattle.dic_reader.specs.Entries.{Listed, entry_at, entry_of, is_passed_over, listed}
-use Rattle.dic_reader.specs.Faults.{Fault, fault_at, is_before, sooner, least_of, entry_faults, too_many, many_faults, entries_faults}
-use Rattle.dic_reader.proofs.FaultLemmas.{NoneBefore, BeforeEach, lower-line, higher-line, too-many-last, least_append, each-least, none-before-stays, before-each-wins}
-use Rattle.lists.specs.Laws.{each-append, each-weaker}
+use Rattle.line_faults.specs.Faults.{is_before, sooner, fault_at}
+use Rattle.line_faults.specs.Laws.{NoneBefore, BeforeEach, lower-line, higher-line, least_append, each-least, none-before-stays, before-each-wins}
+use Rattle.lists.specs.Laws.{each-append, each-weaker, each-flat_map}
+use Rattle.dic_reader.specs.Faults.{Fault, cause_number, least_of, entry_faults, too_many, many_faults, entries_faults}
+use Rattle.dic_reader.proofs.FaultLemmas.{too-many-last}
 use Rattle.dic_reader.proofs.EntryLemmas.{IsAtLine, faults-at}
 
 -- ---- the faults of entries at higher lines
@@ -23,11 +28,14 @@ AreBehind number entries = AllByRecursion (λ (entry : Listed). number < entry.n
 -- what holds of each fault at a higher line holds of the faults of entries at higher lines
 own-behind : (affixes : Affixes) (P : Fault → Type 0) (number : ℕ) → ((fault : Fault) → number < fault.line → P fault)
     → (entries : List Listed) → AreBehind number entries → AllByRecursion P (own_faults affixes entries)
-own-behind affixes P number holds [] behind = tt
-own-behind affixes P number holds (entry ∷ more) behind =
-    each-append P (entry_faults affixes entry) (own_faults affixes more)
-    (each-weaker (IsAtLine entry.number) P (λ fault same. holds fault (omega (arith, same, behind.0))) (entry_faults affixes entry) (faults-at affixes entry))
-    (own-behind affixes P number holds more behind.1)
+own-behind affixes P number holds entries behind =
+    each-flat_map P (entry_faults affixes) entries
+    (each-weaker (λ (entry : Listed). number < entry.number) (λ entry. AllByRecursion P (entry_faults affixes entry)) own entries behind)
+  where
+    own : (entry : Listed) → number < entry.number → AllByRecursion P (entry_faults affixes entry)
+    own entry above =
+        each-weaker (IsAtLine entry.number) P (λ fault same. holds fault (omega (arith, same, above)))
+        (entry_faults affixes entry) (faults-at affixes entry)
 
 many-behind : (P : Fault → Type 0) (number : ℕ) → ((fault : Fault) → number < fault.line → P fault)
     → (limit : ℕ) (entries : List Listed) → AreBehind number entries → AllByRecursion P (many_faults limit entries)
@@ -58,20 +66,20 @@ pub own-fault : (affixes : Affixes) (limit : ℕ) (earlier : List Listed) (entry
     → least_of (entries_faults affixes limit (earlier ++ entry ∷ more)) ≡ Some fault
 own-fault affixes limit earlier entry more fault fine few behind own =
     let all = earlier ++ entry ∷ more in
-    let here : fault.line ≡ entry.number = each-least (IsAtLine entry.number) (entry_faults affixes entry) fault (faults-at affixes entry) own in
-    let holds = λ (other : Fault) (above : entry.number < other.line). higher-line fault other (omega (arith, here, above)) in
-    let later : NoneBefore fault (own_faults affixes more) = own-behind affixes (λ other. is_before other fault ≡ false) entry.number holds more behind in
-    let many : NoneBefore fault (many_faults limit all) =
-    many-seam (λ other. is_before other fault ≡ false) earlier entry more limit few (too-many-last fault entry.number here)
-    (λ left. many-behind (λ other. is_before other fault ≡ false) entry.number holds left more behind) in
+    let here : fault.line ≡ entry.number = each-least cause_number (IsAtLine entry.number) (entry_faults affixes entry) fault (faults-at affixes entry) own in
+    let holds = λ (other : Fault) (above : entry.number < other.line). higher-line cause_number fault other (omega (arith, here, above)) in
+    let later : NoneBefore cause_number fault (own_faults affixes more) = own-behind affixes (λ other. is_before cause_number other fault ≡ false) entry.number holds more behind in
+    let many : NoneBefore cause_number fault (many_faults limit all) =
+    many-seam (λ other. is_before cause_number other fault ≡ false) earlier entry more limit few (too-many-last fault entry.number here)
+    (λ left. many-behind (λ other. is_before cause_number other fault ≡ false) entry.number holds left more behind) in
     let first : least_of (own_faults affixes all) ≡ Some fault =
     ap least_of (own-seam affixes earlier entry more fine)
-    ∙ least_append (entry_faults affixes entry) (own_faults affixes more)
-    ∙ ap (λ o. sooner o (least_of (own_faults affixes more))) own
-    ∙ none-before-stays fault (own_faults affixes more) later in
-    least_append (own_faults affixes all) (many_faults limit all)
-    ∙ ap (λ o. sooner o (least_of (many_faults limit all))) first
-    ∙ none-before-stays fault (many_faults limit all) many
+    ∙ least_append cause_number (entry_faults affixes entry) (own_faults affixes more)
+    ∙ ap (λ o. sooner cause_number o (least_of (own_faults affixes more))) own
+    ∙ none-before-stays cause_number fault (own_faults affixes more) later in
+    least_append cause_number (own_faults affixes all) (many_faults limit all)
+    ∙ ap (λ o. sooner cause_number o (least_of (many_faults limit all))) first
+    ∙ none-before-stays cause_number fault (many_faults limit all) many
 
 slice_get-seam : (entries : List Listed) (entry : Listed) (more : List Listed) → slice_get (entries ++ entry ∷ more) (length entries) ≡ Some entry
 slice_get-seam [] entry more = refl
@@ -83,25 +91,20 @@ pub many-fault : (affixes : Affixes) (limit : ℕ) (earlier : List Listed) (entr
 many-fault affixes limit earlier entry more fine full behind own =
     let all = earlier ++ entry ∷ more in
     let fault = fault_at entry.number TooMany in
-    let later : BeforeEach fault (own_faults affixes more) =
-    own-behind affixes (λ other. is_before fault other ≡ true) entry.number (λ other above. lower-line fault other above) more behind in
+    let later : BeforeEach cause_number fault (own_faults affixes more) =
+    own-behind affixes (λ other. is_before cause_number fault other ≡ true) entry.number (λ other above. lower-line cause_number fault other above) more behind in
     let left : own_faults affixes all ≡ own_faults affixes more =
     own-seam affixes earlier entry more fine ∙ ap (λ faults. faults ++ own_faults affixes more) own in
     let many : many_faults limit all ≡ fault ∷ [] = ap (λ n. many_faults n all) (sym full) ∙ ap too_many (slice_get-seam earlier entry more) in
-    least_append (own_faults affixes all) (many_faults limit all)
-    ∙ ap (λ faults. sooner (least_of faults) (least_of (many_faults limit all))) left
-    ∙ ap (λ faults. sooner (least_of (own_faults affixes more)) (least_of faults)) many
-    ∙ before-each-wins fault (own_faults affixes more) later
-
-slice_get-past : (entries : List Listed) (place : ℕ) → length entries ≤ place → slice_get entries place ≡ None
-slice_get-past [] place past = refl
-slice_get-past (entry ∷ entries) zero past = absurd (omega (arith, past))
-slice_get-past (entry ∷ entries) (suc place) past = slice_get-past entries place (omega (arith, past))
+    least_append cause_number (own_faults affixes all) (many_faults limit all)
+    ∙ ap (λ faults. sooner cause_number (least_of faults) (least_of (many_faults limit all))) left
+    ∙ ap (λ faults. sooner cause_number (least_of (own_faults affixes more)) (least_of faults)) many
+    ∙ before-each-wins cause_number fault (own_faults affixes more) later
 
 pub no-fault : (affixes : Affixes) (limit : ℕ) (entries : List Listed) → own_faults affixes entries ≡ [] → length entries ≤ limit → least_of (entries_faults affixes limit entries) ≡ None
 no-fault affixes limit entries fine few =
     ap (λ faults. least_of (faults ++ many_faults limit entries)) fine
-    ∙ ap (λ o. least_of (too_many o)) (slice_get-past entries limit few)
+    ∙ ap (λ o. least_of (too_many o)) (slice_get_past entries limit few)
 
 -- ---- lines with rising numbers
 
@@ -112,47 +115,38 @@ abbrev pub AreNumbered : List Line → Type 0
 AreNumbered lines = map (λ line. line.number) lines ≡ range_with_len 1 (length lines)
 
 abbrev LinesBehind : ℕ → List Line → Type 0
-LinesBehind number lines = AllByRecursion (λ (line : Line). number < line.number) lines
+LinesBehind number lines = All (λ (line : Line). number < line.number) lines
 
 pub listed-behind : (bytes : List ℕ) (number : ℕ) (lines : List Line) → LinesBehind number lines → AreBehind number (listed bytes lines)
 listed-behind bytes number [] behind = tt
-listed-behind bytes number (line ∷ more) behind = by-test (is_passed_over (text_of bytes line)) (listed-behind bytes number more behind.1)
+listed-behind bytes number (line ∷ more) behind =
+    by-test (is_passed_over (text_of bytes line))
+    (listed-behind bytes number more (λ k d within. behind (suc k) d (omega (arith, within))))
   where
     by-test : (b : Bool) → AreBehind number (listed bytes more)
         → AreBehind number (cons_option (cond b None (Some (entry_at line.number (entry_of (text_of bytes line))))) (listed bytes more))
     by-test true rest = rest
-    by-test false rest = (behind.0, rest)
-
-all-behind : (number : ℕ) (lines : List Line) → ((k : ℕ) (d : Line) → k < length lines → number < (get_or lines k d).number) → LinesBehind number lines
-all-behind number [] each = tt
-all-behind number (line ∷ more) each = (each 0 line (omega arith), all-behind number more (λ k d within. each (suc k) d (omega (arith, within))))
+    by-test false rest = (behind 0 line (omega arith), rest)
 
 pub lines-behind : (lines : List Line) (place : ℕ) (d : Line) → AreRising lines → place < length lines
     → LinesBehind (get_or lines place d).number (drop (place + 1) lines)
-lines-behind [] place d rising within = absurd (omega (arith, within))
-lines-behind (line ∷ more) zero d rising within =
-    all-behind line.number more (λ k other inside. rising 0 (suc k) other (omega arith) (omega (arith, inside)))
-lines-behind (line ∷ more) (suc place) d rising within =
-    subst (λ n. LinesBehind (get_or more place d).number (drop n (line ∷ more))) (sym (add-one (suc place)))
-    (subst (λ n. LinesBehind (get_or more place d).number (drop n more)) (add-one place)
-    (lines-behind more place d (λ i j other lower inside. rising (suc i) (suc j) other (omega (arith, lower)) (omega (arith, inside))) (omega (arith, within))))
+lines-behind lines place d rising within k e inside =
+    let long = length-drop (place + 1) lines in
+    subst (λ (line : Line). (get_or lines place d).number < line.number)
+    (sym (get_or-drop (place + 1) lines k e ∙ get_or_default lines (place + 1 + k) e d (omega (arith, long, inside))))
+    (rising place (place + 1 + k) d (omega arith) (omega (arith, long, inside)))
 
-number-at : (lines : List Line) (start place : ℕ) (d : Line) → map (λ (line : Line). line.number) lines ≡ range_with_len start (length lines)
-    → place < length lines → (get_or lines place d).number ≡ start + place
-number-at [] start place d is within = absurd (omega (arith, within))
-number-at (line ∷ more) start zero d is within =
-    let here : line.number ≡ start = cc in
-    omega (arith, here)
-number-at (line ∷ more) start (suc place) d is within =
-    let rest : map (λ (line : Line). line.number) more ≡ range_with_len (start + 1) (length more) = cc in
-    omega (arith, number-at more (start + 1) place d rest (omega (arith, within)))
+number-at : (lines : List Line) (place : ℕ) (d : Line) → AreNumbered lines → place < length lines
+    → (get_or lines place d).number ≡ 1 + place
+number-at lines place d is within =
+    sym (get_or-map (λ (line : Line). line.number) lines place d 0 within)
+    ∙ ap (λ ns. get_or ns place 0) is
+    ∙ get_or-range_with_len 1 (length lines) place 0 within
 
 -- lines that are numbered one by one have rising numbers
-pub rising : (good lines : List Line) → lines ≡ good → AreNumbered good
-    → AreRising lines
-rising good lines same is =
-    subst (λ (own : List Line). AreRising own) (sym same)
-    (λ i j d lower within. omega (arith, lower, number-at good 1 i d is (omega (arith, lower, within)), number-at good 1 j d is within))
+pub rising : (lines : List Line) → AreNumbered lines → AreRising lines
+rising lines is i j d lower within =
+    omega (arith, lower, number-at lines i d is (omega (arith, lower, within)), number-at lines j d is within)
 
 -- the first of them, and the entries of those behind it
 pub first-number : (line : Line) (more : List Line) → AreNumbered (line ∷ more) → line.number ≡ 1

@@ -1,8 +1,8 @@
 -- A turn of the loop over the lines with entries.
-use Rattle.std.proofs.Common.{◌≡◌, ◌≢◌, ℕ, ◌+◌, ◌<◌, ◌≤◌, true, false, cond, List, [], ◌∷◌, ◌++◌, length, map, take, drop, Some, None, Ok, Err, All, sym, ap, ◌∙◌, subst, arith, get_or, add-one, suc, zero, length-append}
+use Rattle.std.proofs.Common.{◌≡◌, ◌≢◌, ℕ, ◌+◌, ◌<◌, ◌≤◌, Bool, true, false, cond, List, [], ◌∷◌, ◌++◌, length, map, take, drop, Some, None, Ok, Err, All, sym, ap, ◌∙◌, subst, arith, get_or, add-one, length-append}
 use Rattle.std.specs.List.{cons_option}
 use Rattle.std.proofs.lemmas.List.{take_more, take-append-drop, take_all, append-nil, length-map, map-append}
-use Rattle.std.proofs.lemmas.List.Elements.{filter_map-append, All-append}
+use Rattle.std.proofs.lemmas.List.Elements.{filter_map-append, All-push}
 use Rattle.std.proofs.Math.Seq.{drop-cons}
 use Rattle.text_lines.specs.declared.found.Line.{Line}
 use Rattle.text_lines.specs.Lines.{text_of}
@@ -12,35 +12,60 @@ use Rattle.dic_reader.specs.declared.faults.DicFault.{DicFault}
 use Rattle.dic_reader.specs.declared.faults.DicFault.TheVariants.{At, NoMemory}
 use Rattle.dic_reader.specs.declared.faults.DicWhy.TheVariants.{TooMany}
 use Rattle.dic_reader.specs.Entries.{Listed, entry_at, entry_of, is_passed_over, listed_in, listed}
-use Rattle.dic_reader.specs.Faults.{fault_at, least_of, entry_faults, entries_faults, entry_said, unless_fault, entry_read, entries_read, IsTold}
-use Rattle.dic_reader.proofs.FaultLemmas.{least-none, read-fault, read-said, told-fault}
+use Rattle.line_faults.specs.Faults.{fault_at, unless_fault}
+use Rattle.line_faults.specs.Laws.{least-none}
+use Rattle.dic_reader.specs.Faults.{cause_number, least_of, entry_faults, entries_faults, entry_said, entry_read, entries_read, IsTold}
+use Rattle.dic_reader.proofs.FaultLemmas.{read-fault, read-said, told-fault}
 use Rattle.dic_reader.proofs.OrderLemmas.{own_faults, AreBehind, AreRising, own-seam, own-fault, many-fault, no-fault, listed-behind, lines-behind}
 
+abbrev pub no-line : Line
+no-line = record { number = 0; from = 0; to = 0 }
+
 -- ---- the entries of lines
-split-lines : (bytes : List ℕ) (lines : List Line) (place : ℕ) (d : Line) → place < length lines
-    → listed bytes lines ≡ listed bytes (take place lines) ++ cons_option (listed_in bytes (get_or lines place d)) (listed bytes (drop (place + 1) lines))
-split-lines bytes lines place d within =
-    let line = get_or lines place d in
-    let cut : drop place lines ≡ line ∷ drop (place + 1) lines = drop-cons lines place d within ∙ ap (λ n. line ∷ drop n lines) (sym (add-one place)) in
+
+split-lines : (bytes : List ℕ) (lines : List Line) (place : ℕ) → place < length lines
+    → listed bytes lines ≡ listed bytes (take place lines)
+    ++ cons_option (listed_in bytes (get_or lines place no-line)) (listed bytes (drop (place + 1) lines))
+split-lines bytes lines place within =
+    let line = get_or lines place no-line in
+    let cut : drop place lines ≡ line ∷ drop (place + 1) lines =
+    drop-cons lines place no-line within ∙ ap (λ n. line ∷ drop n lines) (sym (add-one place)) in
     ap (listed bytes) (sym (take-append-drop place lines) ∙ ap (λ rest. take place lines ++ rest) cut)
     ∙ filter_map-append (listed_in bytes) (take place lines) (line ∷ drop (place + 1) lines)
 
-more-lines : (bytes : List ℕ) (lines : List Line) (place : ℕ) (d : Line) → place < length lines
-    → listed bytes (take (place + 1) lines) ≡ listed bytes (take place lines) ++ cons_option (listed_in bytes (get_or lines place d)) []
-more-lines bytes lines place d within =
-    ap (listed bytes) (take_more lines place d within)
-    ∙ filter_map-append (listed_in bytes) (take place lines) (get_or lines place d ∷ [])
+more-lines : (bytes : List ℕ) (lines : List Line) (place : ℕ) → place < length lines
+    → listed bytes (take (place + 1) lines) ≡ listed bytes (take place lines) ++ cons_option (listed_in bytes (get_or lines place no-line)) []
+more-lines bytes lines place within =
+    ap (listed bytes) (take_more lines place no-line within)
+    ∙ filter_map-append (listed_in bytes) (take place lines) (get_or lines place no-line ∷ [])
 
--- what a line with this text has
-line-has : (bytes : List ℕ) (line : Line) (text : List ℕ) → text ≡ text_of bytes line → is_passed_over text ≡ false → listed_in bytes line ≡ Some (entry_at line.number (entry_of text))
-line-has bytes line text is has =
+-- what a line has, by whether it is passed over
+line-says : (bytes : List ℕ) (line : Line) {text : List ℕ} {passed : Bool} → text ≡ text_of bytes line → is_passed_over text ≡ passed
+    → listed_in bytes line ≡ cond passed None (Some (entry_at line.number (entry_of text)))
+line-says bytes line {text} is tested =
     ap (λ t. cond (is_passed_over t) None (Some (entry_at line.number (entry_of t)))) (sym is)
-    ∙ ap (λ b. cond b None (Some (entry_at line.number (entry_of text)))) has
+    ∙ ap (λ b. cond b None (Some (entry_at line.number (entry_of text)))) tested
 
-line-lacks : (bytes : List ℕ) (line : Line) (text : List ℕ) → text ≡ text_of bytes line → is_passed_over text ≡ true → listed_in bytes line ≡ None
-line-lacks bytes line text is lacks =
-    ap (λ t. cond (is_passed_over t) None (Some (entry_at line.number (entry_of t)))) (sym is)
-    ∙ ap (λ b. cond b None (Some (entry_at line.number (entry_of text)))) lacks
+-- a place of the loop at which an entry stands
+pub record Turn (bytes : List ℕ) (lines : List Line) (place : ℕ) (entry : Listed) : Type 0 where
+  pub next : listed bytes (take (place + 1) lines) ≡ listed bytes (take place lines) ++ entry ∷ []
+  pub whole : listed bytes lines ≡ listed bytes (take place lines) ++ entry ∷ listed bytes (drop (place + 1) lines)
+  pub behind : AreBehind entry.number (listed bytes (drop (place + 1) lines))
+
+pub turn-at : (bytes : List ℕ) (lines : List Line) (place : ℕ) {text own : List ℕ} → AreRising lines → place < length lines
+    → text ≡ text_of bytes (get_or lines place no-line) → is_passed_over text ≡ false → own ≡ entry_of text
+    → Turn bytes lines place (entry_at (get_or lines place no-line).number own)
+turn-at bytes lines place {text} {own} rises within is has own_is =
+    let line = get_or lines place no-line in
+    let earlier = listed bytes (take place lines) in
+    let more = listed bytes (drop (place + 1) lines) in
+    let made : listed_in bytes line ≡ Some (entry_at line.number own) =
+    line-says bytes line is has ∙ ap (λ t. Some (entry_at line.number t)) (sym own_is) in
+    record {
+      next = more-lines bytes lines place within ∙ ap (λ o. earlier ++ cons_option o []) made;
+      whole = split-lines bytes lines place within ∙ ap (λ o. earlier ++ cons_option o more) made;
+      behind = listed-behind bytes line.number (drop (place + 1) lines) (lines-behind lines place no-line rises within);
+    }
 
 -- ---- a turn of the loop over the lines
 
@@ -51,97 +76,72 @@ pub record AreRead (affixes : Affixes) (limit : ℕ) (earlier : List Listed) (en
   pub few : length entries ≤ limit
   pub words : All (λ entry. 0 < length entry.word) entries
 
-count-read : (affixes : Affixes) (limit : ℕ) (earlier : List Listed) (entries : List Entry) → AreRead affixes limit earlier entries → length earlier ≡ length entries
-count-read affixes limit earlier entries are = sym (ap length are.same ∙ length-map earlier (entry_said affixes))
+count-read : {affixes : Affixes} {limit : ℕ} {earlier : List Listed} {entries : List Entry} → AreRead affixes limit earlier entries
+    → length earlier ≡ length entries
+count-read {affixes} {earlier = earlier} are = sym (ap length are.same ∙ length-map earlier (entry_said affixes))
+
+-- an entry that is read has no fault
+own-none : (affixes : Affixes) (entry : Listed) (made : Entry) → entry_read affixes entry ≡ Ok made → entry_faults affixes entry ≡ []
+own-none affixes entry made read =
+    let faults = entry_faults affixes entry in
+    least-none cause_number faults (read-fault (least_of faults) (entry_said affixes entry) made read)
 
 -- a line without an entry
-pub read-past : (affixes : Affixes) (limit : ℕ) (bytes : List ℕ) (lines : List Line) (place : ℕ) (d : Line) (entries : List Entry) (text : List ℕ)
-    → place < length lines → text ≡ text_of bytes (get_or lines place d) → is_passed_over text ≡ true
-    → AreRead affixes limit (listed bytes (take place lines)) entries
-    → AreRead affixes limit (listed bytes (take (place + 1) lines)) entries
-read-past affixes limit bytes lines place d entries text within is lacks are =
-    let same : listed bytes (take (place + 1) lines) ≡ listed bytes (take place lines) =
-    more-lines bytes lines place d within
-    ∙ ap (λ o. listed bytes (take place lines) ++ cons_option o []) (line-lacks bytes (get_or lines place d) text is lacks)
-    ∙ append-nil (listed bytes (take place lines)) in
+pub read-past : (bytes : List ℕ) (lines : List Line) (place : ℕ) {affixes : Affixes} {limit : ℕ} {entries : List Entry} {text : List ℕ}
+    → place < length lines → text ≡ text_of bytes (get_or lines place no-line) → is_passed_over text ≡ true
+    → AreRead affixes limit (listed bytes (take place lines)) entries → AreRead affixes limit (listed bytes (take (place + 1) lines)) entries
+read-past bytes lines place {affixes} {limit} {entries} within is lacks are =
+    let earlier = listed bytes (take place lines) in
+    let same : listed bytes (take (place + 1) lines) ≡ earlier =
+    more-lines bytes lines place within
+    ∙ ap (λ o. earlier ++ cons_option o []) (line-says bytes (get_or lines place no-line) is lacks)
+    ∙ append-nil earlier in
     subst (λ (ls : List Listed). AreRead affixes limit ls entries) (sym same) are
 
--- a line with one that was read
-pub read-more : (affixes : Affixes) (limit : ℕ) (bytes : List ℕ) (lines : List Line) (place : ℕ) (d : Line) (entries pushed : List Entry) (made : Entry) (text own : List ℕ)
-    → place < length lines → text ≡ text_of bytes (get_or lines place d) → is_passed_over text ≡ false → own ≡ entry_of text
-    → AreRead affixes limit (listed bytes (take place lines)) entries
-    → entry_read affixes (entry_at (get_or lines place d).number own) ≡ Ok made → 0 < length made.word
-    → length entries ≢ limit → pushed ≡ entries ++ made ∷ []
-    → AreRead affixes limit (listed bytes (take (place + 1) lines)) pushed
-read-more affixes limit bytes lines place d entries pushed made text own within is has own_is are read word room grown =
-    let earlier = listed bytes (take place lines) in
-    let line = get_or lines place d in
-    let entry = entry_at line.number own in
-    let due = least_of (entry_faults affixes entry) in
-    let own_none : entry_faults affixes entry ≡ [] = least-none (entry_faults affixes entry) (read-fault due (entry_said affixes entry) made read) in
-    let said = read-said due (entry_said affixes entry) made read in
-    let longer : listed bytes (take (place + 1) lines) ≡ earlier ++ entry ∷ [] =
-    more-lines bytes lines place d within
-    ∙ ap (λ o. earlier ++ cons_option o []) (line-has bytes line text is has ∙ ap (λ t. Some (entry_at line.number t)) (sym own_is)) in
-    let next : AreRead affixes limit (earlier ++ entry ∷ []) (entries ++ made ∷ []) = record {
-      same = ap (λ es. es ++ made ∷ []) are.same ∙ ap (λ e. map (entry_said affixes) earlier ++ e ∷ []) said ∙ sym (map-append (entry_said affixes) earlier (entry ∷ []));
-      fine = own-seam affixes earlier entry [] are.fine ∙ ap (λ faults. faults ++ []) own_none;
-      few = omega (arith, are.few, room, length-append entries (made ∷ []));
-      words = All-append (λ (e : Entry). 0 < length e.word) entries (made ∷ []) are.words (only made word);
-    } in
-    subst (λ (ls : List Listed). AreRead affixes limit ls pushed) (sym longer)
-    (subst (λ (es : List Entry). AreRead affixes limit (earlier ++ entry ∷ []) es) (sym grown) next)
-  where
-    only : (made : Entry) → 0 < length made.word → All (λ (e : Entry). 0 < length e.word) (made ∷ [])
-    only made word zero d inside = word
-    only made word (suc k) d inside = absurd (omega (arith, inside))
+module _ {affixes : Affixes} {limit : ℕ} {bytes : List ℕ} {lines : List Line} {place : ℕ} {entry : Listed} {entries : List Entry} where
+  -- a line with one that was read
+  pub read-more : (made : Entry) (pushed : List Entry) → Turn bytes lines place entry
+      → AreRead affixes limit (listed bytes (take place lines)) entries → entry_read affixes entry ≡ Ok made → 0 < length made.word
+      → length entries ≢ limit → pushed ≡ entries ++ made ∷ [] → AreRead affixes limit (listed bytes (take (place + 1) lines)) pushed
+  read-more made pushed turn are read word room grown =
+      let earlier = listed bytes (take place lines) in
+      let said = read-said (least_of (entry_faults affixes entry)) (entry_said affixes entry) made read in
+      let next : AreRead affixes limit (earlier ++ entry ∷ []) (entries ++ made ∷ []) = record {
+        same = ap (λ es. es ++ made ∷ []) are.same
+            ∙ ap (λ e. map (entry_said affixes) earlier ++ e ∷ []) said
+            ∙ sym (map-append (entry_said affixes) earlier (entry ∷ []));
+        fine = own-seam affixes earlier entry [] are.fine ∙ ap (λ faults. faults ++ []) (own-none affixes entry made read);
+        few = omega (arith, are.few, room, length-append entries (made ∷ []));
+        words = All-push (λ (e : Entry). 0 < length e.word) entries made are.words word;
+      } in
+      subst (λ (ls : List Listed). AreRead affixes limit ls pushed) (sym turn.next)
+      (subst (λ (es : List Entry). AreRead affixes limit (earlier ++ entry ∷ []) es) (sym grown) next)
 
--- a line with one that has a fault
-pub told-own : (affixes : Affixes) (limit : ℕ) (bytes : List ℕ) (lines : List Line) (place : ℕ) (d : Line) (entries : List Entry) (fault : DicFault) (text own : List ℕ)
-    → AreRising lines
-    → place < length lines → text ≡ text_of bytes (get_or lines place d) → is_passed_over text ≡ false → own ≡ entry_of text
-    → AreRead affixes limit (listed bytes (take place lines)) entries
-    → IsTold (entry_read affixes (entry_at (get_or lines place d).number own)) fault
-    → IsTold (entries_read affixes limit (listed bytes lines)) fault
-unfolding entries_read
-told-own affixes limit bytes lines place d entries NoMemory text own rises within is has own_is are told = tt
-told-own affixes limit bytes lines place d entries (At number why) text own rises within is has own_is are told =
-    let earlier = listed bytes (take place lines) in
-    let more = listed bytes (drop (place + 1) lines) in
-    let line = get_or lines place d in
-    let entry = entry_at line.number own in
-    let whole : listed bytes lines ≡ earlier ++ entry ∷ more =
-    split-lines bytes lines place d within
-    ∙ ap (λ o. earlier ++ cons_option o more) (line-has bytes line text is has ∙ ap (λ t. Some (entry_at line.number t)) (sym own_is)) in
-    let few : length earlier ≤ limit = omega (arith, are.few, count-read affixes limit earlier entries are) in
-    let behind : AreBehind line.number more = listed-behind bytes line.number (drop (place + 1) lines) (lines-behind lines place d rises within) in
-    ap (λ o. unless_fault o (map (entry_said affixes) (listed bytes lines)))
-    (ap (λ all. least_of (entries_faults affixes limit all)) whole
-    ∙ own-fault affixes limit earlier entry more (fault_at number why) are.fine few behind
-    (told-fault (least_of (entry_faults affixes entry)) (entry_said affixes entry) (fault_at number why) told))
+  -- a line with one that has a fault
+  pub told-own : (fault : DicFault) → Turn bytes lines place entry → AreRead affixes limit (listed bytes (take place lines)) entries
+      → IsTold (entry_read affixes entry) fault → IsTold (entries_read affixes limit (listed bytes lines)) fault
+  unfolding entries_read
+  told-own NoMemory turn are told = tt
+  told-own (At number why) turn are told =
+      let earlier = listed bytes (take place lines) in
+      let fault = fault_at number why in
+      let few : length earlier ≤ limit = omega (arith, are.few, count-read are) in
+      let own = told-fault (least_of (entry_faults affixes entry)) (entry_said affixes entry) fault told in
+      ap (λ o. unless_fault o (map (entry_said affixes) (listed bytes lines)))
+      (ap (λ all. least_of (entries_faults affixes limit all)) turn.whole
+      ∙ own-fault affixes limit earlier entry (listed bytes (drop (place + 1) lines)) fault are.fine few turn.behind own)
 
--- a line with one too many
-pub told-many : (affixes : Affixes) (limit : ℕ) (bytes : List ℕ) (lines : List Line) (place : ℕ) (d : Line) (entries : List Entry) (made : Entry) (text own : List ℕ)
-    → AreRising lines
-    → place < length lines → text ≡ text_of bytes (get_or lines place d) → is_passed_over text ≡ false → own ≡ entry_of text
-    → AreRead affixes limit (listed bytes (take place lines)) entries
-    → entry_read affixes (entry_at (get_or lines place d).number own) ≡ Ok made → length entries ≡ limit
-    → entries_read affixes limit (listed bytes lines) ≡ Err (fault_at (get_or lines place d).number TooMany)
-unfolding entries_read
-told-many affixes limit bytes lines place d entries made text own rises within is has own_is are read full =
-    let earlier = listed bytes (take place lines) in
-    let more = listed bytes (drop (place + 1) lines) in
-    let line = get_or lines place d in
-    let entry = entry_at line.number own in
-    let whole : listed bytes lines ≡ earlier ++ entry ∷ more =
-    split-lines bytes lines place d within
-    ∙ ap (λ o. earlier ++ cons_option o more) (line-has bytes line text is has ∙ ap (λ t. Some (entry_at line.number t)) (sym own_is)) in
-    let behind : AreBehind line.number more = listed-behind bytes line.number (drop (place + 1) lines) (lines-behind lines place d rises within) in
-    let own_none : entry_faults affixes entry ≡ [] =
-    least-none (entry_faults affixes entry) (read-fault (least_of (entry_faults affixes entry)) (entry_said affixes entry) made read) in
-    ap (λ o. unless_fault o (map (entry_said affixes) (listed bytes lines)))
-    (ap (λ all. least_of (entries_faults affixes limit all)) whole
-    ∙ many-fault affixes limit earlier entry more are.fine (count-read affixes limit earlier entries are ∙ full) behind own_none)
+  -- a line with one too many
+  pub told-many : (made : Entry) → Turn bytes lines place entry → AreRead affixes limit (listed bytes (take place lines)) entries
+      → entry_read affixes entry ≡ Ok made → length entries ≡ limit
+      → entries_read affixes limit (listed bytes lines) ≡ Err (fault_at entry.number TooMany)
+  unfolding entries_read
+  told-many made turn are read full =
+      let earlier = listed bytes (take place lines) in
+      let more = listed bytes (drop (place + 1) lines) in
+      ap (λ o. unless_fault o (map (entry_said affixes) (listed bytes lines)))
+      (ap (λ all. least_of (entries_faults affixes limit all)) turn.whole
+      ∙ many-fault affixes limit earlier entry more are.fine (count-read are ∙ full) turn.behind (own-none affixes entry made read))
 
 -- at the end
 pub read-all : (affixes : Affixes) (limit : ℕ) (bytes : List ℕ) (lines : List Line) (place : ℕ) (entries : List Entry) → length lines ≤ place
@@ -151,5 +151,5 @@ read-all affixes limit bytes lines place entries past are =
     let all : listed bytes (take place lines) ≡ listed bytes lines = ap (listed bytes) (take_all place lines past) in
     let now : AreRead affixes limit (listed bytes lines) entries = subst (λ (ls : List Listed). AreRead affixes limit ls entries) all are in
     ap (λ o. unless_fault o (map (entry_said affixes) (listed bytes lines)))
-    (no-fault affixes limit (listed bytes lines) now.fine (omega (arith, now.few, count-read affixes limit (listed bytes lines) entries now)))
+    (no-fault affixes limit (listed bytes lines) now.fine (omega (arith, now.few, count-read now)))
     ∙ ap Ok (sym now.same)

@@ -1,7 +1,9 @@
 -- Which faults a .dic file has, which of them is told, and what a file without faults says.
-use Rattle.std.specs.Prelude.{◌≡◌, ℕ, zero, suc, ◌==◌, ◌||◌, ◌&&◌, ◌⊎◌, nat_lt, Bool, false, List, [], ◌∷◌, ◌++◌, length, map, drop, slice_get, codes, Option, None, Some, Result, Ok, Err, if◌then◌else◌}
+use Rattle.std.specs.Prelude.{◌≡◌, ℕ, ◌==◌, List, [], ◌∷◌, ◌++◌, length, map, drop, slice_get, codes, Option, None, Some, Result, Ok, Err, if◌then◌else◌}
 use Rattle.std.specs.List.{flat_map}
-use Rattle.std.specs.Option.{option_or}
+use Rattle.line_faults.specs.Faults as order
+use Rattle.line_faults.specs.Faults.{IsFault, fault_at, unless_fault}
+use Rattle.line_faults.specs.declared.Fault.{Fault as LineFault}
 use Rattle.text_lines.specs.declared.found.Line.{Line}
 use Rattle.text_lines.specs.Lines.{text_of, good_lines, bad_line}
 use Rattle.spell_types.specs.declared.Affixes.{Affixes}
@@ -33,13 +35,8 @@ why_name BadFlag = codes "BadFlag"
 why_name BadAlias = codes "BadAlias"
 why_name TooMany = codes "TooMany"
 
--- a fault of a file: the number of the line, from 1, and the cause
-pub record Fault : Type 0 where
-  pub line : ℕ
-  pub why : DicWhy
-
-abbrev pub fault_at : ℕ → DicWhy → Fault
-fault_at line why = record { line = line; why = why }
+abbrev pub Fault : Type 0
+Fault = LineFault DicWhy
 
 -- ---- which faults there are
 
@@ -98,31 +95,20 @@ lines_faults affixes bytes lines = count_faults bytes lines ++ entries_faults af
 abbrev pub dic_passes : Affixes → List ℕ → List (List Fault)
 dic_passes affixes bytes = bad_faults (bad_line bytes) ∷ lines_faults affixes bytes (good_lines bytes) ∷ []
 
--- ---- which of them is told
+-- ---- which of them is told: by line, and at one line by the place of its cause
 
--- whether a fault goes before another: it is at a lower line, or at the same line with a lower cause
-abbrev pub is_before : Fault → Fault → Bool
-is_before fault other =
-    nat_lt fault.line other.line || (fault.line == other.line && nat_lt (cause_number fault.why) (cause_number other.why))
+abbrev pub least_of : List Fault → Option Fault
+least_of = order.least_of cause_number
 
-abbrev pub IsAmong : List Fault → Fault → Type 0
-IsAmong [] fault = ⊥
-IsAmong (first ∷ more) fault = (first ≡ fault) ⊎ IsAmong more fault
+abbrev pub first_fault : List (List Fault) → Option Fault
+first_fault = order.first_fault cause_number
 
--- the fault is one of the pass with this number, from 0; a pass counts only where the passes before it have no fault
-abbrev pub IsFault : List (List Fault) → ℕ → Fault → Type 0
-IsFault [] pass fault = ⊥
-IsFault (faults ∷ later) zero fault = IsAmong faults fault
-IsFault (faults ∷ later) (suc pass) fault = (faults ≡ []) × IsFault later pass fault
+abbrev pub IsLeast : (Fault → Type 0) → Fault → Type 0
+IsLeast = order.IsLeast cause_number
 
 -- the file has this fault in the pass with this number
 abbrev pub DicBad : Affixes → List ℕ → ℕ → Fault → Type 0
 DicBad affixes bytes pass fault = IsFault (dic_passes affixes bytes) pass fault
-
--- the fault is one of the bad ones, and none of them goes before it
-pub record IsLeast (bad : Fault → Type 0) (fault : Fault) : Type 0 where
-  pub among : bad fault
-  pub first : (other : Fault) → bad other → is_before other fault ≡ false
 
 -- ---- what is read
 
@@ -148,26 +134,6 @@ DicRefuses affixes bytes (At line why) = (pass : ℕ) × IsLeast (DicBad affixes
 DicRefuses affixes bytes NoMemory = Unit {0}
 
 -- ---- the same as a value
-
--- the earlier of two faults
-abbrev pub sooner : Option Fault → Option Fault → Option Fault
-sooner None other = other
-sooner (Some first) None = Some first
-sooner (Some first) (Some other) = if is_before other first then Some other else Some first
-
--- the earliest of these faults
-abbrev pub least_of : List Fault → Option Fault
-least_of [] = None
-least_of (fault ∷ more) = sooner (Some fault) (least_of more)
-
--- the earliest fault of the first pass that has one
-abbrev pub first_fault : List (List Fault) → Option Fault
-first_fault [] = None
-first_fault (faults ∷ later) = option_or (least_of faults) (first_fault later)
-
-abbrev pub unless_fault : {A : Type 0} → Option Fault → A → Result A Fault
-unless_fault None read = Ok read
-unless_fault (Some fault) read = Err fault
 
 -- what is read of an entry, or its first fault
 abbrev pub entry_read : Affixes → Listed → Result Entry Fault

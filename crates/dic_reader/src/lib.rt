@@ -7,13 +7,13 @@
 //! characters to ignore are left out of words.
 #![tactic(auto)]
 
-ghost use Rattle.std.specs.Prelude.{◌≡◌, ℕ, ◌<◌, ◌≤◌, ◌^◌, List, length, map, All, Some, None, Ok, IfOk, IfErr};
+ghost use Rattle.std.specs.Prelude.{◌≡◌, ℕ, ◌<◌, ◌≤◌, ◌^◌, List, length, map, All, Some, None, IfOk, IfErr};
 ghost use Rattle.std.specs.List.{range_with_len, AllPairs};
 ghost use Rattle.text_lines.specs.Lines.{IsInside};
 ghost use Rattle.spell_types.specs.declared.Affixes.{Affixes};
 ghost use Rattle.spell_types.specs.Sanity.{AreSaneEntries, HasOrdinaryFlags, HaveOrdinaryFlags};
 ghost use Rattle.dic_reader.specs.Entries.{listed};
-ghost use Rattle.dic_reader.specs.Faults.{Fault, entry_limit, dic_passes, first_fault, entries_read, lines_read, dic_read, DicBad, IsLeast, IsTold, IsRead, DicReads, DicRefuses};
+ghost use Rattle.dic_reader.specs.Faults.{Fault, entry_limit, dic_passes, first_fault, entries_read, lines_read, dic_read, DicBad, IsLeast, IsRead, DicReads, DicRefuses};
 
 use crate::cutting::{entry_of, is_count, is_passed_over};
 use crate::words::read_entry;
@@ -45,7 +45,6 @@ pub fn read_dic(alloc: Global, affixes: &Affixes, bytes: &[u8]) -> Result<Entrie
     // The same as one value, so that a caller can go on with it.
     ensures value { IsRead (dic_read affixes.now bytes.now) result }
 {
-    first_fault_is_least();
     read_file(alloc, affixes, bytes)
 }
 
@@ -61,8 +60,7 @@ pub fn first_fault_is_least()
 
 /// The entries of a file, or its first fault.
 fn read_file(alloc: Global, affixes: &Affixes, bytes: &[u8]) -> Result<Entries, DicFault>
-    ensures read { IfOk result (λ entries. dic_read affixes.now bytes.now ≡ Ok entries) }
-    ensures refused { IfErr result (IsTold (dic_read affixes.now bytes.now)) }
+    ensures read { IsRead (dic_read affixes.now bytes.now) result }
     ensures sane { IfOk result AreSaneEntries }
     ensures few { IfOk result (λ entries. length entries ≤ entry_limit) }
     ensures ordinary { HasOrdinaryFlags affixes.now → IfOk result HaveOrdinaryFlags }
@@ -86,8 +84,7 @@ fn read_lines(
 ) -> Result<Entries, DicFault>
     requires inside { All (IsInside bytes.now) lines.now }
     requires numbered { map (λ line. line.number) lines.now ≡ range_with_len 1 (length lines.now) }
-    ensures read { IfOk result (λ entries. lines_read affixes.now bytes.now lines.now ≡ Ok entries) }
-    ensures refused { IfErr result (IsTold (lines_read affixes.now bytes.now lines.now)) }
+    ensures read { IsRead (lines_read affixes.now bytes.now lines.now) result }
     ensures sane { IfOk result AreSaneEntries }
     ensures few { IfOk result (λ entries. length entries ≤ entry_limit) }
     ensures ordinary { HasOrdinaryFlags affixes.now → IfOk result HaveOrdinaryFlags }
@@ -114,9 +111,7 @@ fn read_entries(
     requires inside { All (IsInside bytes.now) lines.now }
     requires rising { AllPairs (λ line later. line.number < later.number) lines.now }
     requires few { limit < 2 ^ 32 }
-    ensures read { IfOk result
-        (λ entries. entries_read affixes.now limit (listed bytes.now lines.now) ≡ Ok entries) }
-    ensures refused { IfErr result (IsTold (entries_read affixes.now limit (listed bytes.now lines.now))) }
+    ensures read { IsRead (entries_read affixes.now limit (listed bytes.now lines.now)) result }
     ensures sane { IfOk result AreSaneEntries }
     ensures few { IfOk result (λ entries. length entries ≤ limit) }
     ensures ordinary { HasOrdinaryFlags affixes.now → IfOk result HaveOrdinaryFlags }

@@ -1,11 +1,10 @@
 //! The word and the flags of an entry.
 
-ghost use Rattle.std.specs.Prelude.{◌≡◌, ◌++◌, ◌<◌, length, Ok, OnOk, IfOk, IfErr};
-ghost use Rattle.std.specs.Option.{option_copied};
+ghost use Rattle.std.specs.Prelude.{◌≡◌, ◌++◌, ◌<◌, length, OnOk, IfOk};
 ghost use Rattle.spell_types.specs.Flags.{AreOrdinary};
 ghost use Rattle.spell_types.specs.Sanity.{HasOrdinaryFlags};
 ghost use Rattle.dic_reader.specs.Entries.{entry_at, flag_text, whole_word};
-ghost use Rattle.dic_reader.specs.Faults.{entry_read, IsTold};
+ghost use Rattle.dic_reader.specs.Faults.{entry_read, IsRead};
 
 use crate::faults::{DicFault, DicWhy};
 use conversions::drop_ignored;
@@ -21,8 +20,7 @@ pub(crate) fn read_entry(
     number: u64,
     text: &str,
 ) -> Result<Entry, DicFault>
-    ensures read { IfOk result (λ made. entry_read affixes.now (entry_at number text.now) ≡ Ok made) }
-    ensures refused { IfErr result (IsTold (entry_read affixes.now (entry_at number text.now))) }
+    ensures read { IsRead (entry_read affixes.now (entry_at number text.now)) result }
     ensures word { IfOk result (λ made. 0 < length made.word) }
     ensures ordinary { HasOrdinaryFlags affixes.now → IfOk result (λ made. AreOrdinary made.flags) }
 {

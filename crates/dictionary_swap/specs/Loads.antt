@@ -6,7 +6,7 @@ use Rattle.outside.specs.declared.faults.FileFault.TheVariants.{Failed as Failed
 use Rattle.spell_types.specs.declared.Affixes.{Affixes}
 use Rattle.spell_types.specs.declared.Entry.{Entry}
 use Rattle.spell_types.specs.declared.Lexicon.{Lexicon}
-use Rattle.aff_lines.specs.declared.faults.Fault.{Fault as AffLineFault}
+use Rattle.aff_lines.specs.Faults.{Fault as AffLineFault}
 use Rattle.aff_reader.specs.Grammar.{aff_read}
 use Rattle.dic_reader.specs.Faults.{Fault as DicLineFault, dic_read}
 use Rattle.dictionary_swap.specs.declared.fault.LoadFault.{LoadFault}

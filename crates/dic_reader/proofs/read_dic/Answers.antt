@@ -1,14 +1,10 @@
 -- What is read, and the first fault, as sets.
-use Rattle.dic_reader.proofs.FaultLemmas.{reads-as-said, refuses-at-first, is-read}
+use Rattle.dic_reader.proofs.FaultLemmas.{reads-as-said, refuses-at-first}
 use Rattle.dic_reader.proofs.read_dic.Goals as goal
 
 pub returns-clause-read : goal.returns-clause-read
-returns-clause-read c =
-    reads-as-said c.args.affixes.now c.args.bytes.now c.read_file.result c.read_file.ensures.read (c.first_fault_is_least.ensures.none c.args.affixes.now c.args.bytes.now)
+returns-clause-read c = reads-as-said c.args.affixes.now c.args.bytes.now c.read_file.result c.read_file.ensures.read
 
 pub returns-clause-refused : goal.returns-clause-refused
 returns-clause-refused c =
-    refuses-at-first c.args.affixes.now c.args.bytes.now c.read_file.result c.read_file.ensures.refused (c.first_fault_is_least.ensures.least c.args.affixes.now c.args.bytes.now)
-
-pub returns-clause-value : goal.returns-clause-value
-returns-clause-value c = is-read c.args.affixes.now c.args.bytes.now c.read_file.result c.read_file.ensures.read c.read_file.ensures.refused
+    refuses-at-first c.args.affixes.now c.args.bytes.now c.read_file.result c.read_file.ensures.read

@@ -1,7 +1,7 @@
 -- The first line counts, or its fault is told.
 use Rattle.std.proofs.Common.{◌∙◌, ap, sym}
 use Rattle.dic_reader.specs.Entries.{is_count}
-use Rattle.dic_reader.proofs.FileLemmas.{rising-behind, counted-read, counted-told, uncounted, no-lines}
+use Rattle.dic_reader.proofs.FileLemmas.{rising-behind, counted, uncounted, no-lines}
 use Rattle.dic_reader.proofs.read_lines.Goals.{in_default-via-in-Some+else-is_count, in_default-via-in_default}
 use Rattle.dic_reader.proofs.read_lines.Goals as goal
 
@@ -11,16 +11,11 @@ read_entries-requires-clause-rising c =
 
 pub returns-in-Some-clause-read : goal.returns-in-Some-clause-read
 returns-in-Some-clause-read c =
-    counted-read c.args.affixes.now c.args.bytes.now c.args.lines.now c.in-Some.later.now c.in-Some.count.now c.read_entries.result c.in-Some.ensures.cases.0
+    counted c.args.affixes.now c.args.bytes.now c.args.lines.now c.in-Some.later.now c.in-Some.count.now c.read_entries.result c.in-Some.ensures.cases.0
     (sym (c.if-is_count.ensures ∙ ap is_count c.line_text.ensures)) c.read_entries.ensures.read
 
-pub returns-in-Some-clause-refused : goal.returns-in-Some-clause-refused
-returns-in-Some-clause-refused c =
-    counted-told c.args.affixes.now c.args.bytes.now c.args.lines.now c.in-Some.later.now c.in-Some.count.now c.read_entries.result c.in-Some.ensures.cases.0
-    (sym (c.if-is_count.ensures ∙ ap is_count c.line_text.ensures)) c.read_entries.ensures.refused
-
-pub returns-in_default-clause-refused : goal.returns-in_default-clause-refused
-returns-in_default-clause-refused c =
+pub returns-in_default-clause-read : goal.returns-in_default-clause-read
+returns-in_default-clause-read c =
     elim c.in_default.branch [
       | in_default-via-in-Some+else-is_count w ↦
           uncounted c.args.affixes.now c.args.bytes.now c.args.lines.now w.in-Some.later.now w.in-Some.count.now w.in-Some.ensures.cases.0 c.requires.numbered

@@ -1,11 +1,11 @@
 -- A line adds its fault.
-use Rattle.aff_lines.specs.Grammar.{left_out_faults}
-use Rattle.aff_lines.specs.Rows.{lines_of}
-use Rattle.aff_lines.proofs.FaultLemmas.{each_turn}
+use Rattle.std.proofs.Common.{ap}
+use Rattle.line_faults.specs.Laws.{found_more}
+use Rattle.aff_lines.specs.Faults.{cause_number}
+use Rattle.aff_lines.specs.Grammar.{left_out_faults, all_left_out}
 use Rattle.aff_lines.proofs.passes.left_out_fault.Goals as goal
 
 pub loop-line-preserved : goal.loop-line-preserved
 loop-line-preserved c =
-    each_turn left_out_faults c.loop-line.found c.fault_at.result c.sooner-found.result _
-    (lines_of c.args.directive c.loop-line.rest.now) (lines_of c.args.directive c.in-Some.more.now) c.in-Some.line.now
-    c.sooner-found.ensures c.fault_at.ensures c.in-Some.ensures.0 c.loop-line.invariant
+    found_more cause_number c.loop-line.found (left_out_faults c.in-Some.line.now) _
+    c.sooner-found.ensures c.fault_at.ensures (ap all_left_out c.in-Some.ensures.0) c.loop-line.invariant

@@ -1,11 +1,11 @@
 -- An entry without a word, whatever its flags are.
-use Rattle.std.proofs.Common.{◌≡◌, ◌∙◌, ◌++◌, sym, ap, length, ◌==◌}
+use Rattle.std.proofs.Common.{◌≡◌, ◌++◌, sym, ap}
 use Rattle.dic_reader.specs.Entries.{whole_word, word_of}
 use Rattle.dic_reader.proofs.EntryLemmas.{no-word}
 use Rattle.dic_reader.proofs.words.read_entry.Goals as goal
 
-pub returns-then-is_empty-clause-refused : goal.returns-then-is_empty-clause-refused
-returns-then-is_empty-clause-refused c =
+pub returns-then-is_empty-clause-read : goal.returns-then-is_empty-clause-read
+returns-then-is_empty-clause-read c =
     let kept = c.in_ok-word.ensures in
     let ignored = c.deref.ensures in
     let given = c.deref-2.ensures in
