@@ -15,7 +15,7 @@ use Rattle.document_report.specs.declared.fault.DocumentFault.{DocumentFault}
 use Rattle.document_report.specs.declared.fault.DocumentFault.TheVariants.{NoMemory as ReportWanting}
 use Rattle.document_report.specs.declared.printing.Report.{Report}
 use Rattle.console_board.specs.Transcripts.{IsThere}
-use Rattle.command_line.specs.Due.{Found, FailsAs, OfDue, OfFiles, OfMemory, Gives, IsFileThere, IsFound, ◌>>=◌, bytes_due, check_due, checked_due, dictionary_due, document_limit, failing, printed_due}
+use Rattle.command_line.specs.Due.{Found, FailsAs, OfDue, OfFiles, OfMemory, GivesDue, IsFileThere, IsFound, ◌>>=◌, bytes_due, check_due, checked_due, dictionary_due, failing, printed_due}
 use Rattle.command_line.specs.Failures.{document_failure, failure_of, is_fault}
 use Rattle.command_line.specs.Forms.{AllOfIt, AllPrinted, AreFirstLines, FilesFailed, IsCaused, IsReport, IsWholeReport, Met, Refused, SomeOfIt, Wanting, end_printed, is_alone, lines_before}
 use Rattle.command_line.specs.Given.{end_by, text_by}
@@ -26,6 +26,7 @@ use Rattle.command_line.specs.declared.failure.Failure.{Failure}
 use Rattle.command_line.specs.declared.failure.Failure.TheVariants.{Words, Load, Input, NoMemory}
 use Rattle.command_line.specs.declared.requests.Request.{Request}
 use Rattle.command_line.proofs.EndLemmas.{goes-on}
+use Rattle.command_line.specs.declared.loading.TheConstants.{DOCUMENT_LIMIT}
 
 -- ---- one thing after another
 
@@ -37,12 +38,12 @@ fails-then f (OfMemory is) = OfMemory is
 
 -- behind what is given all goes on
 pub gives-then : {A B C : Type 0} {due : Result A Failure} {given : A} (f : A → Result B Failure) (view : C → B) (result : Result C Failure)
-    → due ≡ Ok given → Gives view (f given) result → Gives view (due >>= f) result
-gives-then f view result is gives = subst (λ d. Gives view (d >>= f) result) (sym is) gives
+    → due ≡ Ok given → GivesDue view (f given) result → GivesDue view (due >>= f) result
+gives-then f view result is gives = subst (λ d. GivesDue view (d >>= f) result) (sym is) gives
 
 -- the failure of a result is one that is told
 pub gives-failure : {A B : Type 0} {due : Result B Failure} {failure : Failure} (view : A → B) (result : Result A Failure) → FailsAs due failure
-    → IsErrAnd result (λ told. told ≡ failure) → Gives view due result
+    → IsErrAnd result (λ told. told ≡ failure) → GivesDue view due result
 gives-failure view (Ok given) fails is = absurd is
 gives-failure {due = due} view (Err told) fails is = subst (FailsAs due) (sym is) fails
 
@@ -60,9 +61,9 @@ document-fails due _ is = OfDue refl (ap (failing document_failure) is)
 
 -- the failure of a file of a document
 abbrev file_failure : FileFault → Failure
-file_failure fault = failure_of (load_fault_of document_limit fault)
+file_failure fault = failure_of (load_fault_of DOCUMENT_LIMIT fault)
 
-pub file-fails : (file : Option (List ℕ)) (fault : FileFault) → FileFails (file_due document_limit file) fault → FailsAs (bytes_due file) (file_failure fault)
+pub file-fails : (file : Option (List ℕ)) (fault : FileFault) → FileFails (file_due DOCUMENT_LIMIT file) fault → FailsAs (bytes_due file) (file_failure fault)
 unfolding bytes_due
 file-fails file FileFailed is = OfFiles refl
 file-fails file FileWanting is = OfMemory refl
@@ -109,7 +110,7 @@ found-both (Some folder) names there file is also = rw (is, also) refl
 
 -- what is due of the files that there are
 abbrev pub IsChecked : Option Folder → CheckedFiles → Result Report Failure → Type 0
-IsChecked told names result = (found : Found) × IsFound told names found × Gives printed_by (check_due found) result
+IsChecked told names result = (found : Found) × IsFound told names found × GivesDue printed_by (check_due found) result
 
 -- the dictionary is not loaded
 pub check-not-loaded : (told : Option Folder) (names : CheckedFiles) {failure : Failure} (result : Result Report Failure)
@@ -136,22 +137,22 @@ check-no-document told names result (there, is, due) (file, also, fails) fault =
 pub check-reported : (told : Option Folder) (names : CheckedFiles) {lexicon : Lexicon} {document : List ℕ} (result : Result Report Failure)
     → (there : DictionaryFiles) × IsThere told names.aff names.dic there × (dictionary_due there ≡ Ok lexicon)
     → (file : Option (List ℕ)) × IsFileThere told names.document file × (bytes_due file ≡ Ok document)
-    → Gives printed_by (printed_due report_of lexicon document) result → IsChecked told names result
+    → GivesDue printed_by (printed_due report_of lexicon document) result → IsChecked told names result
 unfolding checked_due
 check-reported told names result (there, is, due) (file, also, bytes) gives =
     (_, found-both told names there file is also, gives-then _ printed_by result due (gives-then _ printed_by result bytes gives))
 
 -- bytes that are few enough are due
-pub bytes-made : (bytes given : List ℕ) → given ≡ bytes → length given ≤ document_limit → bytes_due (Some bytes) ≡ Ok given
+pub bytes-made : (bytes given : List ℕ) → given ≡ bytes → length given ≤ DOCUMENT_LIMIT → bytes_due (Some bytes) ≡ Ok given
 unfolding bytes_due file_due
 bytes-made bytes given same few =
-    let fits : nat_le (length bytes) document_limit ≡ true = le-leb (length bytes) document_limit (subst (λ b. length b ≤ document_limit) same few) in
+    let fits : nat_le (length bytes) DOCUMENT_LIMIT ≡ true = le-leb (length bytes) DOCUMENT_LIMIT (subst (λ b. length b ≤ DOCUMENT_LIMIT) same few) in
     ap (λ fits. failing file_failure (if fits then Ok bytes else Err FileTooLong)) fits ∙ ap Ok (sym same)
 
 -- ---- what is written of it
 
 -- what a result tells is a report of what is due
-pub report-given : (due : Result Printed Failure) (outcome : Result Report Failure) → Gives printed_by due outcome → IsReport due (text_by outcome) (end_by outcome)
+pub report-given : (due : Result Printed Failure) (outcome : Result Report Failure) → GivesDue printed_by due outcome → IsReport due (text_by outcome) (end_by outcome)
 report-given due (Ok report) is = AllPrinted (printed_by report) is refl refl
 report-given due (Err failure) (OfDue fault is) = Refused failure fault is refl
 report-given due (Err failure) (OfFiles is) = FilesFailed (ap Failed is)
@@ -167,7 +168,7 @@ printed-goes-on true = refl
 printed-goes-on false = refl
 
 -- with its cause
-pub report-caused : {asked : Option Request} {met : Met} (due : Result Printed Failure) (outcome : Result Report Failure) → Gives printed_by due outcome
+pub report-caused : {asked : Option Request} {met : Met} (due : Result Printed Failure) (outcome : Result Report Failure) → GivesDue printed_by due outcome
     → (IsErrOf outcome (Load FailedLoad) → met.files_before < met.files_after) → IsCaused asked met (text_by outcome) (end_by outcome)
 report-caused due (Ok report) is failed = goes-on (printed-goes-on (report.marks == 0)) (λ input. printed-unfailed (report.marks == 0) input)
 report-caused due (Err failure) fails failed = failure-caused fails (λ is. failed (ap Err is))

@@ -11,10 +11,7 @@ use Rattle.command_line.specs.Failures.{document_failure, failure_of, is_fault}
 use Rattle.command_line.specs.Operands.{CheckedFiles, StartAndSize}
 use Rattle.command_line.specs.declared.failure.Failure.{Failure}
 use Rattle.command_line.specs.declared.failure.Failure.TheVariants.{Load, NoMemory}
-
--- the greatest size of a document, in bytes
-abbrev pub document_limit : ℕ
-document_limit = 67108864
+use Rattle.command_line.specs.declared.loading.TheConstants.{DOCUMENT_LIMIT}
 
 -- what there is of the files of a dictionary and of a document: the bytes of each, if it is there
 pub record Found : Type 0 where
@@ -39,7 +36,7 @@ dictionary_due files = failing failure_of (lexicon_due files)
 
 -- what is due of the file of a document
 unfoldable pub bytes_due : Option (List ℕ) → Result (List ℕ) Failure
-bytes_due file = failing (λ fault. failure_of (load_fault_of document_limit fault)) (file_due document_limit file)
+bytes_due file = failing (λ fault. failure_of (load_fault_of DOCUMENT_LIMIT fault)) (file_due DOCUMENT_LIMIT file)
 
 -- what is due of a document, by a dictionary
 unfoldable pub printed_due : (Lexicon → List (List ℕ) → Printed) → Lexicon → List ℕ → Result Printed Failure
@@ -85,6 +82,6 @@ pub data FailsAs {A : Type 0} (due : Result A Failure) (failure : Failure) : Typ
   OfMemory : failure ≡ NoMemory → FailsAs due failure
 
 -- a call gives what is due, seen by `view`, or fails so
-abbrev pub Gives : {A B : Type 0} → (A → B) → Result B Failure → Result A Failure → Type 0
-Gives view due (Ok given) = due ≡ Ok (view given)
-Gives view due (Err failure) = FailsAs due failure
+abbrev pub GivesDue : {A B : Type 0} → (A → B) → Result B Failure → Result A Failure → Type 0
+GivesDue view due (Ok given) = due ≡ Ok (view given)
+GivesDue view due (Err failure) = FailsAs due failure

@@ -9,8 +9,7 @@ use Rattle.dictionary_swap.specs.Loads.{DictionaryFiles, found_in}
 use Rattle.dictionary_swap.specs.declared.fault.LoadFault.TheVariants.{Failed as FailedLoad}
 use Rattle.document_report.specs.Reports.{Printed}
 use Rattle.input_lines.specs.Ends.{HasEnded, Reading}
-use Rattle.input_lines.specs.Lines.{IsBounded, IsShort, before_quit, input_limit}
-use Rattle.input_lines.specs.Answers.{line_limit}
+use Rattle.input_lines.specs.Lines.{IsBounded, IsShort, before_quit}
 use Rattle.input_lines.specs.declared.reading_end.ReadingEnd.{ReadingEnd}
 use Rattle.input_lines.specs.declared.reading_end.ReadingEnd.TheVariants as reading
 use Rattle.console_lang.specs.declared.reply.Reply.{Reply}
@@ -24,6 +23,7 @@ use Rattle.command_line.specs.declared.ending.End.{End}
 use Rattle.command_line.specs.declared.ending.End.TheVariants.{Quiet, Marked, Failed}
 use Rattle.command_line.specs.declared.failure.Failure.{Failure}
 use Rattle.command_line.specs.declared.failure.Failure.TheVariants.{Words, Load, Document, Input, Limit, NoMemory}
+use Rattle.input_lines.specs.declared.limits.TheConstants.{INPUT_LIMIT, LINE_LIMIT}
 
 -- What a call meets outside: what the folder tells, how often the files had failed before the call and behind it, and what was read of the input.
 pub record Met : Type 0 where
@@ -108,8 +108,8 @@ HasReplied met lexicon ended text = HasEnded is_quit (AreReplied met lexicon) me
 abbrev pub end_of : ReadingEnd → Option End
 end_of reading.Finished = Some Quiet
 end_of reading.Interrupted = Some (Failed Input)
-end_of reading.TooMuch = Some (Failed (Limit input_limit))
-end_of reading.LongLine = Some (Failed (Limit line_limit))
+end_of reading.TooMuch = Some (Failed (Limit INPUT_LIMIT))
+end_of reading.LongLine = Some (Failed (Limit LINE_LIMIT))
 end_of reading.NoMemory = Some (Failed NoMemory)
 end_of reading.SinkFailed = None
 

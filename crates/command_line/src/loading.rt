@@ -1,16 +1,19 @@
 //! Loads the files that words name. Why a file is not loaded is a failure.
 
-ghost use Rattle.std.specs.Prelude.{◌≡◌, ◌<◌, ◌≤◌, ℕ, List, Option, IsErrOf};
+ghost use Rattle.std.specs.Prelude.{◌≡◌, ◌<◌, ◌≤◌, ℕ, List, Option, IfOk, IsErrOf};
 ghost use Rattle.console_board.specs.Transcripts.{IsThere};
 ghost use Rattle.dictionary_swap.specs.Loads.{DictionaryFiles};
 ghost use Rattle.dictionary_swap.specs.declared.fault.LoadFault.TheVariants.{Failed};
-ghost use Rattle.command_line.specs.Due.{Gives, IsFileThere, bytes_due, dictionary_due};
+ghost use Rattle.command_line.specs.Due.{GivesDue, IsFileThere, bytes_due, dictionary_due};
 ghost use Rattle.command_line.specs.declared.failure.Failure.TheVariants.{Load};
 
 use crate::failure::Failure;
 use dictionary_swap::{LoadFault, load};
+use lists::NoMemory;
 use outside::{Files, load_file};
+use paragraph_marks::Plain;
 use std::alloc::Global;
+use std::sync::Arc;
 use word_verdict::Speller;
 
 /// How large a document may be, in bytes.
@@ -24,7 +27,7 @@ pub fn load_speller<F: Files>(
     dic: &str,
 ) -> Result<Speller, Failure>
     // It is what is due of some files, which are those that are told, where some are.
-    ensures due { (there : DictionaryFiles) × IsThere (F.told files.old) aff.now dic.now there × Gives (λ speller. speller) (dictionary_due there) result }
+    ensures due { (there : DictionaryFiles) × IsThere (F.told files.old) aff.now dic.now there × GivesDue (λ speller. speller) (dictionary_due there) result }
     ensures failed { IsErrOf result (Load Failed) → F.faults files.old < F.faults files.new }
     ensures same { F.told files.new ≡ F.told files.old }
     ensures count { F.faults files.old ≤ F.faults files.new }
@@ -35,9 +38,33 @@ pub fn load_speller<F: Files>(
     }
 }
 
+/// The dictionary of these two files, to be asked. It is shared at once, since a function that holds a whole dictionary beside other
+/// values takes minutes to prove.
+pub fn load_judge<F: Files>(
+    alloc: Global,
+    files: &mut F,
+    aff: &str,
+    dic: &str,
+) -> Result<Plain<Speller>, Failure>
+    ensures due { (there : DictionaryFiles) × IsThere (F.told files.old) aff.now dic.now there × GivesDue (λ judge. judge) (dictionary_due there) result }
+    ensures failed { IsErrOf result (Load Failed) → F.faults files.old < F.faults files.new }
+    ensures same { F.told files.new ≡ F.told files.old }
+    ensures count { F.faults files.old ≤ F.faults files.new }
+{
+    let speller = load_speller(alloc, files, aff, dic)?;
+    Ok(judge_of(alloc, speller)?)
+}
+
+/// A dictionary, to be asked.
+fn judge_of(alloc: Global, speller: Speller) -> Result<Plain<Speller>, NoMemory>
+    ensures { IfOk result (λ judge. judge ≡ speller) }
+{
+    Ok(Plain::new(Arc::new(alloc, speller)?))
+}
+
 /// The bytes of a document.
 pub fn load_document<F: Files>(alloc: Global, files: &mut F, name: &str) -> Result<Vec<u8>, Failure>
-    ensures due { (file : Option (List ℕ)) × IsFileThere (F.told files.old) name.now file × Gives (λ bytes. bytes.items) (bytes_due file) result }
+    ensures due { (file : Option (List ℕ)) × IsFileThere (F.told files.old) name.now file × GivesDue (λ bytes. bytes.items) (bytes_due file) result }
     ensures failed { IsErrOf result (Load Failed) → F.faults files.old < F.faults files.new }
     ensures same { F.told files.new ≡ F.told files.old }
     ensures count { F.faults files.old ≤ F.faults files.new }

@@ -7,13 +7,13 @@ use Rattle.std.specs.Str.{IsUtf8}
 use Rattle.std.proofs.lemmas.Bool.{eq-eqb, eqb-true, false≢true, leb-true, lt-ltb}
 use Rattle.std.proofs.lemmas.Bool.Decides.{nat_tests}
 use Rattle.std.proofs.lemmas.Grind.{common_steps}
-use Rattle.std.proofs.lemmas.List.{drop-map, length-map, map-append, map-set, set_split, take-append-drop, take-map}
-use Rattle.std.proofs.lemmas.List.Edits.{insert_end}
+use Rattle.std.proofs.lemmas.List.{length-map, map-set, set_split, take-append-drop}
 use Rattle.std.proofs.lemmas.List.Elements.{All-from_recursion}
 use Rattle.std.proofs.lemmas.List.Folds.{find_at}
 use Rattle.std.proofs.lemmas.List.Quantifiers.{position-Some}
 use Rattle.std.proofs.lemmas.Option.{cond_some, gets, none-some, option_and_then_some, same_Some, slice_get-get_or, slice_get-map, slice_get_past, slice_get_within}
 use Rattle.std.proofs.lemmas.Str.{IsCharBoundary-start}
+use Rattle.lists.specs.Laws.{map-insert, map-remove}
 use Rattle.outside.specs.Files.{Folder}
 use Rattle.console_lang.specs.declared.command.Command.{Command}
 use Rattle.console_lang.specs.declared.command.Command.TheVariants.{Ins, Put, Sub, Del, Stop, Ask, Load, Show, Settle, Quit}
@@ -34,9 +34,11 @@ use Rattle.edit_core.specs.declared.refusal.Refusal.TheVariants.{Gone, Spent}
 use Rattle.edit_core.specs.declared.state.Standing.{Standing}
 use Rattle.edit_core.specs.declared.state.Standing.TheVariants as standing
 use Rattle.console_board.specs.BoardAnswers.{HasReply, IsAnswered, IsAsked, IsWholeAt, PutsWhole, event_for, gap_at, names_place, paragraph_at, reply_for}
-use Rattle.console_board.specs.Boards.{console_of, stand_of}
-use Rattle.console_board.specs.Consoles.{Console, Outcome, Stand, Waiting, asked_from, at_place, index_of, inserted, remove_at, replace_at, splice_at, stand_at, stopped_from, text_at}
-use Rattle.console_board.specs.Transcripts.{Does, HasWholeText, Is}
+use Rattle.console_board.specs.Boards.{console_of, state_of}
+use Rattle.console_board.specs.Consoles.{Console, Outcome, TextState, Waiting, asked_from, at_place, index_of, inserted, remove_at, replace_at, splice_at, state_at, stopped_from, text_at}
+use Rattle.console_board.specs.Transcripts.{IsReplyTo, HasWholeText, HasOutcome}
+use Rattle.edit_core.specs.declared.limits.TheConstants.{MOST_MOVED}
+use Rattle.paragraph_text.specs.declared.limits.TheConstants.{MOST_BYTES, MOST_PARAGRAPHS}
 
 -- what follows of a value, if there is one
 pub if-ok : {T E : Type 0} (result : Result T E) {P Q : T → Type 0} → ((x : T) → P x → Q x)
@@ -142,14 +144,6 @@ split-at : {X : Type 0} (xs : List X) (k : ℕ) (x : X) → slice_get xs k ≡ S
     → xs ≡ take k xs ++ x ∷ drop (suc k) xs
 split-at xs k x is = grind (arith, common_steps, gets)
 
-map-insert : {X Y : Type 0} (f : X → Y) (xs : List X) (k : ℕ) (x : X)
-    → map f (insert xs k x) ≡ insert (map f xs) k (f x)
-map-insert f xs k x = simp (map-append, take-map, drop-map)
-
-map-remove : {X Y : Type 0} (f : X → Y) (xs : List X) (k : ℕ)
-    → map f (remove xs k) ≡ remove (map f xs) k
-map-remove f xs k = simp (map-append, take-map, drop-map)
-
 -- all bytes of a text become others
 all-spliced : (text put : List ℕ) → spliced text 0 (length text) put ≡ put
 all-spliced text put = ap (λ rest. put ++ rest) (drop-length text) ∙ append-nil put
@@ -157,10 +151,10 @@ all-spliced text put = ap (λ rest. put ++ rest) (drop-length text) ∙ append-n
 -- ---- what comes of an event that is answered
 
 -- what an edit makes of a console
-abbrev edited : Console → List (List ℕ) → List Stand → Outcome
+abbrev edited : Console → List (List ℕ) → List TextState → Outcome
 edited console texts stands = record {
-  reply = Done (console.text + 1);
-  after = record console { text = console.text + 1; texts = texts; stands = stands };
+  reply = Done (console.text_version + 1);
+  after = record console { text_version = console.text_version + 1; texts = texts; states = stands };
 }
 
 module _ (told : Option Folder) (by : ℕ) (board after : Seen) (reply : Reply) where
@@ -169,7 +163,7 @@ module _ (told : Option Folder) (by : ℕ) (board after : Seen) (reply : Reply) 
 
   -- this is replied, and the board becomes that console
   abbrev Becomes : Outcome → Type 0
-  Becomes outcome = Is outcome reply (console_of after)
+  Becomes outcome = HasOutcome outcome reply (console_of after)
 
   -- an event with this refusal, if it has one, is answered so
   abbrev Told : SeenEvent → Option Refusal → Type 0
@@ -222,11 +216,11 @@ module _ (told : Option Folder) (by : ℕ) (board after : Seen) (reply : Reply) 
       replied said (sym says ∙ answered.0) answered.1
 
   -- an edit that is taken makes these paragraphs, and no others
-  taken : (edit : Edit) (paragraphs : List Paragraph) (texts : List (List ℕ)) (stands : List Stand)
+  taken : (edit : Edit) (paragraphs : List Paragraph) (texts : List (List ℕ)) (stands : List TextState)
       → Told (AnEdit by edit) None
       → Applies (board.text + 1) board.next_id board.paragraphs edit paragraphs
       → map (λ paragraph. paragraph.text) paragraphs ≡ texts
-      → map stand_of (kept_after standing.Waiting board.paragraphs board.standings edit) ≡ stands
+      → map state_of (kept_after standing.Waiting board.paragraphs board.standings edit) ≡ stands
       → Becomes (edited console texts stands)
   taken edit paragraphs texts stands is applies texts-are stands-are =
       let same = is.only _ (record {
@@ -248,7 +242,7 @@ module _ (told : Option Folder) (by : ℕ) (board after : Seen) (reply : Reply) 
         → Becomes (remove_at console index)
     removed-here answered =
         taken (Remove paragraph.id paragraph.rev) (remove board.paragraphs index)
-        (remove console.texts index) (remove console.stands index)
+        (remove console.texts index) (remove console.states index)
         (rw (here.named, own-rev) at answered)
         (record {
           front = take index board.paragraphs;
@@ -260,7 +254,7 @@ module _ (told : Option Folder) (by : ℕ) (board after : Seen) (reply : Reply) 
           after_is = refl;
         })
         (map-remove (λ p. p.text) board.paragraphs index)
-        (rw here.at.place_is (map-remove stand_of board.standings index))
+        (rw here.at.place_is (map-remove state_of board.standings index))
 
     text-here : text_at console index ≡ paragraph.text
     text-here =
@@ -279,10 +273,10 @@ module _ (told : Option Folder) (by : ℕ) (board after : Seen) (reply : Reply) 
         rw text-here (
         tested event (is_span text from to) (edits.BadSpan (length text)) (NoBadSpan (length text))
         _ _ refl (rw (here.named, own-rev) at answered)
-        (λ span rest. last-tested event (leb (length made) 65536) (edits.TooLong (length made))
+        (λ span rest. last-tested event (leb (length made) MOST_BYTES) (edits.TooLong (length made))
         (NoTooLong (length made)) _ refl (past-break event _ _ rest)
         (λ short is. taken (Replace paragraph.id paragraph.rev from to put)
-        (set board.paragraphs index changed) (set console.texts index made) (set console.stands index Waiting) is
+        (set board.paragraphs index changed) (set console.texts index made) (set console.states index Waiting) is
         (record {
           front = take index board.paragraphs;
           touched = paragraph;
@@ -292,11 +286,11 @@ module _ (told : Option Folder) (by : ℕ) (board after : Seen) (reply : Reply) 
           current = refl;
           span = span;
           whole = is.step.makes.applied.whole;
-          short = leb-true (length made) 65536 short;
+          short = leb-true (length made) MOST_BYTES short;
           after_is = set_split board.paragraphs index changed inside;
         })
         (map-set (λ p. p.text) board.paragraphs index changed)
-        (rw here.at.place_is (map-set stand_of board.standings index standing.Waiting))))
+        (rw here.at.place_is (map-set state_of board.standings index standing.Waiting))))
         )
 
     -- `put P TEXT`
@@ -312,10 +306,10 @@ module _ (told : Option Folder) (by : ℕ) (board after : Seen) (reply : Reply) 
     moved becomes =
         record board { point = board.point + 1; standings = set board.standings index becomes }
 
-    abbrev stood : Stand → Outcome
+    abbrev stood : TextState → Outcome
     stood stand = record {
       reply = Done board.text;
-      after = record console { stands = set console.stands index stand };
+      after = record console { states = set console.states index stand };
     }
 
     makes-moved : {may : Paragraph → Standing → Type 0} {becomes stands : Standing}
@@ -331,20 +325,20 @@ module _ (told : Option Folder) (by : ℕ) (board after : Seen) (reply : Reply) 
     }
 
     moves : (event : SeenEvent) (becomes : Standing) → Told event None
-        → Makes board event (moved becomes) → Becomes (stood (stand_of becomes))
+        → Makes board event (moved becomes) → Becomes (stood (state_of becomes))
     moves event becomes is makes =
         let same = sym (is.only _ (record { goes_on = is.step.goes_on; makes = makes })) in (
           is.reply_is ∙ ap (λ (b : Seen). Done b.text) same,
-          ap console_of same ∙ cc (map-set stand_of board.standings index becomes),
+          ap console_of same ∙ cc (map-set state_of board.standings index becomes),
         )
 
-    stand-here : stand_at console index ≡ stand_of here.stands
-    stand-here = rw (slice_get-map stand_of board.standings index, here.at.standing_is)
+    stand-here : state_at console index ≡ state_of here.stands
+    stand-here = rw (slice_get-map state_of board.standings index, here.at.standing_is)
 
     -- `stop P`
     parked : (stands : Standing) → IsAt board paragraph.id index paragraph stands
         → Told (APark by paragraph.id) (settled paragraph.rev stands)
-        → Becomes (stopped_from console index (stand_of stands))
+        → Becomes (stopped_from console index (state_of stands))
     parked standing.Waiting at answered = moves (APark by paragraph.id) standing.Parked answered
         (makes-moved at refl)
     parked (standing.Held worker) at answered = moves (APark by paragraph.id) standing.Parked
@@ -353,14 +347,14 @@ module _ (told : Option Folder) (by : ℕ) (board after : Seen) (reply : Reply) 
     parked standing.Parked at answered = replied NoParked answered.0 answered.1
 
     stopped-here : Answered (APark by paragraph.id)
-        → Becomes (stopped_from console index (stand_at console index))
+        → Becomes (stopped_from console index (state_at console index))
     stopped-here answered =
         rw stand-here (parked here.stands here.at (rw here.found_is at answered))
 
     -- `ask P`
     waits-again : (stands : Standing) → IsAt board paragraph.id index paragraph stands
         → Told (AnAsk by paragraph.id) (not_parked paragraph.rev stands)
-        → Becomes (asked_from console index (stand_of stands))
+        → Becomes (asked_from console index (state_of stands))
     waits-again standing.Parked at answered = moves (AnAsk by paragraph.id) standing.Waiting
         answered (makes-moved at refl)
     waits-again standing.Waiting at answered = replied NoNotParked answered.0 answered.1
@@ -368,7 +362,7 @@ module _ (told : Option Folder) (by : ℕ) (board after : Seen) (reply : Reply) 
     waits-again standing.Finished at answered = replied NoNotParked answered.0 answered.1
 
     asked-here : Answered (AnAsk by paragraph.id)
-        → Becomes (asked_from console index (stand_at console index))
+        → Becomes (asked_from console index (state_at console index))
     asked-here answered =
         rw stand-here (waits-again here.stands here.at (rw here.found_is at answered))
 
@@ -388,11 +382,10 @@ module _ (told : Option Folder) (by : ℕ) (board after : Seen) (reply : Reply) 
               kept = λ put. rw here.at.place_is;
             }
         with-found None at =
-            let last : index ≡ length board.paragraphs = grind (arith, common_steps, gets) in
-            let beside : index ≡ length board.standings = omega (arith, valid.standings) in record {
+            let last : index ≡ length board.paragraphs = grind (arith, common_steps, gets) in record {
               begins = rw last (drop-length board.paragraphs);
               gone = refl;
-              kept = λ put. rw beside (sym (insert_end board.standings standing.Waiting));
+              kept = λ put. rw last refl;
             }
 
     -- `ins P TEXT`
@@ -407,14 +400,14 @@ module _ (told : Option Folder) (by : ℕ) (board after : Seen) (reply : Reply) 
         let gap = subst (IsGap board index) same (gap-is index within) in
         let new : Paragraph = record { id = board.next_id; rev = board.text + 1; text = put } in
         let texts = insert console.texts index put in
-        let stands = insert console.stands index Waiting in
+        let stands = insert console.states index Waiting in
         let no-room : Outcome = record { reply = NoFull count; after = console } in
         let long = length-map board.paragraphs (λ p. p.text) in
         rw (long, place-is, long) (
-        tested event (leb (length put) 65536) (edits.TooLong (length put)) (NoTooLong (length put))
-        _ (cond (ltb count 20000) (edited console texts stands) no-room) refl
+        tested event (leb (length put) MOST_BYTES) (edits.TooLong (length put)) (NoTooLong (length put))
+        _ (cond (ltb count MOST_PARAGRAPHS) (edited console texts stands) no-room) refl
         (past-break event _ _ (rw gap.gone at answered))
-        (λ short rest. last-tested event (ltb count 20000) (edits.Full count) (NoFull count)
+        (λ short rest. last-tested event (ltb count MOST_PARAGRAPHS) (edits.Full count) (NoFull count)
         (edited console texts stands) refl rest
         (λ room is. taken (Insert before put) (insert board.paragraphs index new) texts stands is
         (record {
@@ -428,8 +421,8 @@ module _ (told : Option Folder) (by : ℕ) (board after : Seen) (reply : Reply) 
           after_is = refl;
         })
         (map-insert (λ p. p.text) board.paragraphs index new)
-        (ap (map stand_of) (gap.kept put)
-        ∙ map-insert stand_of board.standings index standing.Waiting)))
+        (ap (map state_of) (gap.kept put)
+        ∙ map-insert state_of board.standings index standing.Waiting)))
         ))
 
     -- what is done at a place is done with the paragraph that is there, by an event of it
@@ -452,8 +445,8 @@ module _ (told : Option Folder) (by : ℕ) (board after : Seen) (reply : Reply) 
     -- the command does what its event makes of the board
     pub event-does : (command : Command) (event : SeenEvent) → PutsWhole board command
         → event_for by board command ≡ Some event → Told event (first_refusal board event)
-        → Does told console command reply (console_of after)
-    unfolding Does
+        → IsReplyTo told console command reply (console_of after)
+    unfolding IsReplyTo
     event-does (Ins place text) event whole is answered =
         mapped _ (gap_at board place) event is (λ before at same.
         inserted-here place before text at (subst Answered (sym same) (goes-on event answered)))
@@ -467,10 +460,10 @@ module _ (told : Option Folder) (by : ℕ) (board after : Seen) (reply : Reply) 
         done-at place (remove_at console) _ event is answered
         (λ index paragraph here at. removed-here here)
     event-does (Stop place) event whole is answered =
-        done-at place (λ index. stopped_from console index (stand_at console index)) _ event is
+        done-at place (λ index. stopped_from console index (state_at console index)) _ event is
         answered (λ index paragraph here at. stopped-here here)
     event-does (Ask place) event whole is answered =
-        done-at place (λ index. asked_from console index (stand_at console index)) _ event is
+        done-at place (λ index. asked_from console index (state_at console index)) _ event is
         answered (λ index paragraph here at. asked-here here)
     event-does _ event whole is answered = absurd (none-some event is)
 
@@ -487,8 +480,8 @@ module _ (told : Option Folder) (by : ℕ) (board after : Seen) (reply : Reply) 
   -- it is told that there is no such place, and nothing changes
   pub no-event-does : (command : Command) → names_place command ≡ true
       → event_for by board command ≡ None → reply ≡ NoPlace (length board.paragraphs)
-      → after ≡ board → Does told console command reply (console_of after)
-  unfolding Does
+      → after ≡ board → IsReplyTo told console command reply (console_of after)
+  unfolding IsReplyTo
   no-event-does (Ins place text) named none is stays =
       let past = unmapped _ (index_of place (length board.paragraphs + 1)) (unmapped _ _ none) in
       rw (length-map board.paragraphs (λ p. p.text), past) (is, ap console_of stays)
@@ -578,11 +571,11 @@ event-has board (AnAsk session id) asked = asks (found id board)
 event-has board _ asked = absurd asked
 
 -- a history that is far from its last point goes on
-point-below : (point more all : ℕ) → point + more + 40001 ≤ all → point < all
+point-below : (point more all : ℕ) → point + more + MOST_MOVED ≤ all → point < all
 point-below point more all room = omega arith
 
 pub has-reply : (board : Seen) (event : SeenEvent) → IsAsked event
-    → furthest_point board + 40001 ≤ 2 ^ 62 → HasReply (first_refusal board event)
+    → furthest_point board + MOST_MOVED ≤ 2 ^ 62 → HasReply (first_refusal board event)
 has-reply board event asked room =
     let more = 2 * count_by is_waiting board.standings + count_by is_held board.standings in
     let far = point-below board.point more (2 ^ 62) room in

@@ -3,7 +3,7 @@ use Rattle.std.proofs.Common.{◌≡◌, ◌∙◌, inl, inr, refl, sym, ap, sub
 use Rattle.std.specs.Prelude.{IfSome}
 use Rattle.console_lang.specs.declared.reply.Reply.{Reply}
 use Rattle.console_lang.specs.declared.reply.Reply.TheVariants.{Dict}
-use Rattle.dictionary_swap.specs.Loads.{DictionaryFiles, FailsAs, Gives, lexicon_due, found_in}
+use Rattle.dictionary_swap.specs.Loads.{DictionaryFiles, FailsAs, GivesDue, lexicon_due, found_in}
 use Rattle.dictionary_swap.specs.declared.fault.LoadFault.{LoadFault}
 use Rattle.dictionary_swap.specs.declared.fault.LoadFault.TheVariants.{Failed, NoMemory}
 use Rattle.outside.specs.Files.{Folder}
@@ -13,24 +13,24 @@ use Rattle.edit_core.specs.Seen.{Seen}
 use Rattle.edit_core.specs.Steps.{Step, reloaded}
 use Rattle.edit_core.specs.declared.state.Standing.{Standing}
 use Rattle.edit_core.specs.declared.state.Standing.TheVariants as standing
-use Rattle.console_board.specs.Boards.{console_of, stand_of}
-use Rattle.console_board.specs.Consoles.{Console, fault_reply, load_outcome, loaded, reloaded_stand}
-use Rattle.console_board.specs.Transcripts.{Is, IsThere, Loads}
+use Rattle.console_board.specs.Boards.{console_of, state_of}
+use Rattle.console_board.specs.Consoles.{Console, fault_reply, load_outcome, loaded, state_reloaded}
+use Rattle.console_board.specs.Transcripts.{HasOutcome, IsThere, Loads}
 
 -- ---- a dictionary in force
 
 stands-reloaded : (standings : List Standing)
-    → map stand_of (map reloaded standings) ≡ map reloaded_stand (map stand_of standings)
+    → map state_of (map reloaded standings) ≡ map state_reloaded (map state_of standings)
 stands-reloaded [] = refl
 stands-reloaded (standing.Parked ∷ standings) = cc (stands-reloaded standings)
 stands-reloaded (_ ∷ standings) = cc (stands-reloaded standings)
 
 pub load-is : {board after : Seen} {lexicon : Lexicon} → Step board (ALoad lexicon) after
-    → Is (loaded (console_of board) lexicon) (Dict after.dict) (console_of after)
+    → HasOutcome (loaded (console_of board) lexicon) (Dict after.dict) (console_of after)
 load-is {board} {after} {lexicon} step = (
   ap (λ (b : Seen). Dict b.dict) step.makes,
   ap console_of step.makes
-      ∙ ap (λ stands. record (console_of board) { dict = board.dict + 1; lexicon = lexicon; stands = stands })
+      ∙ ap (λ stands. record (console_of board) { dict_version = board.dict + 1; lexicon = lexicon; states = stands })
       (stands-reloaded board.standings),
 )
 
@@ -38,21 +38,21 @@ load-is {board} {after} {lexicon} step = (
 
 -- a result is due of some files, and of those of the folder that is told, where one is
 pub record IsDue (told : Option Folder) (aff dic : List ℕ) (result : Result Lexicon LoadFault) : Type 0 where
-  pub found : (there : DictionaryFiles) × Gives (λ speller. speller) (lexicon_due there) result
-  pub told_is : IfSome told (λ folder. Gives (λ speller. speller) (lexicon_due (found_in folder aff dic)) result)
+  pub found : (there : DictionaryFiles) × GivesDue (λ speller. speller) (lexicon_due there) result
+  pub told_is : IfSome told (λ folder. GivesDue (λ speller. speller) (lexicon_due (found_in folder aff dic)) result)
 
 -- so there are some of which it is due: those of the folder that is told, where one is
 found-files : (told : Option Folder) {aff dic : List ℕ} {result : Result Lexicon LoadFault} → IsDue told aff dic result
-    → (there : DictionaryFiles) × IsThere told aff dic there × Gives (λ speller. speller) (lexicon_due there) result
+    → (there : DictionaryFiles) × IsThere told aff dic there × GivesDue (λ speller. speller) (lexicon_due there) result
 found-files None due = (due.found.0, tt, due.found.1)
 found-files (Some folder) {aff} {dic} due = (found_in folder aff dic, refl, due.told_is)
 
 -- a dictionary that is read comes into force
 pub loads-read : {told : Option Folder} {before after : Console} {aff dic : List ℕ} {reply : Reply} {lexicon : Lexicon}
-    → IsDue told aff dic (Ok lexicon) → Is (loaded before lexicon) reply after → Loads told before aff dic reply after
+    → IsDue told aff dic (Ok lexicon) → HasOutcome (loaded before lexicon) reply after → Loads told before aff dic reply after
 loads-read {told} {before} {after} {reply = reply} due is =
     let files = found-files told due in
-    inl (files.0, files.1, subst (λ read. Is (load_outcome before read) reply after) (sym files.2) is)
+    inl (files.0, files.1, subst (λ read. HasOutcome (load_outcome before read) reply after) (sym files.2) is)
 
 -- a fault that is not of memory is of files that failed, or it is what is due
 failed-or-due : {due : Result Lexicon LoadFault} (fault : LoadFault) → ¬ (fault ≡ NoMemory) → FailsAs due fault
@@ -68,5 +68,5 @@ pub faults-load : {told : Option Folder} {before after : Console} {aff dic : Lis
 faults-load {told} {before} {after} {fault = fault} {reply} due other is stays =
     let files = found-files told due in
     ⊎_elim (λ failed. inr (is ∙ ap fault_reply failed, stays))
-    (λ read. inl (files.0, files.1, subst (λ read. Is (load_outcome before read) reply after) (sym read) (is, stays)))
+    (λ read. inl (files.0, files.1, subst (λ read. HasOutcome (load_outcome before read) reply after) (sym read) (is, stays)))
     (failed-or-due fault other files.2)

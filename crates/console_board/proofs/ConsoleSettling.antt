@@ -3,7 +3,7 @@ use Rattle.std.proofs.Common.{◌≡◌, ◌∙◌, inl, inr, refl, sym, ap, ℕ
 use Rattle.std.specs.List.{AllByRecursion, count_by}
 use Rattle.std.specs.Option.{option_map, unwrap_or}
 use Rattle.std.proofs.lemmas.List.{length-map, map-set}
-use Rattle.std.proofs.lemmas.Option.{slice_get-map}
+use Rattle.std.proofs.lemmas.Option.{slice_get-map, same_Some}
 use Rattle.mark_types.specs.Words.{Word}
 use Rattle.mark_types.specs.declared.Mark.{Mark}
 use Rattle.paragraph_text.specs.Paragraphs.{Paragraph, IsValidIn}
@@ -19,8 +19,9 @@ use Rattle.edit_core.specs.declared.state.Standing.{Standing}
 use Rattle.edit_core.specs.declared.state.Standing.TheVariants as standing
 use Rattle.edit_core.specs.declared.view.Shown.{Shown}
 use Rattle.edit_core.specs.declared.view.Shown.TheVariants as shows
-use Rattle.console_board.specs.Boards.{console_of, stand_of}
-use Rattle.console_board.specs.Consoles.{Console, Stand, Waiting, Finished, settled, settled_stand, stand_at}
+use Rattle.console_board.specs.Boards.{console_of, state_of}
+use Rattle.console_board.specs.Consoles.{Console, TextState, Waiting, Finished, settled, settled_state, state_at}
+use Rattle.paragraph_text.specs.declared.limits.TheConstants.{MOST_BYTES}
 
 none-some : {X Y : Type 0} (x : X) → None ≡ Some x → Y
 none-some x is = cc
@@ -55,18 +56,18 @@ open-at board number (stands ∷ standings) (suc place) held at = open-at board 
 -- all else stays as it is
 kept-stands : (board : Seen) (number : ℕ) (standings : List Standing) (place : ℕ) (marks : ShownMarks) → slice_get (board_shows_from board number standings) place ≡ Some marks
     → ((held : Option ℕ) → ¬ (marks ≡ Unmarked false held))
-    → map stand_of standings ≡ set (map stand_of standings) place (settled_stand (unwrap_or (slice_get (map stand_of standings) place) Waiting))
+    → map state_of standings ≡ set (map state_of standings) place (settled_state (unwrap_or (slice_get (map state_of standings) place) Waiting))
 kept-stands board number [] place marks at other = none-some marks at
 kept-stands board number (standing.Waiting ∷ standings) zero marks at other = absurd (other None (cc))
 kept-stands board number (standing.Held worker ∷ standings) zero marks at other = absurd (other (Some worker) (cc))
 kept-stands board number (standing.Parked ∷ standings) zero marks at other = refl
 kept-stands board number (standing.Finished ∷ standings) zero marks at other = refl
 kept-stands board number (stands ∷ standings) (suc place) marks at other =
-    ap (λ more. stand_of stands ∷ more) (kept-stands board (number + 1) standings place marks at other)
+    ap (λ more. state_of stands ∷ more) (kept-stands board (number + 1) standings place marks at other)
 
 pub kept-is : (board : Seen) (place : ℕ) (marks : ShownMarks) → slice_get (reply_of board).shown place ≡ Some marks → ((held : Option ℕ) → ¬ (marks ≡ Unmarked false held))
-    → console_of board ≡ record (console_of board) { stands = set (console_of board).stands place (settled_stand (stand_at (console_of board) place)) }
-kept-is board place marks at other = ap (λ stands. record (console_of board) { stands = stands }) (kept-stands board 1 board.standings place marks at other)
+    → console_of board ≡ record (console_of board) { states = set (console_of board).states place (settled_state (state_at (console_of board) place)) }
+kept-is board place marks at other = ap (λ stands. record (console_of board) { states = stands }) (kept-stands board 1 board.standings place marks at other)
 
 -- what is marked, and what is parked, is not open
 pub marked-differs : (shown : Shown) (marks : Bor (List Mark)) → shown ≡ shows.Marks marks → (held : Option ℕ) → ¬ (shown_in shown ≡ Unmarked false held)
@@ -104,51 +105,48 @@ own-check-free decided fit board place paragraph held valid far at named shown =
     not-refused board after event (decided board event valid (fit board place paragraph.rev board.dict paragraph valid at))
     (record { goes_on = point-below board far; makes = moves })
 
-open-settles : (stands : Standing) → is_open stands ≡ true → Finished ≡ settled_stand (stand_of stands)
+open-settles : (stands : Standing) → is_open stands ≡ true → Finished ≡ settled_state (state_of stands)
 open-settles standing.Waiting free = refl
 open-settles (standing.Held worker) free = refl
 open-settles standing.Parked free = absurd (cc)
 open-settles standing.Finished free = absurd (cc)
 
-same-some : {X : Type 0} (x y : X) → Some x ≡ Some y → x ≡ y
-same-some x y is = cc
-
 -- the check settles the text at its place, and no other
 pub finished-is : (board after : Seen) (place id rev dict : ℕ) (text : List ℕ) (lexicon : Lexicon) → place_of id board.paragraphs ≡ Some place → Step board (AFinish 0 id rev dict text lexicon) after
-    → console_of after ≡ record (console_of board) { stands = set (console_of board).stands place (settled_stand (stand_at (console_of board) place)) }
+    → console_of after ≡ record (console_of board) { states = set (console_of board).states place (settled_state (state_at (console_of board) place)) }
 finished-is board after place id rev dict text lexicon named step =
     let made = step.makes in
-    let stands = map stand_of board.standings in
-    let here : made.place ≡ place = same-some made.place place (sym made.here.place_is ∙ named) in
-    let at : slice_get stands made.place ≡ Some (stand_of made.stands) = slice_get-map stand_of board.standings made.place ∙ ap (option_map stand_of) made.here.standing_is in
+    let stands = map state_of board.standings in
+    let here : made.place ≡ place = same_Some made.place place (sym made.here.place_is ∙ named) in
+    let at : slice_get stands made.place ≡ Some (state_of made.stands) = slice_get-map state_of board.standings made.place ∙ ap (option_map state_of) made.here.standing_is in
     ap console_of made.after_is
-    ∙ ap (λ (kept : List Stand). record (console_of board) { stands = kept })
-    (map-set stand_of board.standings made.place standing.Finished
-    ∙ ap (set stands made.place) (open-settles made.stands made.allowed.free ∙ ap (λ found. settled_stand (unwrap_or found Waiting)) (sym at))
-    ∙ ap (λ k. set stands k (settled_stand (unwrap_or (slice_get stands k) Waiting))) here)
+    ∙ ap (λ (kept : List TextState). record (console_of board) { states = kept })
+    (map-set state_of board.standings made.place standing.Finished
+    ∙ ap (set stands made.place) (open-settles made.stands made.allowed.free ∙ ap (λ found. settled_state (unwrap_or found Waiting)) (sym at))
+    ∙ ap (λ k. set stands k (settled_state (unwrap_or (slice_get stands k) Waiting))) here)
 
 -- ---- one place after another
 -- the first so many are settled
-pub settled_first : ℕ → List Stand → List Stand
+pub settled_first : ℕ → List TextState → List TextState
 settled_first zero stands = stands
 settled_first (suc count) [] = []
-settled_first (suc count) (stand ∷ stands) = settled_stand stand ∷ settled_first count stands
+settled_first (suc count) (stand ∷ stands) = settled_state stand ∷ settled_first count stands
 
-set-next : (count : ℕ) (stands : List Stand) → set (settled_first count stands) count (settled_stand (unwrap_or (slice_get (settled_first count stands) count) Waiting)) ≡ settled_first (suc count) stands
+set-next : (count : ℕ) (stands : List TextState) → set (settled_first count stands) count (settled_state (unwrap_or (slice_get (settled_first count stands) count) Waiting)) ≡ settled_first (suc count) stands
 unfolding settled_first
 set-next zero [] = refl
 set-next zero (stand ∷ stands) = refl
 set-next (suc count) [] = refl
-set-next (suc count) (stand ∷ stands) = ap (λ more. settled_stand stand ∷ more) (set-next count stands)
+set-next (suc count) (stand ∷ stands) = ap (λ more. settled_state stand ∷ more) (set-next count stands)
 
-pub settled-more : (first now after : Console) (place : ℕ) → now ≡ record first { stands = settled_first place first.stands }
-    → after ≡ record now { stands = set now.stands place (settled_stand (stand_at now place)) }
-    → after ≡ record first { stands = settled_first (place + 1) first.stands }
+pub settled-more : (first now after : Console) (place : ℕ) → now ≡ record first { states = settled_first place first.states }
+    → after ≡ record now { states = set now.states place (settled_state (state_at now place)) }
+    → after ≡ record first { states = settled_first (place + 1) first.states }
 settled-more first now after place is-now is-after =
-    is-after ∙ ap (λ (c : Console). record c { stands = set c.stands place (settled_stand (stand_at c place)) }) is-now
-    ∙ ap (λ (stands : List Stand). record first { stands = stands }) (set-next place first.stands ∙ ap (λ n. settled_first n first.stands) (sym (add-one place)))
+    is-after ∙ ap (λ (c : Console). record c { states = set c.states place (settled_state (state_at c place)) }) is-now
+    ∙ ap (λ (stands : List TextState). record first { states = stands }) (set-next place first.states ∙ ap (λ n. settled_first n first.states) (sym (add-one place)))
 
-pub settled-none : (console : Console) → console ≡ record console { stands = settled_first 0 console.stands }
+pub settled-none : (console : Console) → console ≡ record console { states = settled_first 0 console.states }
 unfolding settled_first
 settled-none console = refl
 
@@ -158,34 +156,34 @@ few-less n m few = omega (arith, few)
 none-left : {X : Type 0} (n : ℕ) → suc n ≤ 0 → X
 none-left n few = absurd (omega (arith, few))
 
-all-settled : (count : ℕ) (stands : List Stand) → length stands ≤ count → settled_first count stands ≡ map settled_stand stands
+all-settled : (count : ℕ) (stands : List TextState) → length stands ≤ count → settled_first count stands ≡ map settled_state stands
 unfolding settled_first
 all-settled zero [] few = refl
 all-settled zero (stand ∷ stands) few = none-left (length stands) few
 all-settled (suc count) [] few = refl
-all-settled (suc count) (stand ∷ stands) few = ap (λ more. settled_stand stand ∷ more) (all-settled count stands (few-less (length stands) count few))
+all-settled (suc count) (stand ∷ stands) few = ap (λ more. settled_state stand ∷ more) (all-settled count stands (few-less (length stands) count few))
 
 at-most : (n m k count : ℕ) → n ≡ m → m ≡ k → k ≤ count → n ≤ count
 at-most n m k count first second few = omega (arith, first, second, few)
 
 pub settled-whole : (board now : Seen) (count : ℕ) → IsValidBoard board → length board.paragraphs ≤ count
-    → console_of now ≡ record (console_of board) { stands = settled_first count (console_of board).stands } → console_of now ≡ (settled (console_of board)).after
+    → console_of now ≡ record (console_of board) { states = settled_first count (console_of board).states } → console_of now ≡ (settled (console_of board)).after
 settled-whole board now count valid few is =
-    let stands = map stand_of board.standings in
-    is ∙ ap (λ (kept : List Stand). record (console_of board) { stands = kept })
-    (all-settled count stands (at-most (length stands) (length board.standings) (length board.paragraphs) count (length-map board.standings stand_of) valid.standings few))
+    let stands = map state_of board.standings in
+    is ∙ ap (λ (kept : List TextState). record (console_of board) { states = kept })
+    (all-settled count stands (at-most (length stands) (length board.standings) (length board.paragraphs) count (length-map board.standings state_of) valid.standings few))
 
 -- ---- the words of a text
 -- each paragraph is short
 short-among : (version next_id : ℕ) (paragraphs : List Paragraph) (place : ℕ) (paragraph : Paragraph) → AllByRecursion (IsValidIn version next_id) paragraphs → slice_get paragraphs place ≡ Some paragraph
-    → length paragraph.text ≤ 65536
+    → length paragraph.text ≤ MOST_BYTES
 short-among version next_id [] place paragraph all at = none-some paragraph at
 short-among version next_id (first ∷ others) zero paragraph all at =
-    let same : first ≡ paragraph = same-some first paragraph at in
+    let same : first ≡ paragraph = same_Some first paragraph at in
     rw (← same) all.0.short
 short-among version next_id (first ∷ others) (suc place) paragraph all at = short-among version next_id others place paragraph all.1 at
 
-below-most : (n : ℕ) → n ≤ 65536 → n < 2 ^ 32
+below-most : (n : ℕ) → n ≤ MOST_BYTES → n < 2 ^ 32
 below-most n few = omega (arith, few)
 
 pub short-at : (board : Seen) (place : ℕ) (paragraph : Paragraph) → IsValidBoard board → slice_get board.paragraphs place ≡ Some paragraph → length paragraph.text < 2 ^ 32

@@ -11,7 +11,7 @@ use Rattle.edit_core.specs.Views.{ShownMarks, marks_numbered, reply_of, shown_as
 use Rattle.edit_core.specs.declared.state.Standing.{Standing}
 use Rattle.edit_core.specs.declared.state.Standing.TheVariants.{Waiting, Held, Parked, Finished}
 use Rattle.console_board.specs.BoardAnswers.{look_reply, shown_para}
-use Rattle.console_board.specs.Boards.{console_of, stand_of}
+use Rattle.console_board.specs.Boards.{console_of, state_of}
 use Rattle.console_board.specs.Consoles.{shown, shown_as, shown_from}
 
 -- ---- one text after another
@@ -36,13 +36,13 @@ texts-are : (paragraphs : List Paragraph) → map chars (map (λ (p : Paragraph)
 texts-are [] = refl
 texts-are (paragraph ∷ paragraphs) = ap (λ texts. chars paragraph.text ∷ texts) (texts-are paragraphs)
 
-as-is : (board : Seen) (number : ℕ) (stands : Standing) → shown_as (console_of board) number (stand_of stands) ≡ shown_para (board_shows board number stands)
+as-is : (board : Seen) (number : ℕ) (stands : Standing) → shown_as (console_of board) number (state_of stands) ≡ shown_para (board_shows board number stands)
 as-is board number Waiting = refl
 as-is board number (Held worker) = refl
 as-is board number Parked = refl
 as-is board number Finished = ap (λ texts. Checked (marks_numbered board.lexicon texts number)) (texts-are board.paragraphs)
 
-from-is : (board : Seen) (number : ℕ) (standings : List Standing) → shown_from (console_of board) number (map stand_of standings) ≡ map shown_para (board_shows_from board number standings)
+from-is : (board : Seen) (number : ℕ) (standings : List Standing) → shown_from (console_of board) number (map state_of standings) ≡ map shown_para (board_shows_from board number standings)
 from-is board number [] = refl
 from-is board number (stands ∷ standings) = cc (as-is board number stands, from-is board (number + 1) standings)
 

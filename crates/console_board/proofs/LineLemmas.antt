@@ -18,10 +18,12 @@ use Rattle.console_lang.specs.declared.command.CommandFault.TheVariants.{BadComm
 use Rattle.console_lang.specs.declared.reply.Reply.{Reply}
 use Rattle.edit_core.specs.Runs.{furthest_point}
 use Rattle.edit_core.specs.Seen.{Seen}
+use Rattle.input_lines.specs.declared.limits.TheConstants.{LINE_LIMIT}
 use Rattle.console_board.specs.Boards.{lines_left}
 use Rattle.console_board.specs.Consoles.{Console}
 use Rattle.console_board.specs.Starts.{asked-nothing}
 use Rattle.console_board.specs.Transcripts.{Answers, HasWholeText, IsReplied, IsRepliedTo, asked_by, asked_for, failures_in, is_no_files, is_quit, line_says, quits, written_of}
+use Rattle.edit_core.specs.declared.limits.TheConstants.{MOST_MOVED}
 
 -- ---- what a line says
 
@@ -53,7 +55,7 @@ other-goes-on command.Quit other = absurd (other refl)
 other-goes-on _ other = refl
 
 -- a line of `quit` has four bytes
-pub quit-is-short : HaveTheirLines → (line : List ℕ) → is_quit line ≡ true → length line ≤ 131072
+pub quit-is-short : HaveTheirLines → (line : List ℕ) → is_quit line ≡ true → length line ≤ LINE_LIMIT
 quit-is-short theirs line is =
     let four = ap length (line-of theirs line (quits-quit (line_says line) is)) in
     omega arith
@@ -174,16 +176,16 @@ module _ {told told_now : Option Folder} {failed failed_now : ℕ} {before after
 -- ---- how many lines are left
 
 -- where one is left, a board can take it
-pub one-left : (board : Seen) → 1 ≤ lines_left board → furthest_point board + 40001 ≤ 2 ^ 62
+pub one-left : (board : Seen) → 1 ≤ lines_left board → furthest_point board + MOST_MOVED ≤ 2 ^ 62
 one-left board left = by (2 ^ 62) (furthest_point board) left
   where
-    by : (most far : ℕ) → 1 ≤ (most - far) / 40001 → far + 40001 ≤ most
+    by : (most far : ℕ) → 1 ≤ (most - far) / MOST_MOVED → far + MOST_MOVED ≤ most
     by most far left = omega (arith, left)
 
 -- a line takes one at most
-pub one-taken : (before after : Seen) → furthest_point after ≤ furthest_point before + 40001
+pub one-taken : (before after : Seen) → furthest_point after ≤ furthest_point before + MOST_MOVED
     → lines_left before ≤ lines_left after + 1
 one-taken before after far = by (2 ^ 62) (furthest_point before) (furthest_point after) far
   where
-    by : (most far later : ℕ) → later ≤ far + 40001 → (most - far) / 40001 ≤ (most - later) / 40001 + 1
+    by : (most far later : ℕ) → later ≤ far + MOST_MOVED → (most - far) / MOST_MOVED ≤ (most - later) / MOST_MOVED + 1
     by most far later less = omega (arith, less)

@@ -8,7 +8,7 @@ use Rattle.console_lang.specs.declared.command.Command.{Command}
 use Rattle.console_lang.specs.declared.command.Command.TheVariants.{Load, Quit}
 use Rattle.console_lang.specs.declared.reply.Reply.{Reply}
 use Rattle.console_board.specs.Consoles.{Console, load_outcome, opened}
-use Rattle.console_board.specs.Transcripts.{Is, Loads, Does, Replies, Answers, IsTranscript, asked_by, is_no_files, failures_in}
+use Rattle.console_board.specs.Transcripts.{HasOutcome, Loads, IsReplyTo, IsReplyToAsked, Answers, IsTranscript, asked_by, is_no_files, failures_in}
 
 -- where no files failed, none did at the first reply
 no-failure : (reply : Reply) (replies : List Reply) → failures_in (reply ∷ replies) ≡ 0
@@ -25,18 +25,18 @@ module _ (folder : Folder) where
   -- of a load that is not told to have failed the outcome is that of the folder's files
   loads-are : {before after : Console} {aff dic : List ℕ} {reply : Reply}
       → Loads (Some folder) before aff dic reply after → is_no_files reply ≡ false
-      → Is (load_outcome before (lexicon_due (found_in folder aff dic))) reply after
+      → HasOutcome (load_outcome before (lexicon_due (found_in folder aff dic))) reply after
   loads-are {before} {after} {reply = reply} (inl loaded) told =
-      subst (λ there. Is (load_outcome before (lexicon_due there)) reply after) loaded.1 loaded.2
+      subst (λ there. HasOutcome (load_outcome before (lexicon_due there)) reply after) loaded.1 loaded.2
   loads-are (inr failed) told =
       let same : true ≡ false = ap is_no_files (sym failed.0) ∙ told in
       absurd (cc)
 
   -- what is asked for determines the reply and the console behind it
   replies-once : (before : Console) (asked : Option Command) {reply other : Reply} {after next : Console}
-      → Replies (Some folder) before asked reply after → Replies (Some folder) before asked other next
+      → IsReplyToAsked (Some folder) before asked reply after → IsReplyToAsked (Some folder) before asked other next
       → is_no_files reply ≡ false → is_no_files other ≡ false → (reply ≡ other) × (after ≡ next)
-  unfolding Does
+  unfolding IsReplyTo
   replies-once before None is also told told_too = (is.0 ∙ sym also.0, is.1 ∙ sym also.1)
   replies-once before (Some (Load aff dic)) is also told told_too =
       let one = loads-are is told in

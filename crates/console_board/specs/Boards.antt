@@ -5,22 +5,23 @@ use Rattle.edit_core.specs.Runs.{furthest_point}
 use Rattle.edit_core.specs.Seen.{Seen}
 use Rattle.edit_core.specs.declared.state.Standing.{Standing}
 use Rattle.edit_core.specs.declared.state.Standing.TheVariants as standing
-use Rattle.console_board.specs.Consoles.{Console, Stand, Waiting, Finished, Parked}
+use Rattle.console_board.specs.Consoles.{Console, TextState, Waiting, Finished, Parked}
+use Rattle.edit_core.specs.declared.limits.TheConstants.{MOST_MOVED}
 
 -- how a text stands whose paragraph stands so: what a worker holds is not checked yet
-abbrev pub stand_of : Standing → Stand
-stand_of standing.Waiting = Waiting
-stand_of (standing.Held worker) = Waiting
-stand_of standing.Parked = Parked
-stand_of standing.Finished = Finished
+abbrev pub state_of : Standing → TextState
+state_of standing.Waiting = Waiting
+state_of (standing.Held worker) = Waiting
+state_of standing.Parked = Parked
+state_of standing.Finished = Finished
 
 abbrev pub console_of : Seen → Console
 console_of board = record {
-  text = board.text;
-  dict = board.dict;
+  text_version = board.text;
+  dict_version = board.dict;
   lexicon = board.lexicon;
   texts = map (λ paragraph. paragraph.text) board.paragraphs;
-  stands = map stand_of board.standings;
+  states = map state_of board.standings;
 }
 
 -- the board behind a command: the next one, or where there is none the one before it
@@ -29,4 +30,4 @@ board_after before next = unwrap_or next before
 
 -- how many lines a board can take at least: none moves the furthest point of its history by more than 40,001
 abbrev pub lines_left : Seen → ℕ
-lines_left board = (2 ^ 62 - furthest_point board) / 40001
+lines_left board = (2 ^ 62 - furthest_point board) / MOST_MOVED

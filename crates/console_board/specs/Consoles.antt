@@ -12,24 +12,25 @@ use Rattle.dictionary_swap.specs.declared.fault.LoadFault.TheVariants.{Failed, M
 use Rattle.edit_core.specs.Views.{marks_numbered}
 use Rattle.paragraph_text.specs.Edits.{is_span, spliced}
 use Rattle.spell_types.specs.declared.Lexicon.{Lexicon}
+use Rattle.paragraph_text.specs.declared.limits.TheConstants.{MOST_BYTES, MOST_PARAGRAPHS}
 
 -- how a text stands: it is to be checked, it is checked, or it is not to be checked before somebody asks for it
-pub data Stand : Type 0 where
-  Waiting : Stand
-  Finished : Stand
-  Parked : Stand
+pub data TextState : Type 0 where
+  Waiting : TextState
+  Finished : TextState
+  Parked : TextState
 
 -- what a console has come to: how many edits and how many loads it has done, its dictionary, its texts in their order, and how each stands
 pub record Console : Type 0 where
-  pub text : ℕ
-  pub dict : ℕ
+  pub text_version : ℕ
+  pub dict_version : ℕ
   pub lexicon : Lexicon
   pub texts : List (List ℕ)
-  pub stands : List Stand
+  pub states : List TextState
 
 -- a console opens without a text
 abbrev pub opened : Lexicon → Console
-opened lexicon = record { text = 0; dict = 0; lexicon = lexicon; texts = []; stands = [] }
+opened lexicon = record { text_version = 0; dict_version = 0; lexicon = lexicon; texts = []; states = [] }
 
 -- a reply, and the console behind it
 pub record Outcome : Type 0 where
@@ -42,7 +43,7 @@ refused console reply = record { reply = reply; after = console }
 
 -- it is done, and the reply tells the text's version
 abbrev done : Console → Outcome
-done console = record { reply = Done console.text; after = console }
+done console = record { reply = Done console.text_version; after = console }
 
 -- ---- places, which count from 1
 
@@ -58,28 +59,28 @@ at_place console place does =
 abbrev pub text_at : Console → ℕ → List ℕ
 text_at console index = unwrap_or (slice_get console.texts index) []
 
-abbrev pub stand_at : Console → ℕ → Stand
-stand_at console index = unwrap_or (slice_get console.stands index) Waiting
+abbrev pub state_at : Console → ℕ → TextState
+state_at console index = unwrap_or (slice_get console.states index) Waiting
 
 -- ---- edits: each raises the text's version, and tells it
 
-abbrev edited : Console → List (List ℕ) → List Stand → Outcome
-edited console texts stands = done (record console { text = console.text + 1; texts = texts; stands = stands })
+abbrev edited : Console → List (List ℕ) → List TextState → Outcome
+edited console texts states = done (record console { text_version = console.text_version + 1; texts = texts; states = states })
 
 -- a text is put in, and waits
 abbrev pub insert_at : Console → List ℕ → ℕ → Outcome
 insert_at console put index =
-    if nat_le (length put) 65536
-    then (if nat_lt (length console.texts) 20000
-    then edited console (insert console.texts index put) (insert console.stands index Waiting)
+    if nat_le (length put) MOST_BYTES
+    then (if nat_lt (length console.texts) MOST_PARAGRAPHS
+    then edited console (insert console.texts index put) (insert console.states index Waiting)
     else refused console (NoFull (length console.texts)))
     else refused console (NoTooLong (length put))
 
 -- a text becomes another one, and waits
 abbrev pub replace_at : Console → List ℕ → ℕ → Outcome
 replace_at console put index =
-    if nat_le (length put) 65536
-    then edited console (set console.texts index put) (set console.stands index Waiting)
+    if nat_le (length put) MOST_BYTES
+    then edited console (set console.texts index put) (set console.states index Waiting)
     else refused console (NoTooLong (length put))
 
 -- bytes of a text, from one up to another, become others
@@ -91,7 +92,7 @@ splice_at console from to put index =
 
 -- a text is taken out
 abbrev pub remove_at : Console → ℕ → Outcome
-remove_at console index = edited console (remove console.texts index) (remove console.stands index)
+remove_at console index = edited console (remove console.texts index) (remove console.states index)
 
 -- `ins P TEXT`: a place may be one more than there are texts
 abbrev pub inserted : Console → ℕ → List ℕ → Outcome
@@ -112,69 +113,69 @@ removed console place = at_place console place (remove_at console)
 
 -- ---- what is to be checked
 
-abbrev with_stand : Console → ℕ → Stand → Console
-with_stand console index stand = record console { stands = set console.stands index stand }
+abbrev with_state : Console → ℕ → TextState → Console
+with_state console index stand = record console { states = set console.states index stand }
 
 -- a text that waits is parked
-abbrev pub stopped_from : Console → ℕ → Stand → Outcome
-stopped_from console index Waiting = done (with_stand console index Parked)
+abbrev pub stopped_from : Console → ℕ → TextState → Outcome
+stopped_from console index Waiting = done (with_state console index Parked)
 stopped_from console index Finished = refused console NoFinished
 stopped_from console index Parked = refused console NoParked
 
 -- a parked text waits again
-abbrev pub asked_from : Console → ℕ → Stand → Outcome
+abbrev pub asked_from : Console → ℕ → TextState → Outcome
 asked_from console index Waiting = refused console NoNotParked
 asked_from console index Finished = refused console NoNotParked
-asked_from console index Parked = done (with_stand console index Waiting)
+asked_from console index Parked = done (with_state console index Waiting)
 
 -- `stop P`
 abbrev pub stopped : Console → ℕ → Outcome
-stopped console place = at_place console place (λ index. stopped_from console index (stand_at console index))
+stopped console place = at_place console place (λ index. stopped_from console index (state_at console index))
 
 -- `ask P`
 abbrev pub asked : Console → ℕ → Outcome
-asked console place = at_place console place (λ index. asked_from console index (stand_at console index))
+asked console place = at_place console place (λ index. asked_from console index (state_at console index))
 
 -- what is not parked is finished
-abbrev pub settled_stand : Stand → Stand
-settled_stand Waiting = Finished
-settled_stand Finished = Finished
-settled_stand Parked = Parked
+abbrev pub settled_state : TextState → TextState
+settled_state Waiting = Finished
+settled_state Finished = Finished
+settled_state Parked = Parked
 
 -- `settle`
 abbrev pub settled : Console → Outcome
-settled console = done (record console { stands = map settled_stand console.stands })
+settled console = done (record console { states = map settled_state console.states })
 
 -- ---- what is shown
 
 -- a finished text shows the marks that it has among those of all texts together, and every other text that there are none yet
-abbrev pub shown_as : Console → ℕ → Stand → ShownPara
+abbrev pub shown_as : Console → ℕ → TextState → ShownPara
 shown_as console number Waiting = Pending
 shown_as console number Finished = Marked (marks_numbered console.lexicon (map chars console.texts) number)
 shown_as console number Parked = Pending
 
 -- what is shown of texts that stand so, of which the first has this number
-abbrev pub shown_from : Console → ℕ → List Stand → List ShownPara
+abbrev pub shown_from : Console → ℕ → List TextState → List ShownPara
 shown_from console number [] = []
 shown_from console number (stand ∷ stands) = shown_as console number stand ∷ shown_from console (number + 1) stands
 
 -- `show`
 abbrev pub shown : Console → Outcome
-shown console = refused console (Shown console.text console.dict (shown_from console 1 console.stands))
+shown console = refused console (Shown console.text_version console.dict_version (shown_from console 1 console.states))
 
 -- ---- dictionaries
 
 -- under another dictionary what is parked stays so, and all else waits
-abbrev pub reloaded_stand : Stand → Stand
-reloaded_stand Waiting = Waiting
-reloaded_stand Finished = Waiting
-reloaded_stand Parked = Parked
+abbrev pub state_reloaded : TextState → TextState
+state_reloaded Waiting = Waiting
+state_reloaded Finished = Waiting
+state_reloaded Parked = Parked
 
 -- a dictionary comes into force; the reply tells its version
 abbrev pub loaded : Console → Lexicon → Outcome
 loaded console lexicon = record {
-  reply = Dict (console.dict + 1);
-  after = record console { dict = console.dict + 1; lexicon = lexicon; stands = map reloaded_stand console.stands };
+  reply = Dict (console.dict_version + 1);
+  after = record console { dict_version = console.dict_version + 1; lexicon = lexicon; states = map state_reloaded console.states };
 }
 
 -- The reply to a dictionary's fault. Want of memory is never due, and has no reply: it ends the console.

@@ -14,7 +14,7 @@ use Rattle.dictionary_swap.specs.Loads.{DictionaryFiles, lexicon_due, found_in}
 use Rattle.outside.specs.Files.{Folder}
 use Rattle.paragraph_text.specs.Paragraphs.{HasNoBreak}
 use Rattle.spell_types.specs.declared.Lexicon.{Lexicon}
-use Rattle.console_board.specs.Consoles.{Console, Outcome, Stand, Waiting, Finished, Parked, opened, inserted, replaced, substituted, removed, stopped, asked, settled, shown, load_outcome}
+use Rattle.console_board.specs.Consoles.{Console, Outcome, TextState, Waiting, Finished, Parked, opened, inserted, replaced, substituted, removed, stopped, asked, settled, shown, load_outcome}
 
 -- ---- what lines ask for
 
@@ -59,46 +59,46 @@ IsThere None aff dic there = Unit {0}
 IsThere (Some folder) aff dic there = there ≡ found_in folder aff dic
 
 -- a command has this outcome
-abbrev pub Is : Outcome → Reply → Console → Type 0
-Is outcome reply after = (reply ≡ outcome.reply) × (after ≡ outcome.after)
+abbrev pub HasOutcome : Outcome → Reply → Console → Type 0
+HasOutcome outcome reply after = (reply ≡ outcome.reply) × (after ≡ outcome.after)
 
 -- a load has the outcome that its files say, or it is told that the files failed
 abbrev pub Loads : Option Folder → Console → List ℕ → List ℕ → Reply → Console → Type 0
 Loads told before aff dic reply after =
-    ((there : DictionaryFiles) × IsThere told aff dic there × Is (load_outcome before (lexicon_due there)) reply after)
+    ((there : DictionaryFiles) × IsThere told aff dic there × HasOutcome (load_outcome before (lexicon_due there)) reply after)
     ⊎ ((reply ≡ NoFiles) × (after ≡ before))
 
 -- what a console replies to a command, and what it has then come to; `quit` is not replied to
-unfoldable pub Does : Option Folder → Console → Command → Reply → Console → Type 0
-Does told before (Ins place text) reply after = Is (inserted before place text) reply after
-Does told before (Put place text) reply after = Is (replaced before place text) reply after
-Does told before (Sub place from to text) reply after = Is (substituted before place from to text) reply after
-Does told before (Del place) reply after = Is (removed before place) reply after
-Does told before (Load aff dic) reply after = Loads told before aff dic reply after
-Does told before (Stop place) reply after = Is (stopped before place) reply after
-Does told before (Ask place) reply after = Is (asked before place) reply after
-Does told before Show reply after = Is (shown before) reply after
-Does told before Settle reply after = Is (settled before) reply after
-Does told before Quit reply after = ⊥
+unfoldable pub IsReplyTo : Option Folder → Console → Command → Reply → Console → Type 0
+IsReplyTo told before (Ins place text) reply after = HasOutcome (inserted before place text) reply after
+IsReplyTo told before (Put place text) reply after = HasOutcome (replaced before place text) reply after
+IsReplyTo told before (Sub place from to text) reply after = HasOutcome (substituted before place from to text) reply after
+IsReplyTo told before (Del place) reply after = HasOutcome (removed before place) reply after
+IsReplyTo told before (Load aff dic) reply after = Loads told before aff dic reply after
+IsReplyTo told before (Stop place) reply after = HasOutcome (stopped before place) reply after
+IsReplyTo told before (Ask place) reply after = HasOutcome (asked before place) reply after
+IsReplyTo told before Show reply after = HasOutcome (shown before) reply after
+IsReplyTo told before Settle reply after = HasOutcome (settled before) reply after
+IsReplyTo told before Quit reply after = ⊥
 
 -- what is replied where a command is asked for, or none
-abbrev pub Replies : Option Folder → Console → Option Command → Reply → Console → Type 0
-Replies told before None reply after = (reply ≡ NoCommand) × (after ≡ before)
-Replies told before (Some command) reply after = Does told before command reply after
+abbrev pub IsReplyToAsked : Option Folder → Console → Option Command → Reply → Console → Type 0
+IsReplyToAsked told before None reply after = (reply ≡ NoCommand) × (after ≡ before)
+IsReplyToAsked told before (Some command) reply after = IsReplyTo told before command reply after
 
 -- ---- what is checked meanwhile
 
 -- what waits may become finished; all else stays
-abbrev pub MayFinish : Stand → Stand → Type 0
+abbrev pub MayFinish : TextState → TextState → Type 0
 MayFinish Waiting after = (after ≡ Waiting) ⊎ (after ≡ Finished)
 MayFinish Finished after = after ≡ Finished
 MayFinish Parked after = after ≡ Parked
 
 -- some of what waits, none or all of it, is finished
 pub record IsChecked (before after : Console) : Type 0 where
-  pub stands : List Stand
-  pub after_is : after ≡ record before { stands = stands }
-  pub each : AllZip MayFinish before.stands stands
+  pub states : List TextState
+  pub after_is : after ≡ record before { states = states }
+  pub each : AllZip MayFinish before.states states
 
 -- between two commands so many workers check: where there is none, nothing changes
 abbrev pub IsMeanwhile : ℕ → Console → Console → Type 0
@@ -113,7 +113,7 @@ Answers workers told before [] replies after = (replies ≡ []) × (after ≡ be
 Answers workers told before (command ∷ commands) [] after = ⊥
 Answers workers told before (command ∷ commands) (reply ∷ replies) after =
     (ready : Console) × IsMeanwhile workers before ready
-    × ((next : Console) × Replies told ready command reply next × Answers workers told next commands replies after)
+    × ((next : Console) × IsReplyToAsked told ready command reply next × Answers workers told next commands replies after)
 
 -- a console that opens with a dictionary replies so to these lines, none of which is `quit`
 pub record IsTranscript (workers : ℕ) (told : Option Folder) (lexicon : Lexicon) (lines : List (List ℕ)) (replies : List Reply) : Type 0 where
@@ -135,7 +135,7 @@ failures_in replies = count_by is_no_files replies
 -- what is asked for was replied to, and the reply was added to a text; the files, which tell this, failed as often at least as it says
 pub record IsReplied (told : Option Folder) (failed failed_now : ℕ) (before after : Console) (asked : Option Command) (text text_now : List ℕ) : Type 0 where
   pub reply : Reply
-  pub replies : Replies told before asked reply after
+  pub replies : IsReplyToAsked told before asked reply after
   pub text_is : text_now ≡ text ++ written_of (reply ∷ [])
   pub failures : failed + failures_in (reply ∷ []) ≤ failed_now
 

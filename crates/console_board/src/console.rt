@@ -6,7 +6,8 @@ ghost use Rattle.edit_core.specs.Runs.{furthest_point};
 ghost use Rattle.edit_core.specs.Seen.{IsValidBoard};
 ghost use Rattle.console_board.specs.Boards.{board_after, console_of};
 ghost use Rattle.console_board.specs.Consoles.{opened};
-ghost use Rattle.console_board.specs.Transcripts.{Does, HasWholeText, failures_in};
+ghost use Rattle.console_board.specs.Transcripts.{IsReplyTo, HasWholeText, failures_in};
+ghost use Rattle.edit_core.specs.declared.limits.TheConstants.{MOST_MOVED};
 
 mod answer;
 mod events;
@@ -79,7 +80,7 @@ impl<J: Judge + Drop> Console<J> {
 
 impl Console<Speller> {
     /// What a command comes to. `quit` is no command for it.
-    #[tactic(auto, unfolding(crate::specs::Transcripts::Does))]
+    #[tactic(auto, unfolding(crate::specs::Transcripts::IsReplyTo))]
     pub(crate) fn respond<F: Files>(
         &self,
         alloc: Global,
@@ -88,9 +89,9 @@ impl Console<Speller> {
     ) -> Result<Response<Speller>, NoMemory>
         requires asked { ¬ (command ≡ Command.Quit) }
         requires whole { HasWholeText command }
-        requires room { furthest_point self.now.board + 40001 ≤ 2 ^ 62 }
-        ensures does { IfOk result (λ response. Does (F.told files.old) (console_of self.now.board) command response.reply (console_of (board_after self.now.board response.next))) }
-        ensures room { IfOk result (λ response. furthest_point (board_after self.now.board response.next) ≤ furthest_point self.now.board + 40001) }
+        requires room { furthest_point self.now.board + MOST_MOVED ≤ 2 ^ 62 }
+        ensures does { IfOk result (λ response. IsReplyTo (F.told files.old) (console_of self.now.board) command response.reply (console_of (board_after self.now.board response.next))) }
+        ensures room { IfOk result (λ response. furthest_point (board_after self.now.board response.next) ≤ furthest_point self.now.board + MOST_MOVED) }
         ensures failures { IfOk result (λ response. F.faults files.old + failures_in (response.reply ∷ []) ≤ F.faults files.new) }
         ensures same { F.told files.new ≡ F.told files.old }
         ensures count { F.faults files.old ≤ F.faults files.new }

@@ -1,11 +1,11 @@
 //! What is true of every transcript, and of every line that ends one.
 
 ghost use Rattle.std.specs.Prelude.{◌≡◌, ◌≤◌, ℕ, List, Some, length, true};
-ghost use Rattle.input_lines.specs.Answers.{line_limit};
 ghost use Rattle.outside.specs.Files.{Folder};
 ghost use Rattle.spell_types.specs.declared.Lexicon.{Lexicon};
 ghost use Rattle.console_lang.specs.declared.reply.Reply.{Reply};
 ghost use Rattle.console_board.specs.Transcripts.{IsTranscript, failures_in, is_quit};
+ghost use Rattle.input_lines.specs.declared.limits.TheConstants.{LINE_LIMIT};
 
 use console_lang::commands_have_their_lines;
 
@@ -18,7 +18,7 @@ pub fn transcripts_are_functions()
 
 /// A line that ends the console is no longer than a line may be.
 pub fn quits_are_short()
-    ensures { (line : List ℕ) → is_quit line ≡ true → length line ≤ line_limit }
+    ensures { (line : List ℕ) → is_quit line ≡ true → length line ≤ LINE_LIMIT }
 {
     commands_have_their_lines();
 }

@@ -9,6 +9,7 @@ ghost use Rattle.edit_core.specs.Runs.{furthest_point};
 ghost use Rattle.console_board.specs.Boards.{console_of, lines_left};
 ghost use Rattle.console_board.specs.Starts.{replied-none};
 ghost use Rattle.console_board.specs.Transcripts.{HasWholeText, IsReplied, IsRepliedTo, is_quit, line_says, written_of};
+ghost use Rattle.edit_core.specs.declared.limits.TheConstants.{MOST_MOVED};
 
 use crate::console::{Console, Response};
 use console_lang::{
@@ -68,12 +69,12 @@ impl Console<Speller> {
     ) -> Result<(), NoMemory>
         requires asked { ¬ (command ≡ Command.Quit) }
         requires whole { HasWholeText command }
-        requires room { furthest_point self.old.board + 40001 ≤ 2 ^ 62 }
+        requires room { furthest_point self.old.board + MOST_MOVED ≤ 2 ^ 62 }
         ensures replied { OnOk result (IsReplied (F.told files.old) (F.faults files.old) (F.faults files.new) (console_of self.old.board) (console_of self.new.board)
             (Some command) (string_bytes replies.old) (string_bytes replies.new)) }
         ensures kept { OnErr result (self.new.board ≡ self.old.board) }
         ensures silent { OnErr result (string_bytes replies.new ≡ string_bytes replies.old) }
-        ensures room { furthest_point self.new.board ≤ furthest_point self.old.board + 40001 }
+        ensures room { furthest_point self.new.board ≤ furthest_point self.old.board + MOST_MOVED }
         ensures same { F.told files.new ≡ F.told files.old }
         ensures count { F.faults files.old ≤ F.faults files.new }
     {

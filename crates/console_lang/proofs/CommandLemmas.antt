@@ -13,6 +13,7 @@ use Rattle.std.proofs.lemmas.List.Elements.{All-from_recursion}
 use Rattle.std.proofs.lemmas.List.Splits.{slice_split_at, slice_split_none, join_with_byte-slice_split}
 use Rattle.std.proofs.lemmas.Slice.Eq.{bytes_eq-Decides}
 use Rattle.text_lines.specs.Fields.{has_bytes, is_decimal}
+use Rattle.std.proofs.lemmas.Option.{same_Some}
 use Rattle.console_lang.specs.declared.command.Command.{Command}
 use Rattle.console_lang.specs.declared.command.Command.TheVariants.{Ins, Put, Sub, Del, Load, Stop, Ask, Show, Settle, Quit}
 use Rattle.console_lang.specs.Words.{is_space, is_blank_line, words_of, text_of, number_of}
@@ -148,9 +149,6 @@ tail_behind : (digits : List ℕ) (words : List (List ℕ)) → text_of (digits 
 tail_behind digits [] = sym (append-nil digits)
 tail_behind digits (word ∷ words) = refl
 
-same : {A : Type 0} (x y : A) → Some x ≡ Some y → x ≡ y
-same x y is = cc
-
 placed_line : (name : List ℕ) (make : ℕ → List ℕ → Command) (words : List (List ℕ)) (command : Command)
     → ((place : ℕ) (text line : List ℕ) → IsPlacedText name place text line → IsLineOf (make place text) line)
     → option_map (λ (said : ℕ × List ℕ). make said.0 said.1) (placed_text words) ≡ Some command → IsLineOf command (text_of (name ∷ words))
@@ -160,7 +158,7 @@ placed_line name make (digits ∷ text) command line_of is = by (number_of digit
     by : (number : Option ℕ) → number_of digits ≡ number
         → option_map (λ (said : ℕ × List ℕ). make said.0 said.1) (option_map (λ n. (n, text_of text)) number) ≡ Some command → IsLineOf command (text_of (name ∷ digits ∷ text))
     by None at found = absurd (cc)
-    by (Some place) at found = subst (λ k. IsLineOf k (text_of (name ∷ digits ∷ text))) (same _ _ found) (line_of place (text_of text) _
+    by (Some place) at found = subst (λ k. IsLineOf k (text_of (name ∷ digits ∷ text))) (same_Some _ _ found) (line_of place (text_of text) _
         (record { digits = digits; tail = tail_of text; writes = writes_of digits place at; ends = tail_ends text; line_is = ap (λ t. name ++ 32 ∷ t) (tail_behind digits text) }))
 
 span_line : (words : List (List ℕ)) (command : Command)
@@ -178,7 +176,7 @@ span_line (a ∷ b ∷ c ∷ text) command is = by (number_of a) (number_of b) (
     by None from to at at' at'' found = absurd (cc)
     by (Some place) None to at at' at'' found = absurd (cc)
     by (Some place) (Some from) None at at' at'' found = absurd (cc)
-    by (Some place) (Some from) (Some to) at at' at'' found = subst (λ k. IsLineOf k whole) (same _ _ found) (record {
+    by (Some place) (Some from) (Some to) at at' at'' found = subst (λ k. IsLineOf k whole) (same_Some _ _ found) (record {
       place_digits = a;
       from_digits = b;
       to_digits = c;
@@ -199,7 +197,7 @@ place_line name make (digits ∷ []) command line_of is = by (number_of digits) 
   where
     by : (number : Option ℕ) → number_of digits ≡ number → option_map make number ≡ Some command → IsLineOf command (text_of (name ∷ digits ∷ []))
     by None at found = absurd (cc)
-    by (Some place) at found = subst (λ k. IsLineOf k (text_of (name ∷ digits ∷ []))) (same _ _ found)
+    by (Some place) at found = subst (λ k. IsLineOf k (text_of (name ∷ digits ∷ []))) (same_Some _ _ found)
         (line_of place _ (record { digits = digits; writes = writes_of digits place at; line_is = refl }))
 
 pair_line : (words : List (List ℕ)) (command : Command) → AllLackSpace words
@@ -212,7 +210,7 @@ pair_line (aff ∷ dic ∷ []) command lack is = by (has_bytes aff) (has_bytes d
     by : (first other : Bool) → has_bytes aff ≡ first → has_bytes dic ≡ other
         → option_map (λ (said : List ℕ × List ℕ). Load said.0 said.1) (if first && other then Some (aff, dic) else None) ≡ Some command
         → IsLineOf command (text_of (codes "load" ∷ aff ∷ dic ∷ []))
-    by true true some some' found = subst (λ k. IsLineOf k (text_of (codes "load" ∷ aff ∷ dic ∷ []))) (same _ _ found) (record {
+    by true true some some' found = subst (λ k. IsLineOf k (text_of (codes "load" ∷ aff ∷ dic ∷ []))) (same_Some _ _ found) (record {
       aff_name = record { some = some; whole = lacks_name aff lack.0 };
       dic_name = record { some = some'; whole = lacks_name dic lack.1.0 };
       line_is = refl;
@@ -222,7 +220,7 @@ pair_line (aff ∷ dic ∷ []) command lack is = by (has_bytes aff) (has_bytes d
 
 alone_line : (name : List ℕ) (made : Command) (words : List (List ℕ)) (command : Command) → IsLineOf made name
     → alone made words ≡ Some command → IsLineOf command (text_of (name ∷ words))
-alone_line name made [] command line_of is = subst (λ k. IsLineOf k name) (same _ _ is) line_of
+alone_line name made [] command line_of is = subst (λ k. IsLineOf k name) (same_Some _ _ is) line_of
 alone_line name made (word ∷ words) command line_of is = absurd (cc)
 
 -- the name that is asked for first, or the others
@@ -328,7 +326,7 @@ line_is command line is =
 
 -- ---- different commands
 pub commands_differ : (command other : Command) (line : List ℕ) → IsLineOf command line → IsLineOf other line → command ≡ other
-commands_differ command other line is was = same command other (sym (command_is command line is) ∙ command_is other line was)
+commands_differ command other line is was = same_Some command other (sym (command_is command line is) ∙ command_is other line was)
 
 pub no_blank : (command : Command) (line : List ℕ) → IsLineOf command line → is_blank_line line ≡ false
 no_blank Show line is = ap is_blank_line is

@@ -7,7 +7,7 @@ ghost use Rattle.console_lang.specs.Replies.{reply_text, number_line, fault_line
 
 use aff_lines::AffWhy;
 use dic_reader::DicWhy;
-use lists::NoMemory;
+use lists::{Copied, NoMemory};
 use mark_types::{Mark, Marks};
 use std::alloc::{AllocError, Global};
 use text_lines::Text;
@@ -19,6 +19,15 @@ pub enum ShownPara {
     Pending,
     /// Its marks.
     Finished(Marks),
+}
+
+impl Copied for ShownPara {
+    fn copy(&self, alloc: Global) -> Result<ShownPara, NoMemory> {
+        match self {
+            ShownPara::Pending => Ok(ShownPara::Pending),
+            ShownPara::Finished(marks) => Ok(ShownPara::Finished(marks.copy(alloc)?)),
+        }
+    }
 }
 
 /// What the console answers to a command. Lines count from 1, and so do the places of paragraphs.

@@ -11,10 +11,7 @@ use Rattle.aff_reader.specs.Grammar.{aff_read}
 use Rattle.dic_reader.specs.Faults.{Fault as DicLineFault, dic_read}
 use Rattle.dictionary_swap.specs.declared.fault.LoadFault.{LoadFault}
 use Rattle.dictionary_swap.specs.declared.fault.LoadFault.TheVariants.{Failed, Missing, TooLong, Aff, Dic, NoMemory}
-
--- the greatest size of an .aff or a .dic file, in bytes
-abbrev pub size_limit : ℕ
-size_limit = 16777216
+use Rattle.dictionary_swap.specs.declared.steps.TheConstants.{SIZE_LIMIT}
 
 -- one thing due after another, up to the first fault
 infixl 10 ◌>>=◌
@@ -60,12 +57,12 @@ pub record DictionaryFiles : Type 0 where
 -- what is due of an .aff file, and of a .dic file behind it
 unfoldable pub affixes_due : Option (List ℕ) → Result Affixes LoadFault
 affixes_due file = do
-  bytes ← file_due size_limit file
+  bytes ← file_due SIZE_LIMIT file
   affixes_step bytes
 
 unfoldable pub entries_due : Affixes → Option (List ℕ) → Result (List Entry) LoadFault
 entries_due affixes file = do
-  bytes ← file_due size_limit file
+  bytes ← file_due SIZE_LIMIT file
   entries_step affixes bytes
 
 -- the dictionary that two files are, or its first fault: each file before its lines, and the .aff file before the .dic file
@@ -86,6 +83,6 @@ FailsAs due NoMemory = Unit {0}
 FailsAs due fault = due ≡ Err fault
 
 -- a call gives what is due, seen by `view`, or fails so
-abbrev pub Gives : {A B : Type 0} → (A → B) → Result B LoadFault → Result A LoadFault → Type 0
-Gives view due (Ok given) = due ≡ Ok (view given)
-Gives view due (Err fault) = FailsAs due fault
+abbrev pub GivesDue : {A B : Type 0} → (A → B) → Result B LoadFault → Result A LoadFault → Type 0
+GivesDue view due (Ok given) = due ≡ Ok (view given)
+GivesDue view due (Err fault) = FailsAs due fault

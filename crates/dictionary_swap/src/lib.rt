@@ -2,7 +2,7 @@
 #![tactic(auto)]
 
 ghost use Rattle.std.specs.Prelude.{◌≡◌, ◌<◌, ◌≤◌, IfSome, IsErrOf};
-ghost use Rattle.dictionary_swap.specs.Loads.{DictionaryFiles, lexicon_due, found_in, Gives};
+ghost use Rattle.dictionary_swap.specs.Loads.{DictionaryFiles, lexicon_due, found_in, GivesDue};
 
 mod causes;
 mod fault;
@@ -26,9 +26,9 @@ pub fn load<F: Files>(
     dic: &str,
 ) -> Result<Speller, LoadFault>
     // It is what is due of some files, which are those that are told, where some are.
-    ensures found { (there : DictionaryFiles) × Gives (λ speller. speller) (lexicon_due there) result }
+    ensures found { (there : DictionaryFiles) × GivesDue (λ speller. speller) (lexicon_due there) result }
     ensures told { IfSome (F.told files.old)
-        (λ folder. Gives (λ speller. speller) (lexicon_due (found_in folder aff.now dic.now)) result) }
+        (λ folder. GivesDue (λ speller. speller) (lexicon_due (found_in folder aff.now dic.now)) result) }
     ensures same { F.told files.new ≡ F.told files.old }
     ensures failed { IsErrOf result LoadFault.Failed → F.faults files.old < F.faults files.new }
     ensures count { F.faults files.old ≤ F.faults files.new }

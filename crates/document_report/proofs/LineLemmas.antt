@@ -14,8 +14,9 @@ use Rattle.std.proofs.lemmas.Str.{IsUtf8-append, IsUtf8-nil, IsUtf8-take, IsUtf8
 use Rattle.text_lines.specs.declared.found.Line.{Line}
 use Rattle.text_lines.specs.Lines.{is_line_feed, is_text, lines_from, lines_after, all_lines, line_at, line_texts, text_of, first_place, bad_line}
 use Rattle.document_report.specs.declared.fault.DocumentFault.TheVariants.{LongParagraph, TooManyParagraphs}
-use Rattle.document_report.specs.Documents.{count_limit, is_long, length_limit, unless_long, unless_many}
+use Rattle.document_report.specs.Documents.{is_long, unless_long, unless_many}
 use Rattle.document_report.specs.Texts.{lent, stripped, texts_in}
+use Rattle.paragraph_text.specs.declared.limits.TheConstants.{MOST_PARAGRAPHS, MOST_BYTES}
 
 take-front : (xs ys : List ℕ) → take (length xs) (xs ++ ys) ≡ xs
 take-front [] ys = refl
@@ -201,14 +202,14 @@ any-lent (text ∷ texts) = ap (λ b. is_long text.now || b) (any-lent texts)
 
 -- whether one of them is too long
 pub long-found : (texts : List (Bor (List ℕ))) (has_long : Bool) → has_long ≡ list_any (λ text. is_long text.now) texts → has_long ≡ true
-    → unless_long (lent texts) ≡ Err (LongParagraph length_limit)
+    → unless_long (lent texts) ≡ Err (LongParagraph MOST_BYTES)
 unfolding unless_long
-long-found texts has_long is found = ap (λ b. cond b (Err (LongParagraph length_limit)) (Ok (lent texts))) (sym (any-lent texts) ∙ sym is ∙ found)
+long-found texts has_long is found = ap (λ b. cond b (Err (LongParagraph MOST_BYTES)) (Ok (lent texts))) (sym (any-lent texts) ∙ sym is ∙ found)
 
 pub long-none : (texts : List (Bor (List ℕ))) (has_long : Bool) → has_long ≡ list_any (λ text. is_long text.now) texts → has_long ≡ false
     → unless_long (lent texts) ≡ Ok (lent texts)
 unfolding unless_long
-long-none texts has_long is none = ap (λ b. cond b (Err (LongParagraph length_limit)) (Ok (lent texts))) (sym (any-lent texts) ∙ sym is ∙ none)
+long-none texts has_long is none = ap (λ b. cond b (Err (LongParagraph MOST_BYTES)) (Ok (lent texts))) (sym (any-lent texts) ∙ sym is ∙ none)
 
 -- a text with a byte has a line
 stripped-some : (piece : List ℕ) (pieces : List (List ℕ)) → 0 < length piece + length pieces → 0 < length (stripped (piece ∷ pieces))
@@ -229,23 +230,23 @@ one-more (byte ∷ text) some = by (slice_split is_line_feed text) (is_line_feed
 one-more [] some = absurd (omega (arith, some))
 
 -- as many lines as may be paragraphs were found, and one more is there
-pub many-found : (texts : List (Bor (List ℕ))) (all rest : List (List ℕ)) → 0 < length rest → lent texts ++ rest ≡ all → length texts ≡ count_limit
-    → unless_many all ≡ Err (TooManyParagraphs count_limit)
+pub many-found : (texts : List (Bor (List ℕ))) (all rest : List (List ℕ)) → 0 < length rest → lent texts ++ rest ≡ all → length texts ≡ MOST_PARAGRAPHS
+    → unless_many all ≡ Err (TooManyParagraphs MOST_PARAGRAPHS)
 unfolding unless_many
 many-found texts all rest some is full =
     let size : length all ≡ length (lent texts) + length rest = sym (ap length is) ∙ length-append (lent texts) rest in
     let own : length (lent texts) ≡ length texts = length-map texts (λ t. t.now) in
-    let many : count_limit < length all = omega arith in
-    ap (λ b. cond b (Err (TooManyParagraphs count_limit)) (Ok all)) (lt-ltb count_limit (length all) many)
+    let many : MOST_PARAGRAPHS < length all = omega arith in
+    ap (λ b. cond b (Err (TooManyParagraphs MOST_PARAGRAPHS)) (Ok all)) (lt-ltb MOST_PARAGRAPHS (length all) many)
 
 -- all lines were found, and they are not too many
-pub few-found : (texts : List (Bor (List ℕ))) (all : List (List ℕ)) → lent texts ≡ all → length texts ≤ count_limit → unless_many all ≡ Ok (lent texts)
+pub few-found : (texts : List (Bor (List ℕ))) (all : List (List ℕ)) → lent texts ≡ all → length texts ≤ MOST_PARAGRAPHS → unless_many all ≡ Ok (lent texts)
 unfolding unless_many
 few-found texts all is few =
     let own : length (lent texts) ≡ length texts = length-map texts (λ t. t.now) in
     let size = ap length is in
-    let none : length all ≤ count_limit = omega arith in
-    ap (λ b. cond b (Err (TooManyParagraphs count_limit)) (Ok all)) (le-ltb count_limit (length all) none) ∙ ap Ok (sym is)
+    let none : length all ≤ MOST_PARAGRAPHS = omega arith in
+    ap (λ b. cond b (Err (TooManyParagraphs MOST_PARAGRAPHS)) (Ok all)) (le-ltb MOST_PARAGRAPHS (length all) none) ∙ ap Ok (sym is)
 
 pub none-left : (n : ℕ) (is_empty : Bool) → is_empty ≡ (n == 0) → is_empty ≡ true → n ≡ 0
 none-left n is_empty is empty = grind (arith, nat_tests)

@@ -7,13 +7,7 @@ use Rattle.text_lines.specs.Lines.{bad_line, line_texts}
 use Rattle.document_report.specs.declared.fault.DocumentFault.{DocumentFault}
 use Rattle.document_report.specs.declared.fault.DocumentFault.TheVariants.{NotUtf8, TooManyParagraphs, LongParagraph, NoMemory}
 use Rattle.document_report.specs.Reports.{Printed}
-
--- the greatest number of paragraphs of a document, and the greatest length of one, in bytes
-abbrev pub count_limit : ℕ
-count_limit = 20000
-
-abbrev pub length_limit : ℕ
-length_limit = 65536
+use Rattle.paragraph_text.specs.declared.limits.TheConstants.{MOST_PARAGRAPHS, MOST_BYTES}
 
 -- one thing due after another, up to the first fault
 infixl 10 ◌>>=◌
@@ -28,14 +22,14 @@ unless_bad (Some line) texts = Err (NotUtf8 line)
 
 -- paragraphs, if they are not too many
 unfoldable pub unless_many : List (List ℕ) → Result (List (List ℕ)) DocumentFault
-unless_many texts = if nat_lt count_limit (length texts) then Err (TooManyParagraphs count_limit) else Ok texts
+unless_many texts = if nat_lt MOST_PARAGRAPHS (length texts) then Err (TooManyParagraphs MOST_PARAGRAPHS) else Ok texts
 
 -- and if none is too long
 abbrev pub is_long : List ℕ → Bool
-is_long text = nat_lt length_limit (length text)
+is_long text = nat_lt MOST_BYTES (length text)
 
 unfoldable pub unless_long : List (List ℕ) → Result (List (List ℕ)) DocumentFault
-unless_long texts = if list_any is_long texts then Err (LongParagraph length_limit) else Ok texts
+unless_long texts = if list_any is_long texts then Err (LongParagraph MOST_BYTES) else Ok texts
 
 -- what is due of a document: what is to be printed of its lines, which are its paragraphs, if each is UTF-8 and they pass no limit
 unfoldable pub document_due : (Lexicon → List (List ℕ) → Printed) → Lexicon → List ℕ → Result Printed DocumentFault
@@ -51,6 +45,6 @@ FailsAs due NoMemory = Unit {0}
 FailsAs due fault = due ≡ Err fault
 
 -- a call gives what is due, seen by `view`, or fails so
-abbrev pub Gives : {A B : Type 0} → (A → B) → Result B DocumentFault → Result A DocumentFault → Type 0
-Gives view due (Ok given) = due ≡ Ok (view given)
-Gives view due (Err fault) = FailsAs due fault
+abbrev pub GivesDue : {A B : Type 0} → (A → B) → Result B DocumentFault → Result A DocumentFault → Type 0
+GivesDue view due (Ok given) = due ≡ Ok (view given)
+GivesDue view due (Err fault) = FailsAs due fault

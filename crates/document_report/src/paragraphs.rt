@@ -4,22 +4,18 @@ ghost use Rattle.std.specs.Prelude.{◌≡◌, ◌∷◌, ◌<◌, ◌≤◌, Al
 ghost use Rattle.std.specs.List.{list_any};
 ghost use Rattle.std.specs.Str.Lines.{strip_carriage_return};
 ghost use Rattle.text_lines.specs.Lines.{bad_line, first_place, line_texts};
-ghost use Rattle.document_report.specs.Documents.{count_limit, is_long, length_limit, unless_bad, unless_long, unless_many, Gives};
+ghost use Rattle.document_report.specs.Documents.{is_long, unless_bad, unless_long, unless_many, GivesDue};
 ghost use Rattle.document_report.specs.Texts.{lent, texts_in};
+ghost use Rattle.paragraph_text.specs.declared.limits.TheConstants.{MOST_PARAGRAPHS, MOST_BYTES};
 
 use crate::fault::DocumentFault;
+use paragraph_text::{MOST_BYTES, MOST_PARAGRAPHS};
 use std::alloc::Global;
 use text_lines::bad_line;
 
-/// How many paragraphs a document may have.
-const COUNT_LIMIT: usize = 20_000;
-
-/// How long a paragraph may be, in bytes.
-const LENGTH_LIMIT: usize = 65_536;
-
 /// The text of a document, behind a byte order mark.
 pub fn text_of(document: &[u8]) -> Result<&str, DocumentFault>
-    ensures { Gives (λ text. texts_in text.now) (unless_bad (bad_line document.now) (line_texts document.now)) result }
+    ensures { GivesDue (λ text. texts_in text.now) (unless_bad (bad_line document.now) (line_texts document.now)) result }
 {
     match std::str::from_utf8(without_mark(document)) {
         Ok(text) => Ok(text),
@@ -40,15 +36,15 @@ fn without_mark(document: &[u8]) -> &[u8]
 /// The paragraphs of a text, which are its lines, if they are not too many.
 #[tactic(auto, unfolding(crate::specs::Documents::unless_many))]
 pub fn paragraphs_in<'a>(alloc: Global, text: &'a str) -> Result<Vec<&'a str>, DocumentFault>
-    ensures due { Gives (λ paragraphs. lent paragraphs.items) (unless_many (texts_in text.now)) result }
-    ensures few { IfOk result (λ paragraphs. length paragraphs.items ≤ count_limit) }
+    ensures due { GivesDue (λ paragraphs. lent paragraphs.items) (unless_many (texts_in text.now)) result }
+    ensures few { IfOk result (λ paragraphs. length paragraphs.items ≤ MOST_PARAGRAPHS) }
 {
     let mut paragraphs = Vec::new(alloc);
     let mut rest = text;
     while !rest.is_empty() {
-        if paragraphs.len() == COUNT_LIMIT {
+        if paragraphs.len() == MOST_PARAGRAPHS {
             return Err(DocumentFault::TooManyParagraphs {
-                limit: COUNT_LIMIT as u64,
+                limit: MOST_PARAGRAPHS as u64,
             });
         }
         let (line, behind) = first_line(rest);
@@ -61,12 +57,12 @@ pub fn paragraphs_in<'a>(alloc: Global, text: &'a str) -> Result<Vec<&'a str>, D
 /// Whether no paragraph is too long.
 #[tactic(auto, unfolding(crate::specs::Documents::unless_long))]
 pub fn check_lengths(paragraphs: &[&str]) -> Result<(), DocumentFault>
-    ensures due { Gives (λ _. lent paragraphs.now) (unless_long (lent paragraphs.now)) result }
-    ensures short { OnOk result (All (λ paragraph. length paragraph.now ≤ length_limit) paragraphs.now) }
+    ensures due { GivesDue (λ _. lent paragraphs.now) (unless_long (lent paragraphs.now)) result }
+    ensures short { OnOk result (All (λ paragraph. length paragraph.now ≤ MOST_BYTES) paragraphs.now) }
 {
     if has_long(paragraphs) {
         return Err(DocumentFault::LongParagraph {
-            limit: LENGTH_LIMIT as u64,
+            limit: MOST_BYTES as u64,
         });
     }
     Ok(())
@@ -77,7 +73,7 @@ fn has_long(paragraphs: &[&str]) -> bool
 {
     paragraphs
         .iter()
-        .any(|paragraph| paragraph.len() > LENGTH_LIMIT)
+        .any(|paragraph| paragraph.len() > MOST_BYTES)
 }
 
 /// The first line of a text that has one, and the text behind it.

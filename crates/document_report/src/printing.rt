@@ -6,10 +6,10 @@ ghost use Rattle.std.specs.Str.{chars};
 ghost use Rattle.std.specs.String.{string_bytes};
 ghost use Rattle.mark_types.specs.Marks.{located_words, marks_of};
 ghost use Rattle.mark_types.specs.Words.{words_of};
-ghost use Rattle.document_report.specs.Documents.{count_limit, length_limit};
 ghost use Rattle.document_report.specs.Given.{listed, printed_by, printed_as};
 ghost use Rattle.document_report.specs.Reports.{count_line, line_of, lines_of, mark_line, number_line, paragraph_lines, summary_lines};
 ghost use Rattle.document_report.specs.Texts.{lent};
+ghost use Rattle.paragraph_text.specs.declared.limits.TheConstants.{MOST_PARAGRAPHS, MOST_BYTES};
 
 use lists::NoMemory;
 use mark_types::{Asker, Mark, marks_are_local};
@@ -42,8 +42,8 @@ pub fn print<K: Asker>(
     output: Output,
     paragraphs: &[&str],
 ) -> Result<Report, NoMemory>
-    requires few { length paragraphs.now ≤ count_limit }
-    requires short { All (λ paragraph. length paragraph.now ≤ length_limit) paragraphs.now }
+    requires few { length paragraphs.now ≤ MOST_PARAGRAPHS }
+    requires short { All (λ paragraph. length paragraph.now ≤ MOST_BYTES) paragraphs.now }
     ensures printed { IfOk result (λ report. printed_by report ≡ printed_as output (K.lexicon asker.old) (map chars (lent paragraphs.now))) }
     ensures same { K.lexicon asker.new ≡ K.lexicon asker.old }
 {
@@ -67,8 +67,8 @@ fn count_all<K: Asker>(
     output: Output,
     paragraphs: &[&str],
 ) -> Result<Report, NoMemory>
-    requires few { length paragraphs.now ≤ count_limit }
-    requires short { All (λ paragraph. length paragraph.now ≤ length_limit) paragraphs.now }
+    requires few { length paragraphs.now ≤ MOST_PARAGRAPHS }
+    requires short { All (λ paragraph. length paragraph.now ≤ MOST_BYTES) paragraphs.now }
     ensures text { IfOk result (λ report. string_bytes report.text
         ≡ listed output (flat_map line_of (marks_of (K.lexicon asker.old) (map chars (lent paragraphs.now))))) }
     ensures marks { IfOk result (λ report. report.marks ≡ length (marks_of (K.lexicon asker.old) (map chars (lent paragraphs.now)))) }
@@ -98,14 +98,14 @@ impl Report {
         number: u64,
         paragraph: &str,
     ) -> Result<(), NoMemory>
-        requires short { length paragraph.now ≤ length_limit }
-        requires room { self.old.words + length_limit < 2 ^ 64 }
+        requires short { length paragraph.now ≤ MOST_BYTES }
+        requires room { self.old.words + MOST_BYTES < 2 ^ 64 }
         requires fewer { self.old.marks ≤ self.old.words }
         ensures text { OnOk result (string_bytes self.new.text
             ≡ string_bytes self.old.text ++ listed output (paragraph_lines (K.lexicon asker.old) number (chars paragraph.now))) }
         ensures marks { OnOk result (self.new.marks ≡ self.old.marks + length (marks_of (K.lexicon asker.old) (chars paragraph.now ∷ []))) }
         ensures words { OnOk result (self.new.words ≡ self.old.words + length (words_of (K.lexicon asker.old).affixes.wordchars (chars paragraph.now))) }
-        ensures grown { OnOk result (self.new.words ≤ self.old.words + length_limit) }
+        ensures grown { OnOk result (self.new.words ≤ self.old.words + MOST_BYTES) }
         ensures fewer { OnOk result (self.new.marks ≤ self.new.words) }
         ensures same { K.lexicon asker.new ≡ K.lexicon asker.old }
     {

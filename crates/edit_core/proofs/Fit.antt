@@ -1,67 +1,39 @@
 -- Which checks are fit for a board.
-use Rattle.std.proofs.Common.{◌≡◌, ◌∙◌, inl, inr, refl, sym, ap, subst, ℕ, zero, suc, ◌==◌, List, [], ◌∷◌, position, slice_get, None, Some}
+use Rattle.std.proofs.Common.{◌≡◌, ◌∙◌, inl, inr, refl, sym, ap, subst, ℕ, List, [], ◌∷◌, slice_get, Some}
 use Rattle.std.specs.List.{AllByRecursion}
-use Rattle.std.specs.Option.{option_map}
-use Rattle.std.proofs.lemmas.Bool.{eq-eqb, ne_eqb}
-use Rattle.paragraph_text.specs.Paragraphs.{Paragraph, HaveOwnIds}
+use Rattle.std.proofs.lemmas.Option.{same_Some}
+use Rattle.paragraph_text.specs.Paragraphs.{Paragraph}
 use Rattle.paragraph_text.specs.Edits.{with_id}
+use Rattle.paragraph_text.specs.Laws.{found-at, own-placed}
 use Rattle.edit_core.specs.Events.{SeenEvent, AnEdit, ALoad, AClaim, AFinish, APark, AnAsk}
 use Rattle.edit_core.specs.Runs.{AreFit, IsAnswered, IsOfBoard, OnlyGrew}
 use Rattle.edit_core.specs.Seen.{Seen, IsValidBoard}
 use Rattle.edit_core.specs.Steps.{IsAt, IsFit, IsFitCheck, Makes, place_of}
 use Rattle.edit_core.specs.declared.state.Standing.{Standing}
 use Rattle.edit_core.proofs.Growth.{grew-after, grew-not, grew-on}
-use Rattle.edit_core.proofs.Places.{found-one, position-hit, position-miss}
-use Rattle.edit_core.proofs.Steps.{EditsKeepValidity, found-first, found-later, valid-after}
-
-same-some : {X : Type 0} (x y : X) → Some x ≡ Some y → x ≡ y
-same-some x y is = cc
-
-apart : {X Y : Type 0} (x : X) → None ≡ Some x → Y
-apart x is = cc
+use Rattle.edit_core.proofs.Steps.{EditsKeepValidity, valid-after}
 
 -- what stands at the place of an id is what the id names
-named-by : (rows : List Paragraph) (id place : ℕ) (paragraph : Paragraph) → position (λ (p : Paragraph). p.id == id) rows ≡ Some place → slice_get rows place ≡ Some paragraph → with_id id rows ≡ Some paragraph
-named-by rows id place paragraph place-is at = found-one (λ (p : Paragraph). p.id == id) rows place paragraph place-is at
+pub at-named : (board : Seen) (id place : ℕ) (paragraph : Paragraph) (stands : Standing) → IsAt board id place paragraph stands
+    → with_id id board.paragraphs ≡ Some paragraph
+at-named board id place paragraph stands here =
+    (found-at board.paragraphs id place paragraph here.place_is here.paragraph_is).found
 
-pub at-named : (board : Seen) (id place : ℕ) (paragraph : Paragraph) (stands : Standing) → IsAt board id place paragraph stands → with_id id board.paragraphs ≡ Some paragraph
-at-named board id place paragraph stands here = named-by board.paragraphs id place paragraph here.place_is here.paragraph_is
-
--- where no id stands twice a paragraph is the one that its id names
-other-ids : (others : List Paragraph) (id place : ℕ) (paragraph : Paragraph) → AllByRecursion (λ other. ¬ (other.id ≡ id)) others → slice_get others place ≡ Some paragraph → ¬ (paragraph.id ≡ id)
-other-ids [] id place paragraph all at = apart paragraph at
-other-ids (first ∷ others) id zero paragraph all at = subst (λ (p : Paragraph). ¬ (p.id ≡ id)) (same-some first paragraph at) all.0
-other-ids (first ∷ others) id (suc place) paragraph all at = other-ids others id place paragraph all.1 at
-
-own-named : (rows : List Paragraph) (place : ℕ) (paragraph : Paragraph) → HaveOwnIds rows → slice_get rows place ≡ Some paragraph → with_id paragraph.id rows ≡ Some paragraph
-own-named [] place paragraph own at = apart paragraph at
-own-named (first ∷ others) zero paragraph own at =
-    let same : first ≡ paragraph = same-some first paragraph at in
-    found-first paragraph.id first others (ap (λ p. p.id) same) ∙ ap (λ p. Some p) same
-own-named (first ∷ others) (suc place) paragraph own at =
-    found-later paragraph.id first others paragraph (λ same. other-ids others first.id place paragraph own.0 at (sym same)) (own-named others place paragraph own.1 at)
-
-pub own-here : (board : Seen) (place : ℕ) (paragraph : Paragraph) → IsValidBoard board → slice_get board.paragraphs place ≡ Some paragraph → with_id paragraph.id board.paragraphs ≡ Some paragraph
-own-here board place paragraph valid at = own-named board.paragraphs place paragraph valid.paragraphs.own_ids at
-
--- and stands at the place of its id
-own-placed : (rows : List Paragraph) (place : ℕ) (paragraph : Paragraph) → HaveOwnIds rows → slice_get rows place ≡ Some paragraph → place_of paragraph.id rows ≡ Some place
-own-placed [] place paragraph own at = apart paragraph at
-own-placed (first ∷ others) zero paragraph own at =
-    position-hit (λ (p : Paragraph). p.id == paragraph.id) first others (eq-eqb first.id paragraph.id (ap (λ p. p.id) (same-some first paragraph at)))
-own-placed (first ∷ others) (suc place) paragraph own at =
-    position-miss (λ (p : Paragraph). p.id == paragraph.id) first others
-    (ne_eqb first.id paragraph.id (λ same. other-ids others first.id place paragraph own.0 at (sym same)))
-    ∙ ap (option_map (λ n. suc n)) (own-placed others place paragraph own.1 at)
-
-pub own-place : (board : Seen) (place : ℕ) (paragraph : Paragraph) → IsValidBoard board → slice_get board.paragraphs place ≡ Some paragraph → place_of paragraph.id board.paragraphs ≡ Some place
+-- on a valid board a paragraph stands at the place of its id, and is the one that its id names
+pub own-place : (board : Seen) (place : ℕ) (paragraph : Paragraph) → IsValidBoard board
+    → slice_get board.paragraphs place ≡ Some paragraph → place_of paragraph.id board.paragraphs ≡ Some place
 own-place board place paragraph valid at = own-placed board.paragraphs place paragraph valid.paragraphs.own_ids at
+
+pub own-here : (board : Seen) (place : ℕ) (paragraph : Paragraph) → IsValidBoard board
+    → slice_get board.paragraphs place ≡ Some paragraph → with_id paragraph.id board.paragraphs ≡ Some paragraph
+own-here board place paragraph valid at =
+    (found-at board.paragraphs paragraph.id place paragraph (own-place board place paragraph valid at) at).found
 
 -- a check of a board's own paragraph is fit for it, whatever its rev and its dictionary version
 pub own-fit : (board : Seen) (place rev dict : ℕ) (paragraph : Paragraph) → IsValidBoard board → slice_get board.paragraphs place ≡ Some paragraph → IsFitCheck board paragraph.id rev dict paragraph.text board.lexicon
 own-fit board place rev dict paragraph valid at place' paragraph' stands here rev-is dict-is =
     let same : paragraph ≡ paragraph' =
-    same-some paragraph paragraph' (sym (own-named board.paragraphs place paragraph valid.paragraphs.own_ids at) ∙ at-named board paragraph.id place' paragraph' stands here) in
+    same_Some paragraph paragraph' (sym (own-here board place paragraph valid at) ∙ at-named board paragraph.id place' paragraph' stands here) in
     (ap (λ p. p.text) same, refl)
 
 -- a check of a paragraph of an earlier board, for its rev and its dictionary version, is fit for each later one

@@ -1,27 +1,24 @@
 -- How far a history gets.
-use Rattle.std.proofs.Common.{◌≡◌, ◌∙◌, refl, sym, ap, subst, ℕ, zero, suc, ◌+◌, ◌*◌, ◌≤◌, Bool, true, false, cond, not, List, [], ◌∷◌, ◌++◌, length, map, set, slice_get, Option, None, Some, zero-add, arith}
+use Rattle.std.proofs.Common.{◌≡◌, ◌∙◌, refl, sym, ap, subst, ℕ, zero, suc, ◌+◌, ◌*◌, ◌≤◌, Bool, true, false, cond, not, List, [], ◌∷◌, length, map, set, slice_get, Option, None, Some, zero-add, arith}
 use Rattle.std.specs.List.{count_by, insert, remove}
 use Rattle.std.specs.Option.{option_map_or}
 use Rattle.std.proofs.lemmas.Bool.{false≢true}
+use Rattle.std.proofs.lemmas.Option.{none-some, same_Some}
 use Rattle.std.proofs.lemmas.List.Sums.{count_by-le-length, sum_by-cons, sum_by-insert}
+use Rattle.lists.specs.Changes.{Change, SetAt, InsertAt, RemoveAt, changed}
+use Rattle.paragraph_text.specs.Edits.{change_of, kept_after}
 use Rattle.paragraph_text.specs.Paragraphs.{Paragraph}
 use Rattle.paragraph_text.specs.declared.edits.Edit.{Edit}
-use Rattle.paragraph_text.specs.declared.edits.Edit.TheVariants.{Insert, Remove, Replace}
 use Rattle.edit_core.specs.Events.{SeenEvent, AnEdit, ALoad, AClaim, AFinish, APark, AnAsk}
 use Rattle.edit_core.specs.Runs.{AreSteps, Entry, IsRun, Run, asked_of, furthest_point, is_held, is_quiet, is_waiting, last_board}
 use Rattle.edit_core.specs.Seen.{Seen, IsOpening, IsValidBoard}
-use Rattle.edit_core.specs.Steps.{Makes, MayClaim, MayFinish, Moves, Step, is_open, kept_after, place_of, reloaded}
+use Rattle.edit_core.specs.Steps.{Makes, MayClaim, MayFinish, Moves, Step, is_open, reloaded}
 use Rattle.edit_core.specs.declared.state.Standing.{Standing}
 use Rattle.edit_core.specs.declared.state.Standing.TheVariants as standing
 use Rattle.edit_core.proofs.Kept.{map-long}
-use Rattle.edit_core.proofs.RunLaws.{count-append, count-one}
 use Rattle.edit_core.proofs.Steps.{EditsKeepValidity, valid-after}
-
-same-some : {X : Type 0} (x y : X) → Some x ≡ Some y → x ≡ y
-same-some x y is = cc
-
-apart : {X Y : Type 0} (x : X) → None ≡ Some x → Y
-apart x is = cc
+use Rattle.edit_core.specs.declared.limits.TheConstants.{MOST_MOVED}
+use Rattle.paragraph_text.specs.declared.limits.TheConstants.{MOST_PARAGRAPHS}
 
 -- ---- counts behind a change at one place
 abbrev bit : Bool → ℕ
@@ -54,10 +51,10 @@ later-exact : (a' a b c d n' n : ℕ) → a' ≡ c + n' → a ≡ c + n → n' +
 later-exact a' a b c d n' n new old more = omega (arith, new, old, more)
 
 count-set : {X : Type 0} (p : X → Bool) (xs : List X) (k : ℕ) (x y : X) → slice_get xs k ≡ Some x → count_by p (set xs k y) + bit (p x) ≡ count_by p xs + bit (p y)
-count-set p [] k x y at = apart x at
+count-set p [] k x y at = absurd (none-some x at)
 count-set p (z ∷ xs) zero x y at =
     first-exact (count_by p (y ∷ xs)) (count_by p (z ∷ xs)) (bit (p y)) (bit (p z)) (bit (p x)) (count_by p xs) (count-cons p y xs) (count-cons p z xs)
-    (ap (λ v. bit (p v)) (same-some z x at))
+    (ap (λ v. bit (p v)) (same_Some z x at))
 count-set p (z ∷ xs) (suc k) x y at =
     later-exact (count_by p (z ∷ set xs k y)) (count_by p (z ∷ xs)) (bit (p y)) (bit (p z)) (bit (p x)) (count_by p (set xs k y)) (count_by p xs)
     (count-cons p z (set xs k y)) (count-cons p z xs) (count-set p xs k x y at)
@@ -87,24 +84,14 @@ count-remove-most p (x ∷ xs) (suc k) =
 
 -- behind an edit no more is counted than before it, and what is new
 count-edit : {X : Type 0} (p : X → Bool) (new : X) (paragraphs : List Paragraph) (kept : List X) (edit : Edit) → count_by p (kept_after new paragraphs kept edit) ≤ count_by p kept + bit (p new)
-count-edit p new paragraphs kept (Replace id rev from to text) = by (place_of id paragraphs)
+count-edit p new paragraphs kept edit = by (change_of paragraphs edit)
   where
-    by : (place : Option ℕ) → count_by p (option_map_or (λ k. set kept k new) place kept) ≤ count_by p kept + bit (p new)
+    by : (change : Option Change) → count_by p (option_map_or (λ c. changed c new kept) change kept) ≤ count_by p kept + bit (p new)
     by None = more-most (count_by p kept) (bit (p new))
-    by (Some k) = count-set-most p kept k new
-count-edit p new paragraphs kept (Insert None text) =
-    equal-most (count_by p (kept ++ new ∷ [])) (count_by p kept + bit (p new))
-    (count-append p kept (new ∷ []) ∙ ap (λ n. count_by p kept + n) (count-one p new))
-count-edit p new paragraphs kept (Insert (Some id) text) = by (place_of id paragraphs)
-  where
-    by : (place : Option ℕ) → count_by p (option_map_or (λ k. insert kept k new) place kept) ≤ count_by p kept + bit (p new)
-    by None = more-most (count_by p kept) (bit (p new))
-    by (Some k) = equal-most (count_by p (insert kept k new)) (count_by p kept + bit (p new)) (sum_by-insert (λ x. cond (p x) 1 0) kept k new)
-count-edit p new paragraphs kept (Remove id rev) = by (place_of id paragraphs)
-  where
-    by : (place : Option ℕ) → count_by p (option_map_or (λ k. remove kept k) place kept) ≤ count_by p kept + bit (p new)
-    by None = more-most (count_by p kept) (bit (p new))
-    by (Some k) =
+    by (Some (SetAt k)) = count-set-most p kept k new
+    by (Some (InsertAt k)) =
+        equal-most (count_by p (insert kept k new)) (count_by p kept + bit (p new)) (sum_by-insert (λ x. cond (p x) 1 0) kept k new)
+    by (Some (RemoveAt k)) =
         chain (count_by p (remove kept k)) (count_by p kept) (count_by p kept + bit (p new)) (count-remove-most p kept k)
         (more-most (count_by p kept) (bit (p new)))
 
@@ -174,34 +161,34 @@ quiet-further before after event step quiet = no-further (furthest_point after) 
     by (AnAsk session id) made quiet = absurd (false≢true quiet)
 
 edited-numbers : (point waiting waiting' held held' : ℕ) → waiting' ≤ waiting + 1 → held' ≤ held + 0
-    → (point + 1) + (2 * waiting' + held') ≤ (point + (2 * waiting + held)) + 40001
+    → (point + 1) + (2 * waiting' + held') ≤ (point + (2 * waiting + held)) + MOST_MOVED
 edited-numbers point waiting waiting' held held' first second = omega (arith, first, second)
 
-loaded-numbers : (point waiting waiting' held held' : ℕ) → waiting' ≤ 20000 → held' ≡ 0
-    → (point + 1) + (2 * waiting' + held') ≤ (point + (2 * waiting + held)) + 40001
+loaded-numbers : (point waiting waiting' held held' : ℕ) → waiting' ≤ MOST_PARAGRAPHS → held' ≡ 0
+    → (point + 1) + (2 * waiting' + held') ≤ (point + (2 * waiting + held)) + MOST_MOVED
 loaded-numbers point waiting waiting' held held' few none = omega (arith, few, none)
 
-not-far : (m n extra : ℕ) → extra ≤ 40001 → m ≤ n + extra → m ≤ n + 40001
+not-far : (m n extra : ℕ) → extra ≤ MOST_MOVED → m ≤ n + extra → m ≤ n + MOST_MOVED
 not-far m n extra few most = omega (arith, few, most)
 
-few-waiting : (count many all : ℕ) → count ≤ many → many ≡ all → all ≤ 20000 → count ≤ 20000
+few-waiting : (count many all : ℕ) → count ≤ many → many ≡ all → all ≤ MOST_PARAGRAPHS → count ≤ MOST_PARAGRAPHS
 few-waiting count many all most same few = omega (arith, most, same, few)
 
-pub step-further : (before after : Seen) (event : SeenEvent) → IsValidBoard before → Step before event after → furthest_point after ≤ furthest_point before + 40001
+pub step-further : (before after : Seen) (event : SeenEvent) → IsValidBoard before → Step before event after → furthest_point after ≤ furthest_point before + MOST_MOVED
 step-further before after event valid step = by event step.makes
   where
-    near : (extra : ℕ) → extra ≤ 40001 → furthest_point after ≤ furthest_point before + extra → furthest_point after ≤ furthest_point before + 40001
+    near : (extra : ℕ) → extra ≤ MOST_MOVED → furthest_point after ≤ furthest_point before + extra → furthest_point after ≤ furthest_point before + MOST_MOVED
     near extra few most = not-far (furthest_point after) (furthest_point before) extra few most
 
-    by : (event : SeenEvent) → Makes before event after → furthest_point after ≤ furthest_point before + 40001
+    by : (event : SeenEvent) → Makes before event after → furthest_point after ≤ furthest_point before + MOST_MOVED
     by (AnEdit session edit) made =
         let standings = kept_after standing.Waiting before.paragraphs before.standings edit in
-        subst (λ b. furthest_point b ≤ furthest_point before + 40001) (sym made.after_is)
+        subst (λ b. furthest_point b ≤ furthest_point before + MOST_MOVED) (sym made.after_is)
         (edited-numbers before.point (count_by is_waiting before.standings) (count_by is_waiting standings) (count_by is_held before.standings) (count_by is_held standings)
         (count-edit is_waiting standing.Waiting before.paragraphs before.standings edit) (count-edit is_held standing.Waiting before.paragraphs before.standings edit))
     by (ALoad lexicon) made =
         let standings = map reloaded before.standings in
-        subst (λ b. furthest_point b ≤ furthest_point before + 40001) (sym made)
+        subst (λ b. furthest_point b ≤ furthest_point before + MOST_MOVED) (sym made)
         (loaded-numbers before.point (count_by is_waiting before.standings) (count_by is_waiting standings) (count_by is_held before.standings) (count_by is_held standings)
         (few-waiting (count_by is_waiting standings) (length standings) (length before.paragraphs) (count_by-le-length is_waiting standings)
         (map-long reloaded before.standings ∙ valid.standings) valid.paragraphs.few)
@@ -216,16 +203,16 @@ step-further before after event valid step = by event step.makes
         near 3 (omega arith) (moved-further before after id (λ _ stands. stands ≡ standing.Parked) standing.Waiting 3 made (asked-further made.stands))
 
 -- ---- more steps
-not-at-all : (n : ℕ) → n ≤ n + 40001 * 0
+not-at-all : (n : ℕ) → n ≤ n + MOST_MOVED * 0
 not-at-all n = omega arith
 
-quiet-numbers : (first next last asked asked' : ℕ) → next ≤ first → last ≤ next + 40001 * asked → asked' ≡ 0 + asked → last ≤ first + 40001 * asked'
+quiet-numbers : (first next last asked asked' : ℕ) → next ≤ first → last ≤ next + MOST_MOVED * asked → asked' ≡ 0 + asked → last ≤ first + MOST_MOVED * asked'
 quiet-numbers first next last asked asked' one more is = omega (arith, one, more, is)
 
-asked-numbers : (first next last asked asked' : ℕ) → next ≤ first + 40001 → last ≤ next + 40001 * asked → asked' ≡ 1 + asked → last ≤ first + 40001 * asked'
+asked-numbers : (first next last asked asked' : ℕ) → next ≤ first + MOST_MOVED → last ≤ next + MOST_MOVED * asked → asked' ≡ 1 + asked → last ≤ first + MOST_MOVED * asked'
 asked-numbers first next last asked asked' one more is = omega (arith, one, more, is)
 
-run-further : EditsKeepValidity → (board : Seen) (entries : List Entry) → IsValidBoard board → AreSteps board entries → furthest_point (last_board board entries) ≤ furthest_point board + 40001 * asked_of entries
+run-further : EditsKeepValidity → (board : Seen) (entries : List Entry) → IsValidBoard board → AreSteps board entries → furthest_point (last_board board entries) ≤ furthest_point board + MOST_MOVED * asked_of entries
 run-further law board [] valid steps = not-at-all (furthest_point board)
 run-further law board (entry ∷ entries) valid steps =
     by (run-further law entry.board entries (valid-after law board entry.board entry.event valid steps.0) steps.1) (is_quiet entry.event) refl
@@ -233,8 +220,8 @@ run-further law board (entry ∷ entries) valid steps =
     counted : (b : Bool) → is_quiet entry.event ≡ b → asked_of (entry ∷ entries) ≡ bit (not b) + asked_of entries
     counted b is = count-cons (λ (e : Entry). not (is_quiet e.event)) entry entries ∙ ap (λ b. bit (not b) + asked_of entries) is
 
-    by : furthest_point (last_board entry.board entries) ≤ furthest_point entry.board + 40001 * asked_of entries → (b : Bool) → is_quiet entry.event ≡ b
-        → furthest_point (last_board entry.board entries) ≤ furthest_point board + 40001 * asked_of (entry ∷ entries)
+    by : furthest_point (last_board entry.board entries) ≤ furthest_point entry.board + MOST_MOVED * asked_of entries → (b : Bool) → is_quiet entry.event ≡ b
+        → furthest_point (last_board entry.board entries) ≤ furthest_point board + MOST_MOVED * asked_of (entry ∷ entries)
     by more true is =
         quiet-numbers (furthest_point board) (furthest_point entry.board) (furthest_point (last_board entry.board entries)) (asked_of entries) (asked_of (entry ∷ entries))
         (quiet-further board entry.board entry.event steps.0 is) more (counted true is)
@@ -253,10 +240,10 @@ opening-further board opens valid =
     (ap (λ b. count_by is_held b.standings) opens.board_is ∙ count-none is_held (λ _. standing.Waiting) opens.texts (λ _. refl))
     (count_by-le-length is_waiting board.standings) valid.standings
 
-run-numbers : (point waiting held first all asked : ℕ) → point + (2 * waiting + held) ≤ first + 40001 * asked → first ≤ 2 * all → point ≤ 2 * all + 40001 * asked
+run-numbers : (point waiting held first all asked : ℕ) → point + (2 * waiting + held) ≤ first + MOST_MOVED * asked → first ≤ 2 * all → point ≤ 2 * all + MOST_MOVED * asked
 run-numbers point waiting held first all asked more opened = omega (arith, more, opened)
 
-pub run-short : EditsKeepValidity → (run : Run) → IsRun run → (last_board run.opening run.entries).point ≤ 2 * length run.opening.paragraphs + 40001 * asked_of run.entries
+pub run-short : EditsKeepValidity → (run : Run) → IsRun run → (last_board run.opening run.entries).point ≤ 2 * length run.opening.paragraphs + MOST_MOVED * asked_of run.entries
 run-short law run is =
     let last = last_board run.opening run.entries in
     run-numbers last.point (count_by is_waiting last.standings) (count_by is_held last.standings) (furthest_point run.opening) (length run.opening.paragraphs) (asked_of run.entries)

@@ -1,6 +1,8 @@
 -- What grows from one board of a history to a later one.
-use Rattle.std.proofs.Common.{◌≡◌, ◌∙◌, ◌⊎◌, inl, inr, refl, sym, ap, subst, ℕ, ◌+◌, ◌<◌, ◌≤◌, true, List, [], ◌∷◌, ◌++◌, None, Some, arith}
+use Rattle.std.proofs.Common.{◌≡◌, ◌∙◌, ◌⊎◌, inl, inr, refl, sym, ap, subst, ℕ, ◌+◌, ◌<◌, ◌≤◌, true, List, [], ◌∷◌, ◌++◌, Some, arith}
 use Rattle.std.specs.List.{AllByRecursion, AllZip}
+use Rattle.std.proofs.lemmas.Option.{same_Some}
+use Rattle.lists.specs.Laws.{each-middle}
 use Rattle.paragraph_text.specs.Paragraphs.{Paragraph, AreValid, HaveOwnIds, IsValidIn}
 use Rattle.paragraph_text.specs.Edits.{Applies, with_id, next_id_after}
 use Rattle.paragraph_text.specs.declared.edits.Edit.{Edit}
@@ -11,14 +13,7 @@ use Rattle.edit_core.specs.Steps.{Makes, MayClaim, MayFinish, Moves, Step, is_op
 use Rattle.edit_core.specs.Runs.{AreQuiet, AreSteps, Entry, IsLive, IsQuiet, MayBecome, OnlyGrew, last_board}
 use Rattle.edit_core.specs.declared.state.Standing.{Standing}
 use Rattle.edit_core.specs.declared.state.Standing.TheVariants as standing
-use Rattle.edit_core.proofs.Places.{all-middle}
 use Rattle.edit_core.proofs.Steps.{EditsKeepValidity, becomes-same, found-all, found-first, found-has, found-in, found-later, quiet-after, valid-after}
-
-same-some : {X : Type 0} (x y : X) → Some x ≡ Some y → x ≡ y
-same-some x y is = cc
-
-apart : {X Y : Type 0} (x : X) → None ≡ Some x → Y
-apart x is = cc
 
 -- ---- numbers
 same-most : (n : ℕ) → n ≤ n
@@ -60,7 +55,7 @@ replaced id [] touched made rest old new named was is = by (found-in id touched 
     by (inl (here, first)) (inl (here', second)) = inr (first, second)
     by (inl (here, first)) (inr (there, second)) = absurd (there (sym named ∙ here))
     by (inr (there, first)) (inl (here, second)) = absurd (there (named ∙ here))
-    by (inr (there, first)) (inr (there', second)) = inl (same-some old new (sym first ∙ second))
+    by (inr (there, first)) (inr (there', second)) = inl (same_Some old new (sym first ∙ second))
 replaced id (z ∷ front) touched made rest old new named was is = by (replaced id front touched made rest old new named) (found-in id z (front ++ touched ∷ rest) old was).is (found-in id z (front ++ made ∷ rest) new is).is
   where
     by : (with_id id (front ++ touched ∷ rest) ≡ Some old → with_id id (front ++ made ∷ rest) ≡ Some new → (old ≡ new) ⊎ ((touched ≡ old) × (made ≡ new))) → ((z.id ≡ id) × (z ≡ old)) ⊎ ((¬ (z.id ≡ id)) × (with_id id (front ++ touched ∷ rest) ≡ Some old)) → ((z.id ≡ id) × (z ≡ new)) ⊎ ((¬ (z.id ≡ id)) × (with_id id (front ++ made ∷ rest) ≡ Some new)) → (old ≡ new) ⊎ ((touched ≡ old) × (made ≡ new))
@@ -141,20 +136,20 @@ list-inserted version next_id front made rest named each =
     by : (id : ℕ) (old new : Paragraph) → with_id id (front ++ rest) ≡ Some old → (made.id ≡ id) ⊎ (with_id id (front ++ rest) ≡ Some new) → Newer old new
     by id old new was (inl here) =
         less-apart old.id next_id (found-all (IsValidIn version next_id) id (front ++ rest) old each was).known (found-has id (front ++ rest) old was ∙ sym here ∙ named)
-    by id old new was (inr there) = inl (same-some old new (sym was ∙ there))
+    by id old new was (inr there) = inl (same_Some old new (sym was ∙ there))
 
 list-removed : (next_id : ℕ) (front : List Paragraph) (touched : Paragraph) (rest : List Paragraph) → HaveOwnIds (front ++ touched ∷ rest) → ListGrew next_id (front ++ touched ∷ rest) (front ++ rest)
 list-removed next_id front touched rest own =
     record {
       live = λ id live. inl (live.0, removed id front touched rest live.0 own live.1);
-      newer = λ id old new was is. inl (same-some old new (sym was ∙ removed id front touched rest new own is));
+      newer = λ id old new was is. inl (same_Some old new (sym was ∙ removed id front touched rest new own is));
     }
 
 list-grew : (version next_id : ℕ) (before after : List Paragraph) (edit : Edit) → AreValid version next_id before → Applies version next_id before edit after → ListGrew next_id before after
 list-grew version next_id before after (Replace id rev from to text) valid made =
     subst (λ ps. ListGrew next_id ps after) (sym made.before_is) (subst (ListGrew next_id (made.front ++ made.touched ∷ made.rest)) (sym made.after_is)
     (list-replaced version next_id made.front made.touched _ made.rest made.named
-    (all-middle (IsValidIn version next_id) made.front made.touched made.rest (subst (AllByRecursion (IsValidIn version next_id)) made.before_is valid.each)).older refl))
+    (each-middle (IsValidIn version next_id) made.front made.touched made.rest (subst (AllByRecursion (IsValidIn version next_id)) made.before_is valid.each)).older refl))
 list-grew version next_id before after (Insert gap text) valid made =
     subst (λ ps. ListGrew next_id ps after) (sym made.before_is) (subst (ListGrew next_id (made.front ++ made.rest)) (sym made.after_is)
     (list-inserted version next_id made.front _ made.rest refl (subst (AllByRecursion (IsValidIn version next_id)) made.before_is valid.each)))
@@ -165,7 +160,7 @@ list-grew version next_id before after (Remove id rev) valid made =
 -- ---- one step
 same-revs : (paragraphs : List Paragraph) (id : ℕ) (old new : Paragraph) → with_id id paragraphs ≡ Some old → with_id id paragraphs ≡ Some new → (old.rev ≤ new.rev) × (old.rev ≡ new.rev → old.text ≡ new.text)
 same-revs paragraphs id old new was is =
-    let same : old ≡ new = same-some old new (sym was ∙ is) in
+    let same : old ≡ new = same_Some old new (sym was ∙ is) in
     (equal-most old.rev new.rev (ap (λ p. p.rev) same), λ _. ap (λ p. p.text) same)
 
 newer-revs : (old new : Paragraph) → Newer old new → (old.rev ≤ new.rev) × (old.rev ≡ new.rev → old.text ≡ new.text)

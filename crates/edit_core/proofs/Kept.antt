@@ -1,15 +1,17 @@
 -- What is kept of a board, and what each event makes of it.
-use Rattle.std.proofs.Common.{◌≡◌, ◌∙◌, refl, sym, ap, subst, ℕ, zero, suc, ◌+◌, ◌<◌, ◌^◌, List, [], ◌∷◌, ◌++◌, length, map, set, slice_get, Option, None, Some}
-use Rattle.std.specs.List.{AllZip, insert, remove}
+use Rattle.std.proofs.Common.{◌≡◌, ◌∙◌, refl, sym, ap, subst, ℕ, suc, ◌+◌, ◌<◌, ◌^◌, List, [], ◌∷◌, length, map, set, slice_get, Option, None, Some}
+use Rattle.std.specs.List.{AllZip}
 use Rattle.std.specs.Option.{option_map_or}
 use Rattle.std.proofs.lemmas.List.{map-set}
+use Rattle.lists.specs.Changes.{Change, changed}
+use Rattle.lists.specs.Laws.{map-changed}
 use Rattle.spell_types.specs.declared.Lexicon.{Lexicon}
 use Rattle.paragraph_text.specs.Paragraphs.{Paragraph, AreValid}
-use Rattle.paragraph_text.specs.Edits.{Applies, next_id_after}
+use Rattle.paragraph_text.specs.Edits.{Applies, change_of, kept_after, next_id_after}
+use Rattle.paragraph_text.specs.Laws.{changes}
 use Rattle.paragraph_text.specs.declared.edits.Edit.{Edit}
-use Rattle.paragraph_text.specs.declared.edits.Edit.TheVariants.{Insert, Remove, Replace}
 use Rattle.edit_core.specs.Seen.{Seen, IsValidBoard, IsTheirs, AreTheirs, standing_of}
-use Rattle.edit_core.specs.Steps.{Edits, Loads, kept_after, place_of, reloaded, reloaded_state}
+use Rattle.edit_core.specs.Steps.{Edits, Loads, reloaded, reloaded_state}
 use Rattle.edit_core.specs.declared.state.State.{State}
 use Rattle.edit_core.specs.declared.state.State.TheVariants as state
 use Rattle.edit_core.proofs.Boards.{valid-moved, valid-loaded, valid-edited}
@@ -37,48 +39,20 @@ pub map-long : {X Y : Type 0} (f : X → Y) (xs : List X) → length (map f xs) 
 map-long f [] = refl
 map-long f (x ∷ xs) = ap (λ n. suc n) (map-long f xs)
 
-map-insert : {X Y : Type 0} (f : X → Y) (xs : List X) (i : ℕ) (x : X) → map f (insert xs i x) ≡ insert (map f xs) i (f x)
-map-insert f xs zero x = refl
-map-insert f [] (suc i) x = refl
-map-insert f (y ∷ xs) (suc i) x = ap (λ zs. f y ∷ zs) (map-insert f xs i x)
-
-map-remove : {X Y : Type 0} (f : X → Y) (xs : List X) (i : ℕ) → map f (remove xs i) ≡ remove (map f xs) i
-map-remove f [] zero = refl
-map-remove f (y ∷ xs) zero = refl
-map-remove f [] (suc i) = refl
-map-remove f (y ∷ xs) (suc i) = ap (λ zs. f y ∷ zs) (map-remove f xs i)
-
-map-push : {X Y : Type 0} (f : X → Y) (xs : List X) (x : X) → map f (xs ++ x ∷ []) ≡ map f xs ++ f x ∷ []
-map-push f [] x = refl
-map-push f (y ∷ xs) x = ap (λ zs. f y ∷ zs) (map-push f xs x)
-
-pub insert-end : {X : Type 0} (xs : List X) (x : X) → insert xs (length xs) x ≡ xs ++ x ∷ []
-insert-end [] x = refl
-insert-end (y ∷ xs) x = ap (λ zs. y ∷ zs) (insert-end xs x)
-
 pub zip-map : {X Y Z : Type 0} (P : X → Y → Type 0) (Q : X → Z → Type 0) (f : Y → Z) (xs : List X) (ys : List Y) → ((x : X) (y : Y) → P x y → Q x (f y)) → AllZip P xs ys → AllZip Q xs (map f ys)
 zip-map P Q f [] [] weaker all = all
 zip-map P Q f [] (y ∷ ys) weaker all = absurd all
 zip-map P Q f (x ∷ xs) [] weaker all = absurd all
 zip-map P Q f (x ∷ xs) (y ∷ ys) weaker all = (weaker x y all.0, zip-map P Q f xs ys weaker all.1)
 
-pub map-kept : {X Y : Type 0} (f : X → Y) (new : X) (paragraphs : List Paragraph) (kept : List X) (edit : Edit) → map f (kept_after new paragraphs kept edit) ≡ kept_after (f new) paragraphs (map f kept) edit
-map-kept {X} {Y} f new paragraphs kept (Replace id rev from to text) = by (place_of id paragraphs)
+pub map-kept : {X Y : Type 0} (f : X → Y) (new : X) (paragraphs : List Paragraph) (kept : List X) (edit : Edit)
+    → map f (kept_after new paragraphs kept edit) ≡ kept_after (f new) paragraphs (map f kept) edit
+map-kept {X} {Y} f new paragraphs kept edit = by (change_of paragraphs edit)
   where
-    by : (found : Option ℕ) → map f (option_map_or (λ place. set kept place new) found kept) ≡ option_map_or (λ place. set (map f kept) place (f new)) found (map f kept)
+    by : (change : Option Change) → map f (option_map_or (λ c. changed c new kept) change kept)
+        ≡ option_map_or (λ c. changed c (f new) (map f kept)) change (map f kept)
     by None = refl
-    by (Some place) = map-set f kept place new
-map-kept f new paragraphs kept (Insert None text) = map-push f kept new
-map-kept {X} {Y} f new paragraphs kept (Insert (Some id) text) = by (place_of id paragraphs)
-  where
-    by : (found : Option ℕ) → map f (option_map_or (λ place. insert kept place new) found kept) ≡ option_map_or (λ place. insert (map f kept) place (f new)) found (map f kept)
-    by None = refl
-    by (Some place) = map-insert f kept place new
-map-kept {X} {Y} f new paragraphs kept (Remove id rev) = by (place_of id paragraphs)
-  where
-    by : (found : Option ℕ) → map f (option_map_or (λ place. remove kept place) found kept) ≡ option_map_or (λ place. remove (map f kept) place) found (map f kept)
-    by None = refl
-    by (Some place) = map-remove f kept place
+    by (Some change) = map-changed f change new kept
 
 -- ---- the states of a board
 -- a state that holds no check is right wherever it stands
@@ -144,7 +118,8 @@ pub kept-edited : {J : Type 0} (lexicon_of : J → Lexicon) (point text dict : �
 kept-edited {J} lexicon_of point text dict judge judge' paragraphs paragraphs' states states' next_id edit kept goes_on judge-is applied made states-is =
     let behind : List (State J) = kept_after state.Waiting paragraphs states edit in
     let all : AreTheirs lexicon_of (lexicon_of judge) paragraphs' behind =
-    edit-zip (IsTheirs lexicon_of (lexicon_of judge)) state.Waiting (text + 1) next_id paragraphs paragraphs' states edit (λ paragraph. tt) kept.0.paragraphs.own_ids applied kept.1 in
+    edit-zip (IsTheirs lexicon_of (lexicon_of judge)) state.Waiting states (λ paragraph. tt)
+    (changes (text + 1) next_id paragraphs paragraphs' edit kept.0.paragraphs.own_ids applied) kept.1 in
     let long : length (map standing_of behind) ≡ length paragraphs' = states-long lexicon_of (lexicon_of judge) paragraphs' behind all in
     let valid = valid-edited (seen lexicon_of point text dict judge paragraphs states next_id) edit paragraphs' (map standing_of behind) kept.0 goes_on made long in
     let one : IsKept lexicon_of (point + 1) (text + 1) dict judge paragraphs' behind (next_id_after next_id edit) = (valid, all) in

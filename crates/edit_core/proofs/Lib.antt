@@ -1,4 +1,5 @@
 pub mod Places
+pub mod Waiting
 pub mod Boards
 pub mod Kept
 pub mod Found

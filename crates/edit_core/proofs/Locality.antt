@@ -1,10 +1,11 @@
 -- The marks that a paragraph has among those of all texts together are those of its text alone.
-use Rattle.std.proofs.Common.{◌≡◌, ◌∙◌, refl, sym, ap, subst, ℕ, zero, suc, ◌+◌, ◌<◌, ◌==◌, Bool, true, false, cond, List, [], ◌∷◌, ◌++◌, filter, map, slice_get, None, Some, arith}
+use Rattle.std.proofs.Common.{append-nil, ◌≡◌, ◌∙◌, refl, sym, ap, subst, ℕ, zero, suc, ◌+◌, ◌<◌, ◌==◌, true, false, cond, List, [], ◌∷◌, ◌++◌, filter, map, slice_get, Some, arith}
 use Rattle.std.specs.List.{enumerate_from, flat_map}
 use Rattle.std.specs.Option.{option_map}
 use Rattle.std.specs.Str.{chars}
 use Rattle.std.proofs.lemmas.Bool.{eq-eqb, ne_eqb}
-use Rattle.std.proofs.lemmas.Option.{slice_get-map}
+use Rattle.std.proofs.lemmas.List.Elements.{filter-append}
+use Rattle.std.proofs.lemmas.Option.{none-some, same_Some, slice_get-map}
 use Rattle.spell_types.specs.declared.Lexicon.{Lexicon}
 use Rattle.mark_types.specs.Handed.{mark_of}
 use Rattle.mark_types.specs.Marks.{LocatedWord, in_paragraph, marks_of, one_by_one}
@@ -16,14 +17,6 @@ use Rattle.edit_core.specs.declared.view.ParaView.{ParaView}
 use Rattle.edit_core.specs.declared.state.State.{State}
 use Rattle.edit_core.specs.declared.state.State.TheVariants as state
 use Rattle.edit_core.specs.declared.state.Standing.{Standing}
-
-filter-append : {X : Type 0} (p : X → Bool) (xs ys : List X) → filter p (xs ++ ys) ≡ filter p xs ++ filter p ys
-filter-append p [] ys = refl
-filter-append {X} p (x ∷ xs) ys = by (p x) (filter-append p xs ys)
-  where
-    by : (b : Bool) → filter p (xs ++ ys) ≡ filter p xs ++ filter p ys → cond b (x ∷ filter p (xs ++ ys)) (filter p (xs ++ ys)) ≡ cond b (x ∷ filter p xs) (filter p xs) ++ filter p ys
-    by true rest = ap (λ zs. x ∷ zs) rest
-    by false rest = rest
 
 -- words of a paragraph with a number, as words of the whole
 numbered-here : (words : List LocatedWord) (number asked : ℕ) → (number == asked) ≡ true → filter (λ word. word.paragraph == asked) (map (in_paragraph number) words) ≡ map (in_paragraph number) words
@@ -55,16 +48,6 @@ found-later f number asked (text ∷ texts) less =
     ∙ ap (λ ws. ws ++ filter (λ word. word.paragraph == asked) (found_from f (number + 1) texts)) (numbered-elsewhere (f text) number asked (apart number asked less))
     ∙ found-later f (number + 1) asked texts (further number asked less)
 
-none-some : {X Y : Type 0} (x : X) → None ≡ Some x → Y
-none-some x is = cc
-
-same-some : {X : Type 0} (x y : X) → Some x ≡ Some y → x ≡ y
-same-some x y is = cc
-
-append-none : {X : Type 0} (xs : List X) → xs ++ [] ≡ xs
-append-none [] = refl
-append-none (x ∷ xs) = ap (λ ys. x ∷ ys) (append-none xs)
-
 ahead : (number place : ℕ) → number < number + suc place
 ahead number place = omega arith
 
@@ -81,14 +64,14 @@ none-more : (number : ℕ) → number + 0 < number + 1
 none-more number = omega arith
 
 found-there : (f : List ℕ → List LocatedWord) (number : ℕ) (texts : List (List ℕ)) (place : ℕ) (text : List ℕ) → slice_get texts place ≡ Some text → filter (λ word. word.paragraph == number + place) (found_from f number texts) ≡ map (in_paragraph (number + place)) (f text)
-found-there f number [] place text at = none-some text at
+found-there f number [] place text at = absurd (none-some text at)
 found-there f number (first ∷ texts) zero text at =
-    let same : first ≡ text = same-some first text at in
+    let same : first ≡ text = same_Some first text at in
     let alike : number ≡ number + 0 = omega arith in
     filter-append (λ (word : LocatedWord). word.paragraph == number + 0) (map (in_paragraph number) (f first)) (found_from f (number + 1) texts)
     ∙ ap (λ ws. ws ++ filter (λ word. word.paragraph == number + 0) (found_from f (number + 1) texts)) (numbered-here (f first) number (number + 0) (here number))
     ∙ ap (λ ws. map (in_paragraph number) (f first) ++ ws) (found-later f (number + 1) (number + 0) texts (none-more number))
-    ∙ append-none (map (in_paragraph number) (f first))
+    ∙ append-nil (map (in_paragraph number) (f first))
     ∙ ap (λ n. map (in_paragraph n) (f first)) alike ∙ ap (λ t. map (in_paragraph (number + 0)) (f t)) same
 found-there f number (first ∷ texts) (suc place) text at =
     filter-append (λ (word : LocatedWord). word.paragraph == number + suc place) (map (in_paragraph number) (f first)) (found_from f (number + 1) texts)
@@ -114,9 +97,9 @@ local-marks local lexicon texts place text at =
 
 -- what is shown at a place is what is shown of the standing there
 pub shown-at : (board : Seen) (number : ℕ) (standings : List Standing) (place : ℕ) (stands : Standing) → slice_get standings place ≡ Some stands → slice_get (shown_from board number standings) place ≡ Some (shown_as board (number + place) stands)
-shown-at board number [] place stands at = none-some stands at
+shown-at board number [] place stands at = absurd (none-some stands at)
 shown-at board number (first ∷ standings) zero stands at =
-    let same : first ≡ stands = same-some first stands at in
+    let same : first ≡ stands = same_Some first stands at in
     let alike : number ≡ number + 0 = omega arith in
     ap (λ s. Some (shown_as board number s)) same ∙ ap (λ n. Some (shown_as board n stands)) alike
 shown-at board number (first ∷ standings) (suc place) stands at =

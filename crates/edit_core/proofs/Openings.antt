@@ -1,7 +1,7 @@
 -- Texts that may open a history, and the board that they open it with.
-use Rattle.std.proofs.Common.{◌≡◌, ◌∙◌, refl, sym, ap, subst, ℕ, suc, ◌+◌, ◌≤◌, ◌^◌, ◌==◌, Bool, true, false, List, [], ◌∷◌, length, map, position, Option, None, Some, arith}
-use Rattle.std.specs.Option.{option_map}
-use Rattle.std.proofs.lemmas.Bool.{eq-eqb, false≢true}
+use Rattle.std.proofs.Common.{◌≡◌, ◌∙◌, refl, sym, ap, subst, ℕ, suc, ◌+◌, ◌≤◌, ◌^◌, ◌==◌, false, List, [], ◌∷◌, length, map, position, None, arith}
+use Rattle.std.proofs.lemmas.Bool.{eqb-false}
+use Rattle.lists.specs.Laws.{each-weaker}
 use Rattle.spell_types.specs.declared.Lexicon.{Lexicon}
 use Rattle.paragraph_text.specs.Paragraphs.{Paragraph, AreValid, HasNoBreak, numbered_from}
 use Rattle.edit_core.specs.Seen.{IsValidBoard, AreTheirs, opening_of, standing_of}
@@ -9,26 +9,14 @@ use Rattle.edit_core.specs.declared.state.Standing.TheVariants as standing
 use Rattle.edit_core.specs.declared.state.State.{State}
 use Rattle.edit_core.specs.declared.state.State.TheVariants as state
 use Rattle.edit_core.proofs.Kept.{IsKept, map-long, seen}
-use Rattle.edit_core.proofs.Places.{position-hit, position-miss}
-
-none-some : {X Y : Type 0} (x : X) → None ≡ Some x → Y
-none-some x is = cc
+use Rattle.edit_core.proofs.Waiting.{none-passes}
+use Rattle.paragraph_text.specs.declared.limits.TheConstants.{MOST_PARAGRAPHS}
 
 -- a text without a place of a line feed has none
 pub no-break : (text : List ℕ) → position (λ byte. byte == 10) text ≡ None → HasNoBreak text
-no-break [] none = tt
-no-break (b ∷ text) none = by (no-break text) (b == 10) refl
-  where
-    unmapped : (found : Option ℕ) → option_map (λ n. suc n) found ≡ None → found ≡ None
-    unmapped None is = refl
-    unmapped (Some j) is = cc
-
-    by : (position (λ byte. byte == 10) text ≡ None → HasNoBreak text) → (t : Bool) → (b == 10) ≡ t → HasNoBreak (b ∷ text)
-    by more true is = none-some 0 (sym none ∙ position-hit (λ byte. byte == 10) b text is)
-    by more false is = (
-      λ same. false≢true (sym is ∙ eq-eqb b 10 same),
-      more (unmapped (position (λ byte. byte == 10) text) (sym (position-miss (λ byte. byte == 10) b text is) ∙ none)),
-    )
+no-break text none =
+    each-weaker (λ b. (b == 10) ≡ false) (λ b. ¬ (b ≡ 10)) (λ b other same. eqb-false b 10 other same) text
+    (none-passes (λ b. b == 10) text none)
 
 -- texts that wait are right wherever they stand
 waiting-theirs : {J : Type 0} (lexicon_of : J → Lexicon) (lexicon : Lexicon) (id : ℕ) (texts : List (List ℕ)) → AreTheirs lexicon_of lexicon (numbered_from id texts) (map (λ _. state.Waiting) texts)
@@ -49,10 +37,10 @@ waiting-long id texts = map-long (λ _. standing.Waiting) texts ∙ sym (numbere
 none-yet : (bound : ℕ) → 0 ≤ bound
 none-yet bound = omega arith
 
-few-ids : (n : ℕ) → n ≤ 20000 → n ≤ 20000 + 0
+few-ids : (n : ℕ) → n ≤ MOST_PARAGRAPHS → n ≤ MOST_PARAGRAPHS + 0
 few-ids n few = omega (arith, few)
 
-pub valid-opening : (lexicon : Lexicon) (texts : List (List ℕ)) → length texts ≤ 20000 → AreValid 1 (length texts) (numbered_from 0 texts) → IsValidBoard (opening_of lexicon texts)
+pub valid-opening : (lexicon : Lexicon) (texts : List (List ℕ)) → length texts ≤ MOST_PARAGRAPHS → AreValid 1 (length texts) (numbered_from 0 texts) → IsValidBoard (opening_of lexicon texts)
 valid-opening lexicon texts few valid =
     record {
       paragraphs = valid;
@@ -70,7 +58,7 @@ seen-opening {J} lexicon_of judge texts paragraphs states count paragraphs-is st
     ∙ ap (λ n. seen {J = J} lexicon_of 0 0 0 judge (numbered_from 0 texts) (map (λ _. state.Waiting) texts) n) count-is
     ∙ ap (λ stands. record (opening_of (lexicon_of judge) texts) { standings = stands }) (waiting-seen lexicon_of texts)
 
-pub kept-opening : {J : Type 0} (lexicon_of : J → Lexicon) (judge : J) (texts : List (List ℕ)) (paragraphs : List Paragraph) (states : List (State J)) (count : ℕ) → length texts ≤ 20000 → AreValid 1 (length texts) (numbered_from 0 texts) → paragraphs ≡ numbered_from 0 texts → states ≡ map (λ _. state.Waiting) texts → count ≡ length texts → IsKept lexicon_of 0 0 0 judge paragraphs states count
+pub kept-opening : {J : Type 0} (lexicon_of : J → Lexicon) (judge : J) (texts : List (List ℕ)) (paragraphs : List Paragraph) (states : List (State J)) (count : ℕ) → length texts ≤ MOST_PARAGRAPHS → AreValid 1 (length texts) (numbered_from 0 texts) → paragraphs ≡ numbered_from 0 texts → states ≡ map (λ _. state.Waiting) texts → count ≡ length texts → IsKept lexicon_of 0 0 0 judge paragraphs states count
 kept-opening {J} lexicon_of judge texts paragraphs states count few valid paragraphs-is states-is count-is = (
   subst IsValidBoard (sym (seen-opening lexicon_of judge texts paragraphs states count paragraphs-is states-is count-is)) (valid-opening (lexicon_of judge) texts few valid),
   subst (λ ps. AreTheirs lexicon_of (lexicon_of judge) ps states) (sym paragraphs-is)

@@ -1,13 +1,9 @@
 -- A list of events, one after another, is a history.
-use Rattle.std.proofs.Common.{◌≡◌, ◌∙◌, inl, inr, refl, sym, ap, subst, List, [], ◌∷◌, length, map, arith}
+use Rattle.std.proofs.Common.{◌≡◌, ◌∙◌, inl, inr, refl, sym, ap, subst, List, [], ◌∷◌, map}
 use Rattle.edit_core.specs.Events.{SeenEvent}
 use Rattle.edit_core.specs.Runs.{AreFit, AreSteps, AreTakenFrom, Entry, IsAnswered, IsReplayed, Replays, last_board}
 use Rattle.edit_core.specs.Seen.{Seen}
 use Rattle.edit_core.specs.Steps.{IsFit}
-
-pub none-left : {X : Type 0} (xs : List X) → length xs ≡ 0 → xs ≡ []
-none-left [] is = refl
-none-left (x ∷ xs) is = absurd (omega (arith, is))
 
 -- the first of events that are left is fit, and those behind it are fit for what it makes
 pub first-fit : {E : Type 0} (event_of : E → SeenEvent) (board : Seen) (event : E) (left later : List E) → left ≡ event ∷ later → AreFit board (map event_of left) → IsFit board (event_of event)

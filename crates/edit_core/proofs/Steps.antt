@@ -1,9 +1,11 @@
 -- What each step keeps, and what it lets grow.
-use Rattle.std.proofs.Common.{◌≡◌, ◌∙◌, ◌⊎◌, inl, inr, refl, sym, ap, subst, ℕ, zero, suc, ◌+◌, ◌==◌, Bool, true, false, cond, List, [], ◌∷◌, length, map, set, slice_get, None, Some, length-set}
+use Rattle.std.proofs.Common.{◌≡◌, ◌∙◌, ◌⊎◌, inl, inr, refl, sym, ap, subst, ℕ, zero, suc, ◌+◌, ◌==◌, Bool, true, false, cond, List, [], ◌∷◌, length, map, set, slice_get, Some, length-set}
 use Rattle.std.specs.List.{AllByRecursion, AllZip}
 use Rattle.std.proofs.lemmas.Bool.{eqb-true, eq-eqb, ne_eqb, false≢true}
+use Rattle.std.proofs.lemmas.Option.{none-some, same_Some}
 use Rattle.paragraph_text.specs.Paragraphs.{Paragraph, AreValid}
 use Rattle.paragraph_text.specs.Edits.{Applies, with_id, next_id_after}
+use Rattle.paragraph_text.specs.Laws.{changes}
 use Rattle.paragraph_text.specs.declared.edits.Edit.{Edit}
 use Rattle.edit_core.specs.Seen.{Seen, IsValidBoard}
 use Rattle.edit_core.specs.Events.{SeenEvent, AnEdit, ALoad, AClaim, AFinish, APark, AnAsk}
@@ -31,7 +33,8 @@ valid-after law before after event valid step = by event step.makes
     by (AnEdit session edit) made =
         let long : length (kept_after standing.Waiting before.paragraphs before.standings edit) ≡ length made.paragraphs =
         length-of-zip (λ _ _. Unit {0}) made.paragraphs (kept_after standing.Waiting before.paragraphs before.standings edit)
-        (edit-zip (λ _ _. Unit {0}) standing.Waiting (before.text + 1) before.next_id before.paragraphs made.paragraphs before.standings edit (λ _. tt) valid.paragraphs.own_ids made.applied
+        (edit-zip (λ _ _. Unit {0}) standing.Waiting before.standings (λ _. tt)
+        (changes (before.text + 1) before.next_id before.paragraphs made.paragraphs edit valid.paragraphs.own_ids made.applied)
         (zip-of-length before.paragraphs before.standings valid.standings)) in
         subst IsValidBoard (sym made.after_is)
         (valid-edited before edit made.paragraphs _ valid step.goes_on (law (before.text + 1) before.next_id before.paragraphs made.paragraphs edit valid.paragraphs made.applied) long)
@@ -99,12 +102,6 @@ quiet-after before after event step quiet = by event step.makes quiet
     by (AnAsk session id) made quiet = absurd (false≢true quiet)
 
 -- ---- what an edit does to the paragraph with an id
-apart : {X Y : Type 0} (x : X) → None ≡ Some x → Y
-apart x is = cc
-
-same-some : {X : Type 0} (x y : X) → Some x ≡ Some y → x ≡ y
-same-some x y is = cc
-
 -- the first of a list with an id, or none
 pub record Found (id : ℕ) (first : Paragraph) (others : List Paragraph) (found : Paragraph) : Type 0 where
   pub is : ((first.id ≡ id) × (first ≡ found)) ⊎ ((¬ (first.id ≡ id)) × (with_id id others ≡ Some found))
@@ -113,7 +110,7 @@ pub found-in : (id : ℕ) (first : Paragraph) (others : List Paragraph) (found :
 found-in id first others found is = by (first.id == id) refl
   where
     by : (b : Bool) → (first.id == id) ≡ b → Found id first others found
-    by true equal = record { is = inl (eqb-true first.id id equal, same-some first found (sym (ap (λ b. cond b (Some first) (with_id id others)) equal) ∙ is)) }
+    by true equal = record { is = inl (eqb-true first.id id equal, same_Some first found (sym (ap (λ b. cond b (Some first) (with_id id others)) equal) ∙ is)) }
     by false other = record { is = inr (λ same. false≢true (sym other ∙ eq-eqb first.id id same), sym (ap (λ b. cond b (Some first) (with_id id others)) other) ∙ is) }
 
 pub found-first : (id : ℕ) (first : Paragraph) (others : List Paragraph) → first.id ≡ id → with_id id (first ∷ others) ≡ Some first
@@ -124,7 +121,7 @@ found-later id first others found other is = ap (λ b. cond b (Some first) (with
 
 -- what is found has the id
 pub found-has : (id : ℕ) (paragraphs : List Paragraph) (found : Paragraph) → with_id id paragraphs ≡ Some found → found.id ≡ id
-found-has id [] found is = apart found is
+found-has id [] found is = absurd (none-some found is)
 found-has id (first ∷ others) found is = by (found-has id others found) (found-in id first others found is).is
   where
     by : (with_id id others ≡ Some found → found.id ≡ id) → ((first.id ≡ id) × (first ≡ found)) ⊎ ((¬ (first.id ≡ id)) × (with_id id others ≡ Some found)) → found.id ≡ id
@@ -133,7 +130,7 @@ found-has id (first ∷ others) found is = by (found-has id others found) (found
 
 -- what holds of all holds of what is found
 pub found-all : (P : Paragraph → Type 0) (id : ℕ) (paragraphs : List Paragraph) (found : Paragraph) → AllByRecursion P paragraphs → with_id id paragraphs ≡ Some found → P found
-found-all P id [] found all is = apart found is
+found-all P id [] found all is = absurd (none-some found is)
 found-all P id (first ∷ others) found all is = by (found-all P id others found all.1) (found-in id first others found is).is
   where
     by : (with_id id others ≡ Some found → P found) → ((first.id ≡ id) × (first ≡ found)) ⊎ ((¬ (first.id ≡ id)) × (with_id id others ≡ Some found)) → P found

@@ -64,6 +64,18 @@ entries_by asked by entries = count_by (is_entry asked by) entries
 abbrev pub entries_of : EventKind → List Entry → ℕ
 entries_of asked entries = count_by (λ entry. is_kind asked (kind_of entry.event)) entries
 
+-- how many entries came through a number, of all kinds together
+abbrev pub entries_through : ℕ → List Entry → ℕ
+entries_through by entries = count_by (λ entry. entry.by == by) entries
+
+-- the kinds of entries
+abbrev pub all_kinds : List EventKind
+all_kinds = kind.Edit ∷ kind.Load ∷ kind.Claim ∷ kind.Finish ∷ kind.Park ∷ kind.Ask ∷ []
+
+-- the kinds of what is asked, and is not of workers
+abbrev pub asked_kinds : List EventKind
+asked_kinds = kind.Edit ∷ kind.Load ∷ kind.Park ∷ kind.Ask ∷ []
+
 -- ---- what stays and what grows
 
 -- the paragraph with an id is there
@@ -127,6 +139,10 @@ furthest_point board = board.point + (2 * count_by is_waiting board.standings + 
 -- how many events of a history are not of workers
 abbrev pub asked_of : List Entry → ℕ
 asked_of entries = count_by (λ entry. not (is_quiet entry.event)) entries
+
+-- how many events of a history came through a number and are not of workers
+abbrev pub asked_by : ℕ → List Entry → ℕ
+asked_by by entries = count_by (λ entry. not (is_quiet entry.event) && (entry.by == by)) entries
 
 -- all events of a stretch are of workers
 abbrev pub AreQuiet : List Entry → Type 0

@@ -7,9 +7,10 @@ use Rattle.paragraph_text.specs.Paragraphs.{Paragraph, AreValid, numbered_from}
 use Rattle.edit_core.specs.declared.state.Standing.{Standing}
 use Rattle.edit_core.specs.declared.state.Standing.TheVariants.{Waiting, Held, Parked, Finished}
 use Rattle.edit_core.specs.declared.opening.OpeningFault.{OpeningFault}
-use Rattle.edit_core.specs.declared.opening.OpeningFault.TheVariants.{Full, HasBreak, TooLong, NoMemory}
+use Rattle.edit_core.specs.declared.opening.OpeningFault.TheVariants.{Full, HasBreak, TooLong}
 use Rattle.edit_core.specs.declared.state.State.{State}
 use Rattle.edit_core.specs.declared.state.State.TheVariants.{Waiting as OfWaiting, Held as OfHeld, Parked as OfParked, Finished as OfFinished}
+use Rattle.paragraph_text.specs.declared.limits.TheConstants.{MOST_BYTES, MOST_PARAGRAPHS}
 
 -- A point of a history: how many events led to it, how many of them were edits and how many were loads, the dictionary in force,
 -- the paragraphs in their order, how each stands, and the id that the next one gets that is put in.
@@ -35,7 +36,7 @@ pub record IsValidBoard (board : Seen) : Type 0 where
   pub standings : length board.standings ≡ length board.paragraphs
   pub text : board.text ≤ board.point
   pub dict : board.dict ≤ board.point
-  pub next_id : board.next_id ≤ 20000 + board.point
+  pub next_id : board.next_id ≤ MOST_PARAGRAPHS + board.point
   pub point : board.point ≤ 2 ^ 62
 
 -- a check is of this paragraph's text, by this dictionary
@@ -68,7 +69,7 @@ pub record IsOpening (board : Seen) : Type 0 where
 
 -- a text at a place has too many bytes
 abbrev pub too_long : ℕ → ℕ → Option OpeningFault
-too_long place size = if nat_le size 65536 then None else Some (TooLong place size)
+too_long place size = if nat_le size MOST_BYTES then None else Some (TooLong place size)
 
 -- what is wrong with the text at a place
 abbrev pub text_fault : ℕ → List ℕ → Option OpeningFault
@@ -83,11 +84,4 @@ fault_from place (text ∷ texts) = option_or (text_fault place text) (fault_fro
 
 -- the first fault of texts
 abbrev pub opening_fault : List (List ℕ) → Option OpeningFault
-opening_fault texts = if nat_le (length texts) 20000 then fault_from 0 texts else Some (Full (length texts))
-
--- what is told is the first fault, or that memory is wanting
-abbrev pub IsToldFault : Option OpeningFault → OpeningFault → Type 0
-IsToldFault first (Full count) = first ≡ Some (Full count)
-IsToldFault first (HasBreak place at) = first ≡ Some (HasBreak place at)
-IsToldFault first (TooLong place would) = first ≡ Some (TooLong place would)
-IsToldFault first NoMemory = Unit {0}
+opening_fault texts = if nat_le (length texts) MOST_PARAGRAPHS then fault_from 0 texts else Some (Full (length texts))

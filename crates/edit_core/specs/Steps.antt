@@ -1,12 +1,12 @@
 -- What an event makes of a board, and where it is refused.
-use Rattle.std.specs.Prelude.{◌≡◌, ℕ, ◌+◌, ◌<◌, ◌^◌, Bool, true, false, ◌==◌, ◌⊎◌, List, [], ◌∷◌, ◌++◌, map, set, find, position, nat_lt, slice_get, Option, None, Some}
-use Rattle.std.specs.List.{insert, remove, zip}
+use Rattle.std.specs.Prelude.{◌≡◌, ℕ, ◌+◌, ◌<◌, ◌^◌, Bool, true, false, ◌==◌, ◌⊎◌, List, map, set, find, nat_lt, slice_get, Option, None, Some}
+use Rattle.std.specs.List.{zip}
 use Rattle.std.specs.Option.{option_map, option_map_or, option_or}
 use Rattle.spell_types.specs.declared.Lexicon.{Lexicon}
 use Rattle.paragraph_text.specs.Paragraphs.{Paragraph}
+pub use Rattle.paragraph_text.specs.Edits.{kept_after, place_of}
 use Rattle.paragraph_text.specs.Edits.{Applies, IsOnlyOne, next_id_after, first_refusal as edit_refusal}
 use Rattle.paragraph_text.specs.declared.edits.Edit.{Edit}
-use Rattle.paragraph_text.specs.declared.edits.Edit.TheVariants.{Replace, Insert, Remove}
 use Rattle.paragraph_text.specs.declared.edits.EditRefusal.{EditRefusal}
 use Rattle.paragraph_text.specs.declared.edits.EditRefusal.TheVariants as edits
 use Rattle.edit_core.specs.Seen.{Seen}
@@ -18,10 +18,6 @@ use Rattle.edit_core.specs.declared.state.Standing.TheVariants as standing
 use Rattle.edit_core.specs.declared.state.State.{State}
 use Rattle.edit_core.specs.declared.state.State.TheVariants as state
 
--- where the first paragraph with an id stands
-abbrev pub place_of : ℕ → List Paragraph → Option ℕ
-place_of id paragraphs = position (λ paragraph. paragraph.id == id) paragraphs
-
 -- a paragraph with an id stands at a place of a board, in this way
 pub record IsAt (board : Seen) (id place : ℕ) (paragraph : Paragraph) (stands : Standing) : Type 0 where
   pub place_is : place_of id board.paragraphs ≡ Some place
@@ -29,15 +25,6 @@ pub record IsAt (board : Seen) (id place : ℕ) (paragraph : Paragraph) (stands 
   pub standing_is : slice_get board.standings place ≡ Some stands
 
 -- ---- what each event makes of a board
-
--- What is kept of each paragraph, behind an edit: the one that it touches has something new, and all others keep what they had.
-abbrev pub kept_after : {X : Type 0} → X → List Paragraph → List X → Edit → List X
-kept_after new paragraphs kept (Replace id rev from to text) =
-    option_map_or (λ place. set kept place new) (place_of id paragraphs) kept
-kept_after new paragraphs kept (Insert None text) = kept ++ new ∷ []
-kept_after new paragraphs kept (Insert (Some id) text) =
-    option_map_or (λ place. insert kept place new) (place_of id paragraphs) kept
-kept_after new paragraphs kept (Remove id rev) = option_map_or (λ place. remove kept place) (place_of id paragraphs) kept
 
 -- a session edits: the text has the next version, and the touched paragraph waits
 pub record Edits (before : Seen) (edit : Edit) (after : Seen) : Type 0 where
@@ -200,22 +187,6 @@ first_refusal board event = option_or (spent board) (event_refusal board event)
 -- an event is refused so
 abbrev pub IsRefused : Seen → SeenEvent → Refusal → Type 0
 IsRefused board event refusal = first_refusal board event ≡ Some refusal
-
--- what is told is the first refusal, or that memory is wanting
-abbrev pub IsTold : Option Refusal → Refusal → Type 0
-IsTold first (Spent point) = first ≡ Some (Spent point)
-IsTold first (Gone id) = first ≡ Some (Gone id)
-IsTold first (Behind rev) = first ≡ Some (Behind rev)
-IsTold first (BadSpan length) = first ≡ Some (BadSpan length)
-IsTold first (HasBreak at) = first ≡ Some (HasBreak at)
-IsTold first (TooLong would) = first ≡ Some (TooLong would)
-IsTold first (Full count) = first ≡ Some (Full count)
-IsTold first (Taken by) = first ≡ Some (Taken by)
-IsTold first (Reloaded dict) = first ≡ Some (Reloaded dict)
-IsTold first (Finished rev) = first ≡ Some (Finished rev)
-IsTold first (Parked rev) = first ≡ Some (Parked rev)
-IsTold first (NotParked rev) = first ≡ Some (NotParked rev)
-IsTold first NoMemory = Unit {0}
 
 -- ---- what is asked of an event before a board takes it
 

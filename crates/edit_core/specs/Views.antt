@@ -16,6 +16,7 @@ use Rattle.edit_core.specs.declared.state.State.{State}
 use Rattle.edit_core.specs.declared.state.State.TheVariants as state
 use Rattle.edit_core.specs.declared.view.ParaView.{ParaView}
 use Rattle.edit_core.specs.declared.view.Progress.{Progress}
+use Rattle.edit_core.specs.declared.view.Versions.{Versions}
 use Rattle.edit_core.specs.declared.view.Shown.{Shown}
 use Rattle.edit_core.specs.declared.view.Shown.TheVariants.{Marks, Pending}
 
@@ -91,4 +92,14 @@ progress_of board = record {
   paragraphs = length board.paragraphs;
   finished = count_by is_finished board.standings;
   parked = count_by is_parked board.standings;
+}
+
+-- where a board stands in its history
+abbrev pub versions_of : Seen → Versions
+versions_of board = record {
+  point = board.point;
+  text = board.text;
+  dict = board.dict;
+  next_id = board.next_id;
+  paragraphs = length board.paragraphs;
 }

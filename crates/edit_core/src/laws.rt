@@ -1,19 +1,20 @@
 //! What is true of every history, for those who prove something of one.
 
-ghost use Rattle.std.specs.Prelude.{◌≡◌, ◌+◌, ◌*◌, ◌≤◌, ◌↔◌, ℕ, true, List, [], ◌∷◌, ◌++◌, length, slice_get, Some, if◌then◌else◌};
-ghost use Rattle.std.specs.List.{AllByRecursion};
+ghost use Rattle.std.specs.Prelude.{◌≡◌, ◌+◌, ◌*◌, ◌<◌, ◌≤◌, ◌==◌, ◌&&◌, ◌↔◌, ℕ, true, not, List, [], ◌∷◌, ◌++◌, length, slice_get, Some, if◌then◌else◌};
+ghost use Rattle.std.specs.List.{AllByRecursion, range_with_len, sum_by};
 ghost use Rattle.std.specs.Str.{chars};
 ghost use Rattle.paragraph_marks.specs.Paragraphs.{marks_in};
 ghost use Rattle.paragraph_text.specs.Paragraphs.{Paragraph};
 ghost use Rattle.paragraph_text.specs.Edits.{with_id};
 ghost use Rattle.edit_core.specs.Events.{SeenEvent, kind_of};
-ghost use Rattle.edit_core.specs.Runs.{AreFit, AreQuiet, AreSteps, Entry, IsOfBoard, IsQuiet, IsReplayed, IsRun, OnlyGrew, Replays, Run, asked_of, entries_by, entries_of, furthest_point, is_entry, is_kind, is_quiet, last_board};
-ghost use Rattle.edit_core.specs.Seen.{IsValidBoard, Seen};
+ghost use Rattle.edit_core.specs.Runs.{AreFit, AreQuiet, AreSteps, Entry, IsOfBoard, IsQuiet, IsReplayed, IsRun, OnlyGrew, Replays, Run, all_kinds, asked_by, asked_kinds, asked_of, entries_by, entries_of, entries_through, furthest_point, is_entry, is_kind, is_quiet, last_board};
+ghost use Rattle.edit_core.specs.Seen.{IsOpening, IsValidBoard, Seen};
 ghost use Rattle.edit_core.specs.Steps.{IsAt, IsDecided, IsFit, IsFitCheck, Step, place_of};
 ghost use Rattle.edit_core.specs.Views.{Marked, reply_of};
 ghost use Rattle.edit_core.specs.declared.event.EventKind.{EventKind};
 ghost use Rattle.edit_core.specs.declared.state.Standing.{Standing};
 ghost use Rattle.edit_core.specs.declared.state.Standing.TheVariants.{Finished};
+ghost use Rattle.edit_core.specs.declared.limits.TheConstants.{MOST_MOVED};
 
 use crate::view::shown_marks_are_local;
 use paragraph_text::edits_are_decided;
@@ -44,9 +45,10 @@ pub fn runs_only_grow()
 }
 
 /// Events of workers keep the texts, the versions, the dictionary and the next id, and what is parked; and what is finished stays so.
-pub fn quiet()
+pub fn workers_keep_texts()
     ensures step { (before after : Seen) (event : SeenEvent) → Step before event after → is_quiet event ≡ true → IsQuiet before after }
     ensures run { (board : Seen) (entries : List Entry) → AreSteps board entries → AreQuiet entries → IsQuiet board (last_board board entries) }
+    ensures none_asked { (entries : List Entry) → asked_of entries ≡ 0 → AreQuiet entries }
 {}
 
 /// How far a history gets: events of workers do not move the furthest point that they can lead to, and each other event moves it by
@@ -55,9 +57,9 @@ pub fn runs_are_short()
     ensures quiet { (before after : Seen) (event : SeenEvent) → Step before event after → is_quiet event ≡ true
         → furthest_point after ≤ furthest_point before }
     ensures step { (before after : Seen) (event : SeenEvent) → IsValidBoard before → Step before event after
-        → furthest_point after ≤ furthest_point before + 40001 }
+        → furthest_point after ≤ furthest_point before + MOST_MOVED }
     ensures run { (run : Run) → IsRun run
-        → (last_board run.opening run.entries).point ≤ 2 * length run.opening.paragraphs + 40001 * asked_of run.entries }
+        → (last_board run.opening run.entries).point ≤ 2 * length run.opening.paragraphs + MOST_MOVED * asked_of run.entries }
 {
     edits_are_decided();
 }
@@ -89,6 +91,67 @@ pub fn entries_add_up()
     ensures one_by { (asked : EventKind) (by : ℕ) (entry : Entry) → entries_by asked by (entry ∷ []) ≡ (if is_entry asked by entry then 1 else 0) }
     ensures one_of { (asked : EventKind) (entry : Entry) → entries_of asked (entry ∷ []) ≡ (if is_kind asked (kind_of entry.event) then 1 else 0) }
 {}
+
+/// The entries of all kinds together are all entries, those of a history and those that came through a number. What is asked are edits,
+/// loads, parks and asks.
+pub fn kinds_add_up()
+    ensures of { (entries : List Entry) → length entries ≡ sum_by (λ asked. entries_of asked entries) all_kinds }
+    ensures by { (by : ℕ) (entries : List Entry)
+        → entries_through by entries ≡ sum_by (λ asked. entries_by asked by entries) all_kinds }
+    ensures asked_of { (entries : List Entry)
+        → asked_of entries ≡ sum_by (λ asked. entries_of asked entries) asked_kinds }
+    ensures asked_by { (by : ℕ) (entries : List Entry)
+        → asked_by by entries ≡ sum_by (λ asked. entries_by asked by entries) asked_kinds }
+{}
+
+/// How many entries came through a number, and how many are asked: those of a history's parts together, and in a front no more. Where
+/// every number is below a bound, the entries through all these numbers are all entries.
+pub fn numbers_add_up()
+    ensures through { (by : ℕ) (front back : List Entry)
+        → entries_through by (front ++ back) ≡ entries_through by front + entries_through by back }
+    ensures asked_by { (by : ℕ) (front back : List Entry)
+        → asked_by by (front ++ back) ≡ asked_by by front + asked_by by back }
+    ensures asked_of { (front back : List Entry)
+        → asked_of (front ++ back) ≡ asked_of front + asked_of back }
+    ensures front_through { (by : ℕ) (front back : List Entry)
+        → entries_through by front ≤ entries_through by (front ++ back) }
+    ensures front_asked_by { (by : ℕ) (front back : List Entry)
+        → asked_by by front ≤ asked_by by (front ++ back) }
+    ensures front_asked_of { (front back : List Entry) → asked_of front ≤ asked_of (front ++ back) }
+    ensures one_through { (by : ℕ) (entry : Entry)
+        → entries_through by (entry ∷ []) ≡ (if entry.by == by then 1 else 0) }
+    ensures one_asked_by { (by : ℕ) (entry : Entry)
+        → asked_by by (entry ∷ []) ≡ (if not (is_quiet entry.event) && (entry.by == by) then 1 else 0) }
+    ensures one_asked_of { (entry : Entry)
+        → asked_of (entry ∷ []) ≡ (if not (is_quiet entry.event) then 1 else 0) }
+    ensures all { (bound : ℕ) (entries : List Entry) → AllByRecursion (λ entry. entry.by < bound) entries
+        → sum_by (λ by. entries_through by entries) (range_with_len 0 bound) ≡ length entries }
+{}
+
+/// A front of a history is a history with the same opening board, and what is behind it goes on from its last board; what goes on from
+/// the last board of a history makes it longer. The point that a history has come to is its length.
+pub fn fronts_are_runs()
+    ensures none { (opening : Seen) → IsOpening opening → IsValidBoard opening
+        → IsRun (record { opening = opening; entries = [] }) }
+    ensures front { (opening : Seen) (front back : List Entry)
+        → IsRun (record { opening = opening; entries = front ++ back })
+        → IsRun (record { opening = opening; entries = front }) }
+    ensures behind { (opening : Seen) (front back : List Entry)
+        → IsRun (record { opening = opening; entries = front ++ back })
+        → AreSteps (last_board opening front) back }
+    ensures longer { (opening : Seen) (front back : List Entry)
+        → IsRun (record { opening = opening; entries = front }) → AreSteps (last_board opening front) back
+        → IsRun (record { opening = opening; entries = front ++ back }) }
+    ensures next { (opening : Seen) (entries : List Entry) (entry : Entry)
+        → IsRun (record { opening = opening; entries = entries })
+        → Step (last_board opening entries) entry.event entry.board
+        → IsRun (record { opening = opening; entries = entries ++ entry ∷ [] }) }
+    ensures valid { (run : Run) → IsRun run → IsValidBoard (last_board run.opening run.entries) }
+    ensures point { (run : Run) → IsRun run
+        → (last_board run.opening run.entries).point ≡ length run.entries }
+{
+    edits_are_decided();
+}
 
 /// What a board shows of a finished paragraph are the marks of its text alone, by the dictionary in force.
 pub fn finished_marks_are_local()

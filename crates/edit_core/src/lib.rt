@@ -2,8 +2,10 @@
 #![tactic(auto)]
 
 mod board;
+mod crossing;
 mod event;
 mod laws;
+mod limits;
 mod opening;
 mod refusal;
 mod replay;
@@ -14,11 +16,12 @@ mod view;
 pub use board::Board;
 pub use event::{Event, EventKind};
 pub use laws::{
-    checks_are_fit, entries_add_up, events_are_decided, finished_marks_are_local,
-    ids_name_paragraphs, quiet, replays_are_runs, runs_are_short, runs_go_on, runs_only_grow,
-    steps_keep_validity,
+    checks_are_fit, entries_add_up, events_are_decided, finished_marks_are_local, fronts_are_runs,
+    ids_name_paragraphs, kinds_add_up, numbers_add_up, replays_are_runs, runs_are_short,
+    runs_go_on, runs_only_grow, steps_keep_validity, workers_keep_texts,
 };
+pub use limits::MOST_MOVED;
 pub use opening::OpeningFault;
 pub use refusal::Refusal;
 pub use state::{Standing, State};
-pub use view::{ParaView, Progress, Shown, shown_marks_are_local};
+pub use view::{ParaView, Progress, Shown, Versions, shown_marks_are_local};

@@ -3,25 +3,21 @@
 ghost use Rattle.std.specs.Prelude.{◌≡◌, ◌≤◌, ◌==◌, None, Some, length, map, position, IfOk, IfErr, OnOk};
 ghost use Rattle.std.specs.Arc.{arc_value};
 ghost use Rattle.std.specs.List.{AllByRecursion};
+ghost use Rattle.lists.specs.Answers.{IsDueOr};
 ghost use Rattle.paragraph_text.specs.Paragraphs.{HasNoBreak};
-ghost use Rattle.edit_core.specs.Seen.{IsToldFault, opening_fault, opening_of, text_fault, too_long};
+ghost use Rattle.edit_core.specs.Seen.{opening_fault, opening_of, text_fault, too_long};
 ghost use Rattle.edit_core.specs.declared.opening.OpeningFault.TheVariants.{NoMemory as OutOfMemory};
 ghost use Rattle.edit_core.specs.declared.state.State.TheVariants.{Waiting as OfWaiting};
+ghost use Rattle.paragraph_text.specs.declared.limits.TheConstants.{MOST_BYTES, MOST_PARAGRAPHS};
 
 use crate::board::Board;
 use crate::state::State;
 use lists::{NoMemory, SharedItems};
 use mark_types::Judge;
-use paragraph_text::{Paragraphs, openings_are_valid};
+use paragraph_text::{MOST_BYTES, MOST_PARAGRAPHS, Paragraphs, openings_are_valid};
 use std::alloc::{AllocError, Global};
 use std::sync::Arc;
 use text_lines::Text;
-
-/// How many bytes a paragraph has at most.
-const MOST_BYTES: usize = 65_536;
-
-/// How many paragraphs there are at most.
-const MOST_PARAGRAPHS: usize = 20_000;
 
 /// Why texts are no opening board: that there are too many, or what is wrong with the first that is not right.
 #[derive(Clone, Copy, Debug, PartialEq, Eq)]
@@ -50,7 +46,7 @@ impl<J: Judge + Drop> Board<J> {
     pub fn opening(alloc: Global, judge: Arc<J>, texts: Vec<Text>) -> Result<Board<J>, OpeningFault>
         ensures opened { IfOk result (λ board. board ≡ opening_of (J.lexicon (arc_value judge)) texts.items) }
         ensures right { IfOk result (λ board. opening_fault texts.items ≡ None) }
-        ensures refused { IfErr result (IsToldFault (opening_fault texts.items)) }
+        ensures refused { IfErr result (IsDueOr OutOfMemory (opening_fault texts.items)) }
     {
         check_texts(&texts)?;
         openings_are_valid();
@@ -85,8 +81,8 @@ fn waiting<J: Judge + Drop>(
 /// Whether texts may open a history.
 fn check_texts(texts: &[Text]) -> Result<(), OpeningFault>
     ensures right { OnOk result (opening_fault texts.now ≡ None) }
-    ensures few { OnOk result (length texts.now ≤ 20000) }
-    ensures each { OnOk result (AllByRecursion (λ text. (length text ≤ 65536) × HasNoBreak text) texts.now) }
+    ensures few { OnOk result (length texts.now ≤ MOST_PARAGRAPHS) }
+    ensures each { OnOk result (AllByRecursion (λ text. (length text ≤ MOST_BYTES) × HasNoBreak text) texts.now) }
     ensures refused { IfErr result (λ fault. opening_fault texts.now ≡ Some fault) }
 {
     if texts.len() > MOST_PARAGRAPHS {
@@ -103,7 +99,7 @@ fn check_texts(texts: &[Text]) -> Result<(), OpeningFault>
 /// Whether a text may be a paragraph.
 fn check_text(place: u64, text: &str) -> Result<(), OpeningFault>
     ensures right { OnOk result (text_fault place text.now ≡ None) }
-    ensures short { OnOk result (length text.now ≤ 65536) }
+    ensures short { OnOk result (length text.now ≤ MOST_BYTES) }
     ensures whole { OnOk result (HasNoBreak text.now) }
     ensures refused { IfErr result (λ fault. text_fault place text.now ≡ Some fault) }
 {
@@ -125,7 +121,7 @@ fn first_break(text: &str) -> Option<usize>
 
 /// Whether a paragraph may have so many bytes.
 fn check_length(place: u64, size: usize) -> Result<(), OpeningFault>
-    ensures short { OnOk result (size ≤ 65536) }
+    ensures short { OnOk result (size ≤ MOST_BYTES) }
     ensures right { OnOk result (too_long place size ≡ None) }
     ensures refused { IfErr result (λ fault. too_long place size ≡ Some fault) }
 {

@@ -1,6 +1,7 @@
 //! How a paragraph stands, and what is kept of it.
 
 ghost use Rattle.std.specs.Prelude.{◌≡◌};
+ghost use Rattle.edit_core.specs.Runs.{is_waiting};
 ghost use Rattle.edit_core.specs.Seen.{standing_of};
 ghost use Rattle.edit_core.specs.Steps.{reloaded_state};
 ghost use Rattle.edit_core.specs.Views.{is_finished, is_parked, shown_alone, shown_in};
@@ -48,6 +49,13 @@ impl<J: Judge> State<J> {
             State::Parked => Standing::Parked,
             State::Finished(_) => Standing::Finished,
         }
+    }
+
+    /// Whether the paragraph is to be checked.
+    pub(crate) fn is_waiting(&self) -> bool
+        ensures { result ≡ is_waiting (standing_of self.now) }
+    {
+        matches!(self, State::Waiting)
     }
 
     /// Whether the paragraph is finished.

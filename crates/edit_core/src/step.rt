@@ -3,14 +3,14 @@
 ghost use Rattle.std.specs.Prelude.{◌≡◌, ◌+◌, ◌<◌, ◌^◌, ◌==◌, ℕ, true, Option, None, Some, length, map, set, slice_get, IfOk, IfErr, IfSome, OnOk, OnErr, IfNone};
 ghost use Rattle.std.specs.Arc.{arc_value};
 ghost use Rattle.std.specs.Option.{option_map};
+ghost use Rattle.lists.specs.Answers.{IsDueOr};
 ghost use Rattle.paragraph_text.specs.Paragraphs.{Paragraph};
 ghost use Rattle.paragraph_text.specs.Edits.{first_refusal as edit_refusal, next_id_after};
 ghost use Rattle.edit_core.specs.Seen.{IsTheirs, standing_of};
 ghost use Rattle.edit_core.specs.Events.{event_of};
-ghost use Rattle.edit_core.specs.Steps.{Edits, IsFit, IsFitCheck, IsFoundAt, IsTold, Loads, MayClaim, MayFinish, Moves, Step, claim_refusal, finish_refusal, first_refusal, found, gone_or, is_open, kept_after, not_parked, not_waiting, outdated, refusal_of, reloaded_state, settled, unless};
-ghost use Rattle.edit_core.specs.declared.refusal.Refusal.TheVariants.{Behind, Gone};
+ghost use Rattle.edit_core.specs.Steps.{Edits, IsFit, IsFitCheck, IsFoundAt, Loads, MayClaim, MayFinish, Moves, Step, claim_refusal, finish_refusal, first_refusal, found, gone_or, is_open, not_parked, not_waiting, outdated, refusal_of, reloaded_state, settled, unless};
+ghost use Rattle.edit_core.specs.declared.refusal.Refusal.TheVariants.{Behind, Gone, NoMemory as OutOfMemory};
 ghost use Rattle.edit_core.specs.declared.state.Standing.TheVariants.{Finished, Held, Parked, Waiting};
-ghost use Rattle.edit_core.specs.declared.state.State.TheVariants.{Waiting as OfWaiting};
 
 use crate::board::Board;
 use crate::event::Event;
@@ -19,7 +19,7 @@ use crate::state::{Standing, State};
 use lists::{Copied, NoMemory, SharedItems};
 use mark_types::Judge;
 use paragraph_marks::Checked;
-use paragraph_text::{Edit, Paragraphs, apply};
+use paragraph_text::{Edit, apply_near, kept_beside};
 use std::alloc::Global;
 use std::sync::Arc;
 
@@ -40,41 +40,63 @@ impl<J: Judge + Drop> Board<J> {
     pub fn next(&self, alloc: Global, event: Event<J>) -> Result<Board<J>, Refusal>
         requires { IsFit self.now (event_of J.lexicon event) }
         ensures stepped { IfOk result (Step self.now (event_of J.lexicon event)) }
-        ensures refused { IfErr result (IsTold (first_refusal self.now (event_of J.lexicon event))) }
+        ensures refused { IfErr result (IsDueOr OutOfMemory (first_refusal self.now (event_of J.lexicon event))) }
+    {
+        self.next_near(alloc, event, 0)
+    }
+
+    /// The same board. The paragraph that the event names is looked for at `near` first; where it stands there no other is looked at.
+    pub fn next_near(
+        &self,
+        alloc: Global,
+        event: Event<J>,
+        near: usize,
+    ) -> Result<Board<J>, Refusal>
+        requires { IsFit self.now (event_of J.lexicon event) }
+        ensures stepped { IfOk result (Step self.now (event_of J.lexicon event)) }
+        ensures refused { IfErr result (IsDueOr OutOfMemory (first_refusal self.now (event_of J.lexicon event))) }
     {
         if self.point >= LAST_POINT {
             return Err(Refusal::Spent { point: self.point });
         }
         match event {
-            Event::Edit { session: _, edit } => self.edited(alloc, &edit),
+            Event::Edit { session: _, edit } => self.edited(alloc, &edit, near),
             Event::Load { judge } => Ok(self.loaded(alloc, judge)?),
-            Event::Claim { worker, id, rev } => self.claimed(alloc, worker, id, rev),
+            Event::Claim { worker, id, rev } => self.claimed(alloc, worker, id, rev, near),
             Event::Finish {
                 worker: _,
                 id,
                 rev,
                 dict,
                 checked,
-            } => self.finished(alloc, id, rev, dict, checked),
-            Event::Park { session: _, id } => self.parked(alloc, id),
-            Event::Ask { session: _, id } => self.asked(alloc, id),
+            } => self.finished(alloc, id, rev, dict, checked, near),
+            Event::Park { session: _, id } => self.parked(alloc, id, near),
+            Event::Ask { session: _, id } => self.asked(alloc, id, near),
         }
     }
 
     /// The board behind an edit.
-    fn edited(&self, alloc: Global, edit: &Edit) -> Result<Board<J>, Refusal>
+    fn edited(&self, alloc: Global, edit: &Edit, near: usize) -> Result<Board<J>, Refusal>
         requires { self.now.point < 2 ^ 62 }
         ensures made { IfOk result (Edits self.now edit.now) }
-        ensures refused { IfErr result (IsTold (option_map refusal_of (edit_refusal self.now.paragraphs edit.now))) }
+        ensures refused { IfErr result (IsDueOr OutOfMemory (option_map refusal_of (edit_refusal self.now.paragraphs edit.now))) }
     {
-        let paragraphs = apply(alloc, &self.paragraphs, self.text + 1, self.next_id, edit)?;
+        let text = self.text + 1;
+        let paragraphs = apply_near(alloc, &self.paragraphs, text, self.next_id, edit, near)?;
         Ok(Board {
             point: self.point + 1,
-            text: self.text + 1,
+            text,
             dict: self.dict,
             judge: Arc::try_clone(&self.judge)?,
             paragraphs,
-            states: states_after(alloc, &self.paragraphs, &self.states, edit)?,
+            states: kept_beside(
+                alloc,
+                &self.paragraphs,
+                edit,
+                near,
+                &self.states,
+                State::Waiting,
+            )?,
             next_id: next_id_after(self.next_id, edit),
         })
     }
@@ -96,12 +118,19 @@ impl<J: Judge + Drop> Board<J> {
     }
 
     /// The board on which a worker holds a paragraph.
-    fn claimed(&self, alloc: Global, worker: u32, id: u64, rev: u64) -> Result<Board<J>, Refusal>
+    fn claimed(
+        &self,
+        alloc: Global,
+        worker: u32,
+        id: u64,
+        rev: u64,
+        near: usize,
+    ) -> Result<Board<J>, Refusal>
         requires { self.now.point < 2 ^ 62 }
         ensures made { IfOk result (Moves self.now id (MayClaim rev) (Held worker)) }
-        ensures refused { IfErr result (IsTold (gone_or id self.now (claim_refusal rev))) }
+        ensures refused { IfErr result (IsDueOr OutOfMemory (gone_or id self.now (claim_refusal rev))) }
     {
-        let found = self.current(id)?;
+        let found = self.current(id, near)?;
         found.check_rev(rev)?;
         found.check_waiting()?;
         Ok(self.with_state(alloc, found.place, State::Held { worker })?)
@@ -115,13 +144,14 @@ impl<J: Judge + Drop> Board<J> {
         rev: u64,
         dict: u64,
         checked: Checked<J>,
+        near: usize,
     ) -> Result<Board<J>, Refusal>
         requires goes_on { self.now.point < 2 ^ 62 }
         requires fit { IsFitCheck self.now id rev dict checked.text (J.lexicon checked.judge) }
         ensures made { IfOk result (Moves self.now id (MayFinish self.now rev dict checked.text (J.lexicon checked.judge)) Finished) }
-        ensures refused { IfErr result (IsTold (gone_or id self.now (finish_refusal self.now rev dict))) }
+        ensures refused { IfErr result (IsDueOr OutOfMemory (gone_or id self.now (finish_refusal self.now rev dict))) }
     {
-        let found = self.current(id)?;
+        let found = self.current(id, near)?;
         found.check_rev(rev)?;
         self.check_dict(dict)?;
         found.check_open()?;
@@ -129,47 +159,47 @@ impl<J: Judge + Drop> Board<J> {
     }
 
     /// The board on which a paragraph is parked.
-    fn parked(&self, alloc: Global, id: u64) -> Result<Board<J>, Refusal>
+    fn parked(&self, alloc: Global, id: u64, near: usize) -> Result<Board<J>, Refusal>
         requires { self.now.point < 2 ^ 62 }
         ensures made { IfOk result (Moves self.now id (λ _ stands. is_open stands ≡ true) Parked) }
-        ensures refused { IfErr result (IsTold (gone_or id self.now (λ paragraph stands. settled paragraph.rev stands))) }
+        ensures refused { IfErr result (IsDueOr OutOfMemory (gone_or id self.now (λ paragraph stands. settled paragraph.rev stands))) }
     {
-        let found = self.current(id)?;
+        let found = self.current(id, near)?;
         found.check_open()?;
         Ok(self.with_state(alloc, found.place, State::Parked)?)
     }
 
     /// The board on which a parked paragraph waits again.
-    fn asked(&self, alloc: Global, id: u64) -> Result<Board<J>, Refusal>
+    fn asked(&self, alloc: Global, id: u64, near: usize) -> Result<Board<J>, Refusal>
         requires { self.now.point < 2 ^ 62 }
         ensures made { IfOk result (Moves self.now id (λ _ stands. stands ≡ Parked) Waiting) }
-        ensures refused { IfErr result (IsTold (gone_or id self.now (λ paragraph stands. not_parked paragraph.rev stands))) }
+        ensures refused { IfErr result (IsDueOr OutOfMemory (gone_or id self.now (λ paragraph stands. not_parked paragraph.rev stands))) }
     {
-        let found = self.current(id)?;
+        let found = self.current(id, near)?;
         found.check_parked()?;
         Ok(self.with_state(alloc, found.place, State::Waiting)?)
     }
 
-    /// Where the paragraph with an id stands, or that it is gone.
-    fn current(&self, id: u64) -> Result<Found, Refusal>
+    /// Where the paragraph with an id stands, or that it is gone. It is looked for at a place first.
+    fn current(&self, id: u64, near: usize) -> Result<Found, Refusal>
         ensures found { IfOk result (λ row. IsFoundAt self.now id row.place row.rev row.standing) }
         ensures inside { IfOk result (λ row. row.place < length self.now.standings) }
         ensures gone { IfErr result (λ refusal. refusal ≡ Gone id) }
         ensures none { OnErr result (found id self.now ≡ None) }
     {
-        match self.found(id) {
+        match self.found(id, near) {
             None => Err(Refusal::Gone { id }),
             Some(found) => Ok(found),
         }
     }
 
     /// Where the paragraph with an id stands.
-    fn found(&self, id: u64) -> Option<Found>
+    fn found(&self, id: u64, near: usize) -> Option<Found>
         ensures none { IfNone result (found id self.now ≡ None) }
         ensures found { IfSome result (λ row. IsFoundAt self.now id row.place row.rev row.standing) }
         ensures inside { IfSome result (λ row. row.place < length self.now.standings) }
     {
-        match self.paragraphs.place_of(id) {
+        match self.paragraphs.place_near(id, near) {
             None => None,
             Some(place) => match self.paragraphs.get(place) {
                 None => None,
@@ -282,36 +312,6 @@ fn next_id_after(next_id: u64, edit: &Edit) -> u64
     match edit {
         Edit::Insert { .. } => next_id + 1,
         _ => next_id,
-    }
-}
-
-/// The states behind an edit: the paragraph that it touches waits.
-fn states_after<J: Judge + Drop>(
-    alloc: Global,
-    paragraphs: &Paragraphs,
-    states: &SharedItems<State<J>>,
-    edit: &Edit,
-) -> Result<SharedItems<State<J>>, NoMemory>
-    requires { length states.now ≡ length paragraphs.now }
-    ensures { IfOk result (λ made. made ≡ kept_after OfWaiting paragraphs.now states.now edit.now) }
-{
-    match edit {
-        Edit::Replace { id, .. } => match paragraphs.place_of(*id) {
-            None => states.copy(alloc),
-            Some(place) => states.replaced(alloc, place, State::Waiting),
-        },
-        Edit::Insert { before: None, .. } => states.inserted(alloc, states.len(), State::Waiting),
-        Edit::Insert {
-            before: Some(id),
-            ..
-        } => match paragraphs.place_of(*id) {
-            None => states.copy(alloc),
-            Some(place) => states.inserted(alloc, place, State::Waiting),
-        },
-        Edit::Remove { id, .. } => match paragraphs.place_of(*id) {
-            None => states.copy(alloc),
-            Some(place) => states.removed(alloc, place),
-        },
     }
 }
 

@@ -6,16 +6,18 @@ use Rattle.std.proofs.lemmas.Bool.{cases_Bool}
 use Rattle.std.proofs.lemmas.List.{take-append-le}
 use Rattle.std.proofs.lemmas.List.Folds.{list_any-append}
 use Rattle.text_lines.specs.Lines.{line_texts}
-use Rattle.input_lines.specs.Answers.{HasNoBreak, line_limit}
+use Rattle.lists.specs.Laws.{each-middle}
+use Rattle.input_lines.specs.Answers.{HasNoBreak}
 use Rattle.input_lines.specs.Ends.{HasEnded, HasLongLine, IsTooMuch, Reading}
 use Rattle.input_lines.specs.Laws.{Told}
-use Rattle.input_lines.specs.Lines.{AreWhole, IsBounded, IsShort, QuitsEarly, before_quit, input_limit}
+use Rattle.input_lines.specs.Lines.{AreWhole, IsBounded, IsShort, QuitsEarly, before_quit}
 use Rattle.input_lines.specs.Turns.{behind}
 use Rattle.input_lines.specs.declared.reading_end.ReadingEnd.{ReadingEnd}
 use Rattle.input_lines.specs.declared.reading_end.ReadingEnd.TheVariants.{Finished, Interrupted, TooMuch, LongLine, NoMemory, SinkFailed}
 use Rattle.input_lines.proofs.LineLemmas.{lines-behind, no-break-parts, no-lines, quit-later, raw_lines}
 use Rattle.outside.specs.Laws.{takes-front}
 use Rattle.outside.specs.Source.{IsGiven}
+use Rattle.input_lines.specs.declared.limits.TheConstants.{INPUT_LIMIT, LINE_LIMIT}
 
 -- bytes up to a line feed stand before the last line feed
 front-within : (before more front rest : List ℕ) → before ++ 10 ∷ more ≡ front ++ rest → HasNoBreak rest
@@ -29,15 +31,15 @@ front-within (byte ∷ before) more (other ∷ front) rest is none =
 
 -- a line that ends an input early is among those that are whole in the bytes that are read
 quit-within : {quits : List ℕ → Bool} {input : List ℕ} {lines : List (List ℕ)} (early : QuitsEarly quits input)
-    → AreWhole (take input_limit input) lines → list_any quits lines ≡ true
+    → AreWhole (take INPUT_LIMIT input) lines → list_any quits lines ≡ true
 quit-within {quits} {input} {lines} early whole = elim early.ends [
   | inl none ↦
       let never : false ≡ true = sym (ap (list_any quits) (ap line_texts none ∙ no-lines)) ∙ early.quits_there in
       absurd (cc)
   | inr (before, is) ↦
-      let count : ℕ = input_limit - length early.front in
-      let sum : input_limit ≡ length early.front + count = omega (arith, early.few) in
-      let kept : take input_limit input ≡ early.front ++ take count early.later =
+      let count : ℕ = INPUT_LIMIT - length early.front in
+      let sum : INPUT_LIMIT ≡ length early.front + count = omega (arith, early.few) in
+      let kept : take INPUT_LIMIT input ≡ early.front ++ take count early.later =
       ap (λ n. take n input) sum ∙ ap (take (length early.front + count)) early.parts
       ∙ take-append-add early.front early.later count in
       let within = front-within before (take count early.later) whole.front whole.rest
@@ -58,17 +60,12 @@ too-much-not {reading} {input} tells bounded much =
     elim bounded [
       | inl few ↦ omega (arith, few, much.one_more, ap length all, length-append much.taken rest.0)
       | inr early ↦
-          let kept : take input_limit much.taken ≡ take input_limit input =
-          sym (take-append-le input_limit much.taken rest.0 (omega (arith, much.one_more))) ∙ ap (take input_limit) all in
+          let kept : take INPUT_LIMIT much.taken ≡ take INPUT_LIMIT input =
+          sym (take-append-le INPUT_LIMIT much.taken rest.0 (omega (arith, much.one_more))) ∙ ap (take INPUT_LIMIT) all in
           let there = quit-within early (subst (λ bytes. AreWhole bytes much.answers.lines) kept much.answers.whole) in
           let same : true ≡ false = sym there ∙ much.answers.answers.going in
           absurd (cc)
     ]
-
--- what holds of all items holds of one in their midst
-one-of-all : {X : Type 0} (P : X → Type 0) (items : List X) (item : X) (later : List X) → AllByRecursion P (items ++ item ∷ later) → P item
-one-of-all P [] item later all = all.0
-one-of-all P (first ∷ items) item later all = one-of-all P items item later all.1
 
 -- a line that is too long does not end the input, so it is among the lines before one that does
 long-not : {quits : List ℕ → Bool} {answered : Told} {input said : List ℕ} → ((line : List ℕ) → quits line ≡ true → IsShort line)
@@ -79,8 +76,8 @@ long-not {quits} {input} quits_short short has = elim (cases_Bool (quits has.lon
       let lines : before_quit quits (line_texts input) ≡ line_texts has.front ++ has.long ∷ before_quit quits has.later =
       ap (before_quit quits) has.lines_are ∙ quit-later quits (line_texts has.front) (has.long ∷ has.later) has.answers.going
       ∙ ap (λ rest. line_texts has.front ++ rest) (quit-later quits (has.long ∷ []) has.later (ap (λ b. b || false) is)) in
-      let fits : length has.long ≤ line_limit =
-      one-of-all IsShort (line_texts has.front) has.long (before_quit quits has.later) (subst (AllByRecursion IsShort) lines short) in
+      let fits : length has.long ≤ LINE_LIMIT =
+      each-middle IsShort (line_texts has.front) has.long (before_quit quits has.later) (subst (AllByRecursion IsShort) lines short) in
       omega (arith, fits, has.too_long)
 ]
 

@@ -10,9 +10,10 @@ use Rattle.std.proofs.lemmas.List.Sums.{take_while-cons}
 use Rattle.std.proofs.lemmas.List.Splits.{slice_split_none, length-slice_split, join_with_byte-slice_split}
 use Rattle.lists.specs.Laws.{each-append}
 use Rattle.text_lines.specs.Lines.{first_place, is_line_feed, line_at, lines_from, lines_after, line_texts, text_of}
-use Rattle.input_lines.specs.Answers.{HasNoBreak, line_limit}
+use Rattle.input_lines.specs.Answers.{HasNoBreak}
 use Rattle.input_lines.specs.Lines.{EndsLine, before_quit, piece_text, unmarked}
 use Rattle.input_lines.specs.Turns.{IsFront, start, behind}
+use Rattle.input_lines.specs.declared.limits.TheConstants.{LINE_LIMIT}
 
 -- ---- bytes without a line feed
 
@@ -244,15 +245,15 @@ raw-ahead piece (byte ∷ more) whole some = elim (cases_eq byte 10) [
 
 -- a piece that is longer than a line and a carriage return begins a line that is too long
 pub line-too-long : {front : List ℕ} {is_first : Bool} (piece more : List ℕ) → IsFront front is_first → HasNoBreak piece
-    → line_limit + 1 < length (unmarked is_first piece)
-    → (line : List ℕ) × HasNext (front ++ (piece ++ more)) front line × (line_limit < length line)
+    → LINE_LIMIT + 1 < length (unmarked is_first piece)
+    → (line : List ℕ) × HasNext (front ++ (piece ++ more)) front line × (LINE_LIMIT < length line)
 line-too-long {front} {is_first} piece more begins whole long =
     let bare : List ℕ = unmarked is_first piece in
     let short : length bare ≤ length piece = unmarked-short is_first piece in
     let ahead = raw-ahead bare more (unmarked-no-break is_first piece whole) (omega arith) in
     let lines : raw_lines (unmarked is_first (piece ++ more)) ≡ ahead.0 ∷ ahead.1 =
     ap raw_lines (unmarked-more is_first piece more (omega arith)) ∙ ahead.2 in
-    let over : line_limit < length ahead.0 = omega (arith, ahead.3) in (
+    let over : LINE_LIMIT < length ahead.0 = omega (arith, ahead.3) in (
       ahead.0,
       record { later = ahead.1; lines_are = lines-behind (piece ++ more) begins ∙ ap (λ texts. line_texts front ++ texts) lines },
       over,

@@ -9,20 +9,21 @@ use Rattle.outside.specs.Laws.{appends-front, appends-more, appends-none, takes-
 use Rattle.outside.specs.Sink.{Appends, AppendsFront}
 use Rattle.outside.specs.Source.{IsGiven, Takes}
 use Rattle.text_lines.specs.Lines.{line_texts}
-use Rattle.input_lines.specs.Answers.{HasNoBreak, line_limit}
+use Rattle.input_lines.specs.Answers.{HasNoBreak}
 use Rattle.input_lines.specs.Ends.{AreAnswered, AreAnsweredFirst, AreAnsweredWhole, HasLongLine, Reading}
 use Rattle.input_lines.specs.Laws.{Told}
-use Rattle.input_lines.specs.Lines.{IsBounded, IsShort, before_quit, input_limit, piece_text, unmarked}
-use Rattle.input_lines.specs.Turns.{GoesBy, Hears, IsAnswered, IsCut, IsGathered, IsHeard, IsHeardAs, IsLeft, IsNotAnswered, IsNotKept, IsOver, IsTaken, IsUnderWay, Leading, Puts, Side, Since, Stand, Stops, WhyNot, line_of, read_between, stand, start}
+use Rattle.input_lines.specs.Lines.{IsBounded, IsShort, before_quit, piece_text, unmarked}
+use Rattle.input_lines.specs.Turns.{GoesBy, Hears, IsAnswered, IsCut, IsGathered, IsHeard, IsHeardAs, IsLeft, IsNotAnswered, IsNotKept, IsOver, IsTaken, IsUnderWay, Leading, PutLeaves, Channel, Since, Midway, Stops, WhyNot, line_of, read_between, midway, start}
 use Rattle.input_lines.specs.declared.reading_end.ReadingEnd.{ReadingEnd}
 use Rattle.input_lines.specs.declared.reading_end.ReadingEnd.TheVariants.{Finished, Interrupted, TooMuch, LongLine, NoMemory, SinkFailed}
 use Rattle.input_lines.specs.declared.listener.Listener.{Listener}
 use Rattle.input_lines.proofs.LineLemmas.{HasNext, ends-line, front-longer, line-last, line-then, line-too-long, lines-behind, no-break-both, no-lines, quit-later, quit-never, raw_lines}
+use Rattle.input_lines.specs.declared.limits.TheConstants.{INPUT_LIMIT, LINE_LIMIT}
 
 -- ---- what is gathered
 
 -- more is gathered
-gathered-more : {before now : Side} {gathered said after : List ℕ} (added : List ℕ)
+gathered-more : {before now : Channel} {gathered said after : List ℕ} (added : List ℕ)
     → IsGathered before now gathered said → after ≡ gathered ++ added
     → IsGathered before now after (said ++ added)
 gathered-more {gathered} added is text = record {
@@ -33,9 +34,9 @@ gathered-more {gathered} added is text = record {
 }
 
 -- all of it is put, if there is any
-pub left-put : (middle now : Side) (gathered left : List ℕ) → (gathered ≡ [] → ⊥)
+pub left-put : (middle now : Channel) (gathered left : List ℕ) → (gathered ≡ [] → ⊥)
     → Appends middle.bytes now.bytes gathered → middle.faults ≤ now.faults → left ≡ []
-    → Puts {T = Unit {0}} middle now gathered left (Ok tt)
+    → PutLeaves {T = Unit {0}} middle now gathered left (Ok tt)
 left-put middle now gathered left some put count empty before said SinkFailed is = absurd (some is.empty)
 left-put middle now gathered left some put count empty before said ended is = record {
   put = said;
@@ -46,12 +47,12 @@ left-put middle now gathered left some put count empty before said ended is = re
 }
 
 -- or a front of it
-pub left-cut : (middle now : Side) (gathered left : List ℕ) → (gathered ≡ [] → ⊥)
+pub left-cut : (middle now : Channel) (gathered left : List ℕ) → (gathered ≡ [] → ⊥)
     → AppendsFront middle.bytes now.bytes gathered → middle.faults < now.faults → left ≡ []
-    → Puts {T = Unit {0}} middle now gathered left (Err SinkFailed)
+    → PutLeaves {T = Unit {0}} middle now gathered left (Err SinkFailed)
 left-cut middle now gathered left some put rose empty = (refl, cut)
   where
-    cut : (before : Side) (said : List ℕ) (ended : ReadingEnd) → IsLeft ended before middle gathered said
+    cut : (before : Channel) (said : List ℕ) (ended : ReadingEnd) → IsLeft ended before middle gathered said
         → IsCut before now left said
     cut before said SinkFailed is = absurd (some is.empty)
     cut before said ended is = record {
@@ -62,7 +63,7 @@ left-cut middle now gathered left some put rose empty = (refl, cut)
     }
 
 -- where nothing is gathered, all is written
-gathered-none : {before now : Side} {gathered said : List ℕ} → gathered ≡ []
+gathered-none : {before now : Channel} {gathered said : List ℕ} → gathered ≡ []
     → IsGathered before now gathered said → Appends before.bytes now.bytes said
 gathered-none {before} {now} empty is =
     let all = is.said_is ∙ ap (λ g. is.put ++ g) empty ∙ append-nil is.put in
@@ -82,13 +83,13 @@ module _ {quits : List ℕ → Bool} {answered : Told} {heard pending said : Lis
     answers = hears.answers;
   }
 
-  module _ (few : length heard ≤ input_limit) {line : List ℕ}
+  module _ (few : length heard ≤ INPUT_LIMIT) {line : List ℕ}
       (next : HasNext (hears.front ++ rest) hears.front line) where
     lines-here : line_texts input ≡ line_texts hears.front ++ line ∷ next.later
     lines-here = ap line_texts parts ∙ next.lines_are
 
     -- the next line is too long
-    long-line : line_limit < length line → HasLongLine quits answered input said
+    long-line : LINE_LIMIT < length line → HasLongLine quits answered input said
     long-line long = record {
       front = hears.front;
       rest = rest;
@@ -103,7 +104,7 @@ module _ {quits : List ℕ → Bool} {answered : Told} {heard pending said : Lis
     }
 
     -- or for some reason it is not answered
-    stops-here : {before now : Side} {gathered : List ℕ} → (quits line ≡ true → IsBounded quits input)
+    stops-here : {before now : Channel} {gathered : List ℕ} → (quits line ≡ true → IsBounded quits input)
         → IsGathered before now gathered said → (ended : ReadingEnd) → WhyNot quits line ended
         → Stops quits answered before now gathered input ended
     stops-here bounded text Finished why =
@@ -124,7 +125,7 @@ module _ {quits : List ℕ → Bool} {answered : Told} {heard pending said : Lis
 
 -- ---- a piece, line by line
 
-heard-as : {S B T : Type 0} {quits : List ℕ → Bool} {Leads : Leading S B} {here there : Stand S B} {piece : List ℕ}
+heard-as : {S B T : Type 0} {quits : List ℕ → Bool} {Leads : Leading S B} {here there : Midway S B} {piece : List ℕ}
     {result : Result T ReadingEnd} → GoesBy quits Leads here there piece result → IsHeardAs quits Leads here there piece result
 heard-as goes = record { on = goes }
 
@@ -157,7 +158,7 @@ module _ {S B : Type 0} {quits : List ℕ → Bool} {Leads : Leading S B} where
       }
 
   -- one piece was heard, and then another
-  pub hears-then : {T : Type 0} {here middle there : Stand S B} {front rest : List ℕ} {result : Result T ReadingEnd}
+  pub hears-then : {T : Type 0} {here middle there : Midway S B} {front rest : List ℕ} {result : Result T ReadingEnd}
       → IsHeardAs {T = Unit {0}} quits Leads here middle front (Ok tt) → IsHeardAs quits Leads middle there rest result
       → IsHeardAs quits Leads here there (front ++ rest) result
   hears-then {there} {front} {rest} {result} one two = heard-as (λ first before heard few under.
@@ -167,11 +168,11 @@ module _ {S B : Type 0} {quits : List ℕ → Bool} {Leads : Leading S B} where
       (one.on first before heard (omega (arith, few, length-append front rest)) under)))
 
   -- a line was answered
-  pub line-on : {here : Stand S B} {there : S × B} (listener : Listener) (bytes : List ℕ) → HasNoBreak bytes
+  pub line-on : {here : Midway S B} {there : S × B} (listener : Listener) (bytes : List ℕ) → HasNoBreak bytes
       → IsAnswered quits Leads here.states there (line_of here.listener bytes)
       (string_bytes here.listener.answers) (string_bytes listener.answers)
       → listener.pending.items ≡ [] → listener.is_first ≡ false
-      → IsHeardAs {T = Unit {0}} quits Leads here (stand there here.sink listener) (bytes ++ 10 ∷ []) (Ok tt)
+      → IsHeardAs {T = Unit {0}} quits Leads here (midway there here.sink listener) (bytes ++ 10 ∷ []) (Ok tt)
   line-on {here} listener bytes whole is empty later = heard-as (λ first before heard few under.
       let hears = under.hears in
       let piece : List ℕ = here.listener.pending.items ++ bytes in
@@ -189,11 +190,11 @@ module _ {S B : Type 0} {quits : List ℕ → Bool} {Leads : Leading S B} where
       })
 
   -- it was not, and reading ends
-  pub line-stops : {T : Type 0} {here : Stand S B} {there : S × B} {listener : Listener} {ended : ReadingEnd}
+  pub line-stops : {T : Type 0} {here : Midway S B} {there : S × B} {listener : Listener} {ended : ReadingEnd}
       {whole : List ℕ} (bytes behind : List ℕ) → whole ≡ bytes ++ 10 ∷ behind → HasNoBreak bytes
       → IsNotAnswered quits Leads here.states there (line_of here.listener bytes)
       (string_bytes here.listener.answers) (string_bytes listener.answers) ended
-      → IsHeardAs {T = T} quits Leads here (stand there here.sink listener) whole (Err ended)
+      → IsHeardAs {T = T} quits Leads here (midway there here.sink listener) whole (Err ended)
   line-stops {here} {ended} {whole} bytes behind all no_more is = heard-as (λ first before heard few under rest.
       let hears = heard-same is under.hears in
       let pending : List ℕ = here.listener.pending.items in
@@ -214,12 +215,12 @@ module _ {S B : Type 0} {quits : List ℕ → Bool} {Leads : Leading S B} where
       })) (rw is.text under.gathered) ended is.why)
 
   -- bytes that end no line are kept, or they are not
-  pub rest-kept : {T : Type 0} {here : Stand S B} {listener : Listener} {result : Result T ReadingEnd}
+  pub rest-kept : {T : Type 0} {here : Midway S B} {listener : Listener} {result : Result T ReadingEnd}
       (bytes : List ℕ) → HasNoBreak bytes
       → OnOk result (listener.pending.items ≡ here.listener.pending.items ++ bytes)
       → IfErr result (IsNotKept (unmarked here.listener.is_first (here.listener.pending.items ++ bytes)))
       → listener.is_first ≡ here.listener.is_first → listener.answers ≡ here.listener.answers
-      → IsHeardAs quits Leads here (stand here.states here.sink listener) bytes result
+      → IsHeardAs quits Leads here (midway here.states here.sink listener) bytes result
   rest-kept {here} {result = Ok done} bytes whole kept stopped is_first answers = heard-as (λ first before heard few under.
       let hears = under.hears in
       record {
@@ -248,28 +249,28 @@ module _ {S B : Type 0} {quits : List ℕ → Bool} {Leads : Leading S B} where
   rest-kept {result = Err ended} bytes whole kept stopped is_first answers = absurd stopped
 
 -- what comes of the rest of a piece comes of the whole
-abbrev pub GoesOn : {S B : Type 0} → (List ℕ → Bool) → Leading S B → Stand S B → Stand S B → List ℕ → List ℕ → Type 0
-GoesOn {S} {B} quits Leads here middle piece rest = (there : Stand S B) (result : Result (Unit {0}) ReadingEnd)
+abbrev pub GoesOn : {S B : Type 0} → (List ℕ → Bool) → Leading S B → Midway S B → Midway S B → List ℕ → List ℕ → Type 0
+GoesOn {S} {B} quits Leads here middle piece rest = (there : Midway S B) (result : Result (Unit {0}) ReadingEnd)
     → IsHeardAs quits Leads middle there rest result → IsHeardAs quits Leads here there piece result
 
 -- ---- what was heard is put
 
-module _ {quits : List ℕ → Bool} {answered : Told} {before middle now : Side} {gathered left input : List ℕ}
+module _ {quits : List ℕ → Bool} {answered : Told} {before middle now : Channel} {gathered left input : List ℕ}
     {ended : ReadingEnd} (stops : Stops quits answered before middle gathered input ended) where
   -- what is left where reading ended is put
-  pub stops-put : Puts {T = Unit {0}} middle now gathered left (Ok tt) → Stops quits answered before now left input ended
+  pub stops-put : PutLeaves {T = Unit {0}} middle now gathered left (Ok tt) → Stops quits answered before now left input ended
   stops-put put =
       record { said = stops.said; first = stops.first; ends = stops.ends; left = put before stops.said ended stops.left }
 
   -- or it cannot be
-  pub stops-cut : {failed : ReadingEnd} → Puts {T = Unit {0}} middle now gathered left (Err failed)
+  pub stops-cut : {failed : ReadingEnd} → PutLeaves {T = Unit {0}} middle now gathered left (Err failed)
       → Stops quits answered before now left input failed
   stops-cut put =
       let left = put.1 before stops.said ended stops.left in
       rw put.0 (record { said = stops.said; first = stops.first; ends = stops.first; left = left })
 
 -- whatever was heard, reading may end then
-may-end : {T : Type 0} {quits : List ℕ → Bool} {answered : Told} {before now : Side} (listener : Listener) (heard : List ℕ)
+may-end : {T : Type 0} {quits : List ℕ → Bool} {answered : Told} {before now : Channel} (listener : Listener) (heard : List ℕ)
     (result : Result T ReadingEnd) → Hears quits answered before now listener heard result → (rest : List ℕ)
     → (ended : ReadingEnd) × Stops quits answered before now (string_bytes listener.answers) (heard ++ rest) ended
 may-end listener heard (Ok done) under rest =
@@ -279,13 +280,13 @@ may-end listener heard (Ok done) under rest =
     (NoMemory, record { said = under.said; first = ends; ends = ends; left = under.gathered })
 may-end listener heard (Err ended) stops rest = (ended, stops rest)
 
-module _ {S B T : Type 0} {quits : List ℕ → Bool} {Leads : Leading S B} {here : Stand S B} {states : S × B}
-    {middle now : Side} {listener last : Listener} {piece : List ℕ} where
+module _ {S B T : Type 0} {quits : List ℕ → Bool} {Leads : Leading S B} {here : Midway S B} {states : S × B}
+    {middle now : Channel} {listener last : Listener} {piece : List ℕ} where
   -- what is gathered is put behind a piece
-  pub hears-put : {result : Result T ReadingEnd} → IsHeardAs quits Leads here (stand states middle listener) piece result
-      → Puts {T = Unit {0}} middle now (string_bytes listener.answers) (string_bytes last.answers) (Ok tt)
+  pub hears-put : {result : Result T ReadingEnd} → IsHeardAs quits Leads here (midway states middle listener) piece result
+      → PutLeaves {T = Unit {0}} middle now (string_bytes listener.answers) (string_bytes last.answers) (Ok tt)
       → last.pending ≡ listener.pending → last.is_first ≡ listener.is_first
-      → IsHeardAs quits Leads here (stand states now last) piece result
+      → IsHeardAs quits Leads here (midway states now last) piece result
   hears-put {result = Ok done} is put pending is_first = heard-as (λ first before heard few under.
       let so = is.on first before heard few under in
       record {
@@ -298,9 +299,9 @@ module _ {S B T : Type 0} {quits : List ℕ → Bool} {Leads : Leading S B} {her
 
   -- or it cannot be, and reading ends
   pub hears-cut : {U : Type 0} {result : Result T ReadingEnd} {failed : ReadingEnd} {whole : List ℕ} (behind : List ℕ)
-      → whole ≡ piece ++ behind → IsHeardAs quits Leads here (stand states middle listener) piece result
-      → Puts {T = Unit {0}} middle now (string_bytes listener.answers) (string_bytes last.answers) (Err failed)
-      → IsHeardAs {T = U} quits Leads here (stand states now last) whole (Err failed)
+      → whole ≡ piece ++ behind → IsHeardAs quits Leads here (midway states middle listener) piece result
+      → PutLeaves {T = Unit {0}} middle now (string_bytes listener.answers) (string_bytes last.answers) (Err failed)
+      → IsHeardAs {T = U} quits Leads here (midway states now last) whole (Err failed)
   hears-cut {result} behind all is put = heard-as (λ first before heard few under rest.
       let so = may-end listener (heard ++ piece) result
       (is.on first before heard (omega (arith, few, ap length all, length-append piece behind)) under) (behind ++ rest) in
@@ -309,8 +310,8 @@ module _ {S B T : Type 0} {quits : List ℕ → Bool} {Leads : Leading S B} {her
 -- ---- the end of an input
 
 -- nothing stands behind the last line feed
-pub ends-silent : {quits : List ℕ → Bool} {answered : Told} {before now : Side} {listener : Listener} {heard : List ℕ}
-    → IsUnderWay quits answered before now listener heard → length heard ≤ input_limit
+pub ends-silent : {quits : List ℕ → Bool} {answered : Told} {before now : Channel} {listener : Listener} {heard : List ℕ}
+    → IsUnderWay quits answered before now listener heard → length heard ≤ INPUT_LIMIT
     → (length (unmarked listener.is_first listener.pending.items) == 0) ≡ true
     → Stops quits answered before now (string_bytes listener.answers) heard Finished
 ends-silent {quits} {listener} {heard} under few none =
@@ -325,9 +326,9 @@ ends-silent {quits} {listener} {heard} under few none =
       left = under.gathered;
     }
 
-module _ {S B : Type 0} {quits : List ℕ → Bool} {Leads : Leading S B} {here there first : S × B} {before now : Side}
+module _ {S B : Type 0} {quits : List ℕ → Bool} {Leads : Leading S B} {here there first : S × B} {before now : Channel}
     {listener : Listener} {heard text : List ℕ}
-    (under : IsUnderWay quits (Since Leads first here) before now listener heard) (few : length heard ≤ input_limit)
+    (under : IsUnderWay quits (Since Leads first here) before now listener heard) (few : length heard ≤ INPUT_LIMIT)
     (some : (length (unmarked listener.is_first listener.pending.items) == 0) ≡ false) where
   -- a last line was answered
   pub ends-on : IsAnswered quits Leads here there (piece_text listener.is_first listener.pending.items)
@@ -376,7 +377,7 @@ module _ {quits : List ℕ → Bool} {answered : Told} (starts : answered [] [])
       ([], (given.0, given.1, first-lines (heard-none starts) given.0 refl), appends-none written)
 
   -- nothing was taken yet
-  pub taken-none : {before begun : Side} {listener : Listener} → listener.pending.items ≡ [] → listener.is_first ≡ true
+  pub taken-none : {before begun : Channel} {listener : Listener} → listener.pending.items ≡ [] → listener.is_first ≡ true
       → string_bytes listener.answers ≡ [] → IsTaken quits answered before before listener begun begun 0
   taken-none {before} {begun} pending is_first none = record {
     heard = [];
@@ -391,7 +392,7 @@ module _ {quits : List ℕ → Bool} {answered : Told} (starts : answered [] [])
     };
   }
 
-module _ {quits : List ℕ → Bool} {answered : Told} {before now : Side} where
+module _ {quits : List ℕ → Bool} {answered : Told} {before now : Channel} where
   -- it has ended so on an input that is given
   pub over-stops : (reading : Reading) {gathered input : List ℕ} {ended : ReadingEnd}
       → Stops quits answered before now gathered input ended → gathered ≡ [] → IsGiven reading.before input
@@ -402,7 +403,7 @@ module _ {quits : List ℕ → Bool} {answered : Told} {before now : Side} where
   over-stops reading {ended = TooMuch} stops empty given = absurd stops.ends
   over-stops reading stops empty given = (stops.said, (_, given, stops.ends), gathered-none empty stops.left)
 
-  module _ {listener : Listener} {begun source : Side} {count : ℕ}
+  module _ {listener : Listener} {begun source : Channel} {count : ℕ}
       (taken : IsTaken quits answered before now listener begun source count) where
     -- the lines that are whole in what was taken were answered
     whole-lines : AreAnsweredWhole quits answered taken.heard taken.under.said
@@ -422,7 +423,7 @@ module _ {quits : List ℕ → Bool} {answered : Told} {before now : Side} where
         }
 
     -- the input failed
-    pub over-interrupted : (later : Side) → later.bytes ≡ source.bytes → source.faults < later.faults → count ≤ input_limit
+    pub over-interrupted : (later : Channel) → later.bytes ≡ source.bytes → source.faults < later.faults → count ≤ INPUT_LIMIT
         → IsOver quits answered (read_between begun later) (before.faults < now.faults) before.bytes now.bytes Interrupted
     over-interrupted later same rose few = (
       taken.under.said,
@@ -437,10 +438,10 @@ module _ {quits : List ℕ → Bool} {answered : Told} {before now : Side} where
     )
 
     -- one byte more is too much
-    pub over-too-much : (later : Side) (more : List ℕ) → Takes source.bytes later.bytes more → count ≡ input_limit → length more ≡ 1
+    pub over-too-much : (later : Channel) (more : List ℕ) → Takes source.bytes later.bytes more → count ≡ INPUT_LIMIT → length more ≡ 1
         → IsOver quits answered (read_between begun later) (before.faults < now.faults) before.bytes now.bytes TooMuch
     over-too-much later more took full one =
-        let front = take_at taken.heard more input_limit (taken.counted ∙ full) in (
+        let front = take_at taken.heard more INPUT_LIMIT (taken.counted ∙ full) in (
           taken.under.said,
           record {
             taken = taken.heard ++ more;

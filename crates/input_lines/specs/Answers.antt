@@ -5,10 +5,6 @@ use Rattle.lists.specs.declared.NoMemory.{NoMemory}
 use Rattle.input_lines.specs.declared.responder.Flow.{Flow}
 use Rattle.input_lines.specs.declared.responder.Flow.TheVariants.{On, Quit}
 
--- the greatest length of a line, in bytes
-abbrev pub line_limit : ℕ
-line_limit = 131072
-
 -- bytes without a line feed
 abbrev pub HasNoBreak : List ℕ → Type 0
 HasNoBreak bytes = AllByRecursion (λ byte. ¬ (byte ≡ 10)) bytes

@@ -4,10 +4,10 @@ use Rattle.std.specs.List.{AllByRecursion, list_any}
 use Rattle.outside.specs.Sink.{Appends, AppendsFront}
 use Rattle.outside.specs.Source.{IsGiven, Takes}
 use Rattle.text_lines.specs.Lines.{line_texts}
-use Rattle.input_lines.specs.Answers.{line_limit}
-use Rattle.input_lines.specs.Lines.{AreWhole, EndsLine, IsBounded, IsShort, before_quit, input_limit}
+use Rattle.input_lines.specs.Lines.{AreWhole, EndsLine, IsBounded, IsShort, before_quit}
 use Rattle.input_lines.specs.declared.reading_end.ReadingEnd.{ReadingEnd}
 use Rattle.input_lines.specs.declared.reading_end.ReadingEnd.TheVariants.{Finished, Interrupted, TooMuch, LongLine, NoMemory, SinkFailed}
+use Rattle.input_lines.specs.declared.limits.TheConstants.{INPUT_LIMIT, LINE_LIMIT}
 
 -- What was read: what the input told before and what it tells behind, and how often it had failed then.
 pub record Reading : Type 0 where
@@ -39,12 +39,12 @@ pub record HasLongLine (quits : List ℕ → Bool) (answered : List (List ℕ) �
   pub rest : List ℕ
   pub parts : input ≡ front ++ rest
   pub ends : EndsLine front
-  pub few : length front ≤ input_limit
+  pub few : length front ≤ INPUT_LIMIT
   pub answers : AreAnswered quits answered (line_texts front) said
   pub long : List ℕ
   pub later : List (List ℕ)
   pub lines_are : line_texts input ≡ line_texts front ++ long ∷ later
-  pub too_long : line_limit < length long
+  pub too_long : LINE_LIMIT < length long
 
 -- the first lines of an input were answered
 pub record AreAnsweredFirst (quits : List ℕ → Bool) (answered : List (List ℕ) → List ℕ → Type 0) (input said : List ℕ) : Type 0 where
@@ -58,15 +58,15 @@ pub record IsInterrupted (quits : List ℕ → Bool) (answered : List (List ℕ)
   pub failed : reading.faults_before < reading.faults_after
   pub taken : List ℕ
   pub takes : Takes reading.before reading.after taken
-  pub few : length taken ≤ input_limit
+  pub few : length taken ≤ INPUT_LIMIT
   pub answers : AreAnsweredWhole quits answered taken said
 
 -- one byte more was taken than is read; the lines that were whole before it were answered
 pub record IsTooMuch (quits : List ℕ → Bool) (answered : List (List ℕ) → List ℕ → Type 0) (reading : Reading) (said : List ℕ) : Type 0 where
   pub taken : List ℕ
   pub takes : Takes reading.before reading.after taken
-  pub one_more : length taken ≡ input_limit + 1
-  pub answers : AreAnsweredWhole quits answered (take input_limit taken) said
+  pub one_more : length taken ≡ INPUT_LIMIT + 1
+  pub answers : AreAnsweredWhole quits answered (take INPUT_LIMIT taken) said
 
 -- how reading ends on an input, whatever else comes of it: by its lines, for want of memory, or by the sink
 abbrev pub EndsOn : (List ℕ → Bool) → (List (List ℕ) → List ℕ → Type 0) → List ℕ → ReadingEnd → List ℕ → Type 0

@@ -3,14 +3,11 @@ use Rattle.std.specs.Prelude.{◌≡◌, ℕ, ◌≤◌, Bool, true, not, ◌⊎
 use Rattle.std.specs.List.{list_any}
 use Rattle.std.specs.Str.Lines.{strip_carriage_return}
 use Rattle.text_lines.specs.Lines.{first_place, line_texts}
-use Rattle.input_lines.specs.Answers.{HasNoBreak, line_limit}
-
--- how many bytes are read of an input at most
-abbrev pub input_limit : ℕ
-input_limit = 4294967295
+use Rattle.input_lines.specs.Answers.{HasNoBreak}
+use Rattle.input_lines.specs.declared.limits.TheConstants.{INPUT_LIMIT, LINE_LIMIT}
 
 abbrev pub IsShort : List ℕ → Type 0
-IsShort line = length line ≤ line_limit
+IsShort line = length line ≤ LINE_LIMIT
 
 -- bytes are at the end of a line, or at the start of all
 abbrev pub EndsLine : List ℕ → Type 0
@@ -43,9 +40,9 @@ pub record QuitsEarly (quits : List ℕ → Bool) (input : List ℕ) : Type 0 wh
   pub later : List ℕ
   pub parts : input ≡ front ++ later
   pub ends : EndsLine front
-  pub few : length front ≤ input_limit
+  pub few : length front ≤ INPUT_LIMIT
   pub quits_there : list_any quits (line_texts front) ≡ true
 
 -- what is read of an input is not too much: all of it is not, or a line ends it early enough
 abbrev pub IsBounded : (List ℕ → Bool) → List ℕ → Type 0
-IsBounded quits input = (length input ≤ input_limit) ⊎ QuitsEarly quits input
+IsBounded quits input = (length input ≤ INPUT_LIMIT) ⊎ QuitsEarly quits input

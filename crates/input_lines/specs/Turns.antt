@@ -4,13 +4,14 @@ use Rattle.std.specs.String.{string_bytes}
 use Rattle.outside.specs.Sink.{Appends, AppendsFront}
 use Rattle.outside.specs.Source.{Takes}
 use Rattle.text_lines.specs.Lines.{line_texts}
-use Rattle.input_lines.specs.Answers.{HasNoBreak, LeadsOn, line_limit}
+use Rattle.input_lines.specs.Answers.{HasNoBreak, LeadsOn}
 use Rattle.input_lines.specs.Ends.{AreAnswered, AreAnsweredFirst, EndsOn, HasEnded, IsWritten, Reading}
 use Rattle.input_lines.specs.Laws.{Told}
-use Rattle.input_lines.specs.Lines.{IsShort, input_limit, piece_text}
+use Rattle.input_lines.specs.Lines.{IsShort, piece_text}
 use Rattle.input_lines.specs.declared.reading_end.ReadingEnd.{ReadingEnd}
 use Rattle.input_lines.specs.declared.reading_end.ReadingEnd.TheVariants.{Finished, LongLine, NoMemory, SinkFailed}
 use Rattle.input_lines.specs.declared.listener.Listener.{Listener}
+use Rattle.input_lines.specs.declared.limits.TheConstants.{INPUT_LIMIT, LINE_LIMIT}
 
 -- A front of an input: nothing of it, and then a byte order mark may follow; or it ends with a line feed.
 pub data IsFront : List ℕ → Bool → Type 0 where
@@ -26,28 +27,28 @@ pub record IsHeard (quits : List ℕ → Bool) (answered : Told) (heard pending 
   pub answers : AreAnswered quits answered (line_texts front) said
 
 -- what an input or a sink tells: its bytes, if it tells them, and how often it has failed
-pub record Side : Type 0 where
+pub record Channel : Type 0 where
   pub bytes : Option (List ℕ)
   pub faults : ℕ
 
-abbrev pub side : Option (List ℕ) → ℕ → Side
-side bytes faults = record { bytes = bytes; faults = faults }
+abbrev pub channel : Option (List ℕ) → ℕ → Channel
+channel bytes faults = record { bytes = bytes; faults = faults }
 
 -- a front of what was said is written, and the rest of it is gathered
-pub record IsGathered (before now : Side) (gathered said : List ℕ) : Type 0 where
+pub record IsGathered (before now : Channel) (gathered said : List ℕ) : Type 0 where
   pub put : List ℕ
   pub said_is : said ≡ put ++ gathered
   pub written : Appends before.bytes now.bytes put
   pub count : before.faults ≤ now.faults
 
 -- a front of what was said went into a sink that failed, and nothing is gathered
-pub record IsCut (before now : Side) (gathered said : List ℕ) : Type 0 where
+pub record IsCut (before now : Channel) (gathered said : List ℕ) : Type 0 where
   pub failed : before.faults < now.faults
   pub front : AppendsFront before.bytes now.bytes said
   pub empty : gathered ≡ []
 
 -- reading is under way: this was heard and answered; the answers are written, or gathered
-pub record IsUnderWay (quits : List ℕ → Bool) (answered : Told) (before now : Side) (listener : Listener) (heard : List ℕ) : Type 0 where
+pub record IsUnderWay (quits : List ℕ → Bool) (answered : Told) (before now : Channel) (listener : Listener) (heard : List ℕ) : Type 0 where
   pub said : List ℕ
   pub hears : IsHeard quits answered heard listener.pending.items listener.is_first said
   pub gathered : IsGathered before now (string_bytes listener.answers) said
@@ -55,13 +56,13 @@ pub record IsUnderWay (quits : List ℕ → Bool) (answered : Told) (before now 
 -- why a line is not answered
 abbrev pub WhyNot : (List ℕ → Bool) → List ℕ → ReadingEnd → Type 0
 WhyNot quits line Finished = quits line ≡ true
-WhyNot quits line LongLine = line_limit < length line
+WhyNot quits line LongLine = LINE_LIMIT < length line
 WhyNot quits line NoMemory = Unit {0}
 WhyNot quits line ended = ⊥
 
 -- Why a piece without a line feed is not kept: memory is wanting, or it is too long even if its last byte is a carriage return.
 abbrev pub IsNotKept : List ℕ → ReadingEnd → Type 0
-IsNotKept bare LongLine = line_limit + 1 < length bare
+IsNotKept bare LongLine = LINE_LIMIT + 1 < length bare
 IsNotKept bare NoMemory = Unit {0}
 IsNotKept bare ended = ⊥
 
@@ -96,26 +97,26 @@ Turns quits Leads here there line text_before text_after (Ok done) = IsAnswered 
 Turns quits Leads here there line text_before text_after (Err ended) = IsNotAnswered quits Leads here there line text_before text_after ended
 
 -- what was said is written or gathered, or a front of it went into a sink that failed
-abbrev pub IsLeft : ReadingEnd → Side → Side → List ℕ → List ℕ → Type 0
+abbrev pub IsLeft : ReadingEnd → Channel → Channel → List ℕ → List ℕ → Type 0
 IsLeft SinkFailed before now gathered said = IsCut before now gathered said
 IsLeft ended before now gathered said = IsGathered before now gathered said
 
 -- What a put does with what is gathered, whatever is left by then: it is written, or gathered as before; or the sink fails.
-abbrev pub Puts : {T : Type 0} → Side → Side → List ℕ → List ℕ → Result T ReadingEnd → Type 0
-Puts middle now gathered left (Ok done) =
-    (before : Side) (said : List ℕ) (ended : ReadingEnd) → IsLeft ended before middle gathered said → IsLeft ended before now left said
-Puts middle now gathered left (Err failed) = (failed ≡ SinkFailed)
-    × ((before : Side) (said : List ℕ) (ended : ReadingEnd) → IsLeft ended before middle gathered said → IsCut before now left said)
+abbrev pub PutLeaves : {T : Type 0} → Channel → Channel → List ℕ → List ℕ → Result T ReadingEnd → Type 0
+PutLeaves middle now gathered left (Ok done) =
+    (before : Channel) (said : List ℕ) (ended : ReadingEnd) → IsLeft ended before middle gathered said → IsLeft ended before now left said
+PutLeaves middle now gathered left (Err failed) = (failed ≡ SinkFailed)
+    × ((before : Channel) (said : List ℕ) (ended : ReadingEnd) → IsLeft ended before middle gathered said → IsCut before now left said)
 
 -- reading ends so on an input, whose first lines were answered, and this is left of what was said
-pub record Stops (quits : List ℕ → Bool) (answered : Told) (before now : Side) (gathered input : List ℕ) (ended : ReadingEnd) : Type 0 where
+pub record Stops (quits : List ℕ → Bool) (answered : Told) (before now : Channel) (gathered input : List ℕ) (ended : ReadingEnd) : Type 0 where
   pub said : List ℕ
   pub first : AreAnsweredFirst quits answered input said
   pub ends : EndsOn quits answered input ended said
   pub left : IsLeft ended before now gathered said
 
 -- what comes of bytes that were heard: reading is under way, or it ends so on whatever comes behind them
-abbrev pub Hears : {T : Type 0} → (List ℕ → Bool) → Told → Side → Side → Listener → List ℕ → Result T ReadingEnd → Type 0
+abbrev pub Hears : {T : Type 0} → (List ℕ → Bool) → Told → Channel → Channel → Listener → List ℕ → Result T ReadingEnd → Type 0
 Hears quits answered before now listener heard (Ok done) = IsUnderWay quits answered before now listener heard
 Hears quits answered before now listener heard (Err ended) =
     (rest : List ℕ) → Stops quits answered before now (string_bytes listener.answers) (heard ++ rest) ended
@@ -125,22 +126,22 @@ abbrev pub Since : {S B : Type 0} → Leading S B → S × B → S × B → Told
 Since Leads first here = λ lines said. Leads first.0 first.1 lines said here.0 here.1
 
 -- where reading stands: with a responder and what stands beside it, a sink and a listener
-pub record Stand (S B : Type 0) : Type 0 where
+pub record Midway (S B : Type 0) : Type 0 where
   pub states : S × B
-  pub sink : Side
+  pub sink : Channel
   pub listener : Listener
 
-abbrev pub stand : {S B : Type 0} → S × B → Side → Listener → Stand S B
-stand states sink listener = record { states = states; sink = sink; listener = listener }
+abbrev pub midway : {S B : Type 0} → S × B → Channel → Listener → Midway S B
+midway states sink listener = record { states = states; sink = sink; listener = listener }
 
 -- what comes of a piece between two stands, whatever was heard before it
-abbrev pub GoesBy : {S B T : Type 0} → (List ℕ → Bool) → Leading S B → Stand S B → Stand S B → List ℕ → Result T ReadingEnd → Type 0
+abbrev pub GoesBy : {S B T : Type 0} → (List ℕ → Bool) → Leading S B → Midway S B → Midway S B → List ℕ → Result T ReadingEnd → Type 0
 GoesBy {S} {B} quits Leads here there piece result =
-    (first : S × B) (before : Side) (heard : List ℕ) → length heard + length piece ≤ input_limit
+    (first : S × B) (before : Channel) (heard : List ℕ) → length heard + length piece ≤ INPUT_LIMIT
     → IsUnderWay quits (Since Leads first here.states) before here.sink here.listener heard
     → Hears quits (Since Leads first there.states) before there.sink there.listener (heard ++ piece) result
 
-pub record IsHeardAs {S B T : Type 0} (quits : List ℕ → Bool) (Leads : Leading S B) (here there : Stand S B) (piece : List ℕ)
+pub record IsHeardAs {S B T : Type 0} (quits : List ℕ → Bool) (Leads : Leading S B) (here there : Midway S B) (piece : List ℕ)
     (result : Result T ReadingEnd) : Type 0 where
   pub on : GoesBy quits Leads here there piece result
 
@@ -150,11 +151,11 @@ IsOver quits answered reading sink_failed before now ended =
     (said : List ℕ) × HasEnded quits answered reading ended said × IsWritten ended sink_failed before now said
 
 -- what was read between two states of an input
-abbrev pub read_between : Side → Side → Reading
+abbrev pub read_between : Channel → Channel → Reading
 read_between begun source = record { before = begun.bytes; after = source.bytes; faults_before = begun.faults; faults_after = source.faults }
 
 -- so many bytes were taken of an input and heard, and all that was answered is written
-pub record IsTaken (quits : List ℕ → Bool) (answered : Told) (before now : Side) (listener : Listener) (begun source : Side) (count : ℕ) : Type 0 where
+pub record IsTaken (quits : List ℕ → Bool) (answered : Told) (before now : Channel) (listener : Listener) (begun source : Channel) (count : ℕ) : Type 0 where
   pub heard : List ℕ
   pub counted : length heard ≡ count
   pub takes : Takes begun.bytes source.bytes heard
@@ -163,7 +164,7 @@ pub record IsTaken (quits : List ℕ → Bool) (answered : Told) (before now : S
   pub under : IsUnderWay quits answered before now listener heard
 
 -- what comes of a turn: more bytes were taken and heard, or reading has ended
-abbrev pub Comes : (List ℕ → Bool) → Told → Side → Side → Listener → Side → Side → ℕ → Result ℕ ReadingEnd → Type 0
+abbrev pub Comes : (List ℕ → Bool) → Told → Channel → Channel → Listener → Channel → Channel → ℕ → Result ℕ ReadingEnd → Type 0
 Comes quits answered before now listener begun source taken (Ok count) =
     IsTaken quits answered before now listener begun source (taken + count)
 Comes quits answered before now listener begun source taken (Err ended) =

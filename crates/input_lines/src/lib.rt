@@ -2,6 +2,7 @@
 #![tactic(auto)]
 
 mod laws;
+mod limits;
 mod listener;
 mod pieces;
 mod reading;
@@ -9,6 +10,7 @@ mod reading_end;
 mod responder;
 
 pub use laws::fitting_inputs_are_read;
+pub use limits::{INPUT_LIMIT, LINE_LIMIT};
 pub use reading::answer_lines;
 pub use reading_end::ReadingEnd;
 pub use responder::{Flow, Responder};

@@ -2,10 +2,12 @@
 
 ghost use Rattle.std.specs.Prelude.{◌≡◌, ◌+◌, ◌≤◌, ◌++◌, [], List, ℕ, true, false, length, OnOk, IfErr};
 ghost use Rattle.std.specs.String.{string_bytes};
-ghost use Rattle.input_lines.specs.Answers.{HasNoBreak, line_limit};
-ghost use Rattle.input_lines.specs.Lines.{input_limit, unmarked};
-ghost use Rattle.input_lines.specs.Turns.{IsHeardAs, IsNotKept, IsUnderWay, Puts, Side, Since, Stops, Turns, line_of, side, stand};
+ghost use Rattle.input_lines.specs.Answers.{HasNoBreak};
+ghost use Rattle.input_lines.specs.Lines.{unmarked};
+ghost use Rattle.input_lines.specs.Turns.{IsHeardAs, IsNotKept, IsUnderWay, PutLeaves, Channel, Since, Stops, Turns, line_of, channel, midway};
+ghost use Rattle.input_lines.specs.declared.limits.TheConstants.{INPUT_LIMIT};
 
+use crate::limits::LINE_LIMIT;
 use crate::pieces::{piece_text, split_line, unmarked};
 use crate::reading_end::ReadingEnd;
 use crate::responder::{Flow, Responder};
@@ -13,9 +15,6 @@ use lists::NoMemory;
 use outside::Sink;
 use std::alloc::Global;
 use std::mem;
-
-/// How long a line may be, in bytes.
-const LINE_LIMIT: usize = 131_072;
 
 /// How many bytes of answers are gathered before they are written.
 const MANY: usize = 65_536;
@@ -57,8 +56,8 @@ impl Listener {
         requires no_more { HasNoBreak self.old.pending.items }
         requires room { length piece.now ≤ R.room responder.old }
         ensures hears { IsHeardAs R.quits R.Leads
-            (stand (responder.old, beside.old) (side (K.written out.old) (K.faults out.old)) self.old)
-            (stand (responder.new, beside.new) (side (K.written out.new) (K.faults out.new)) self.new)
+            (midway (responder.old, beside.old) (channel (K.written out.old) (K.faults out.old)) self.old)
+            (midway (responder.new, beside.new) (channel (K.written out.new) (K.faults out.new)) self.new)
             piece.now result }
         ensures empty { string_bytes self.new.answers ≡ [] }
         ensures no_more { OnOk result (HasNoBreak self.new.pending.items) }
@@ -80,11 +79,11 @@ impl Listener {
     ) -> ReadingEnd
         requires room { 1 ≤ R.room responder.old }
         requires no_more { HasNoBreak self.old.pending.items }
-        ensures ends { (first : R × B) (before : Side) (heard : List ℕ) → length heard ≤ input_limit
+        ensures ends { (first : R × B) (before : Channel) (heard : List ℕ) → length heard ≤ INPUT_LIMIT
             → IsUnderWay R.quits (Since R.Leads first (responder.old, beside.old)) before
-            (side (K.written out.old) (K.faults out.old)) self.old heard
+            (channel (K.written out.old) (K.faults out.old)) self.old heard
             → Stops R.quits (Since R.Leads first (responder.new, beside.new)) before
-            (side (K.written out.new) (K.faults out.new)) (string_bytes self.new.answers) heard result }
+            (channel (K.written out.new) (K.faults out.new)) (string_bytes self.new.answers) heard result }
         ensures empty { string_bytes self.new.answers ≡ [] }
         ensures count { K.faults out.old ≤ K.faults out.new }
     {
@@ -107,8 +106,8 @@ impl Listener {
         requires no_more { HasNoBreak self.old.pending.items }
         requires room { length piece.now ≤ R.room responder.old }
         ensures hears { IsHeardAs R.quits R.Leads
-            (stand (responder.old, beside.old) (side (K.written out.old) (K.faults out.old)) self.old)
-            (stand (responder.new, beside.new) (side (K.written out.new) (K.faults out.new)) self.new)
+            (midway (responder.old, beside.old) (channel (K.written out.old) (K.faults out.old)) self.old)
+            (midway (responder.new, beside.new) (channel (K.written out.new) (K.faults out.new)) self.new)
             piece.now result }
         ensures no_more { OnOk result (HasNoBreak self.new.pending.items) }
         ensures room { R.room responder.old ≤ R.room responder.new + length piece.now }
@@ -132,7 +131,7 @@ impl Listener {
     ) -> ReadingEnd
         requires room { 1 ≤ R.room responder.old }
         requires no_more { HasNoBreak self.old.pending.items }
-        ensures ends { (first : R × B) (before now : Side) (heard : List ℕ) → length heard ≤ input_limit
+        ensures ends { (first : R × B) (before now : Channel) (heard : List ℕ) → length heard ≤ INPUT_LIMIT
             → IsUnderWay R.quits (Since R.Leads first (responder.old, beside.old)) before now self.old heard
             → Stops R.quits (Since R.Leads first (responder.new, beside.new)) before now
             (string_bytes self.new.answers) heard result }
@@ -197,7 +196,7 @@ impl Listener {
 
     /// Writes the answers that are gathered, if they are many.
     fn put_many<K: Sink>(&mut self, out: &mut K) -> Result<(), ReadingEnd>
-        ensures puts { Puts (side (K.written out.old) (K.faults out.old)) (side (K.written out.new) (K.faults out.new))
+        ensures puts { PutLeaves (channel (K.written out.old) (K.faults out.old)) (channel (K.written out.new) (K.faults out.new))
             (string_bytes self.old.answers) (string_bytes self.new.answers) result }
         ensures pending { self.new.pending ≡ self.old.pending }
         ensures first { self.new.is_first ≡ self.old.is_first }
@@ -211,7 +210,7 @@ impl Listener {
 
     /// Writes the answers that are gathered.
     fn put_all<K: Sink>(&mut self, out: &mut K) -> Result<(), ReadingEnd>
-        ensures puts { Puts (side (K.written out.old) (K.faults out.old)) (side (K.written out.new) (K.faults out.new))
+        ensures puts { PutLeaves (channel (K.written out.old) (K.faults out.old)) (channel (K.written out.new) (K.faults out.new))
             (string_bytes self.old.answers) (string_bytes self.new.answers) result }
         ensures empty { string_bytes self.new.answers ≡ [] }
         ensures pending { self.new.pending ≡ self.old.pending }

@@ -3,9 +3,10 @@
 ghost use Rattle.std.specs.Prelude.{◌≡◌, ◌+◌, ◌<◌, ◌≤◌, ℕ, length, IfOk, IfSome, OnOk};
 ghost use Rattle.input_lines.specs.Answers.{HasNoBreak};
 ghost use Rattle.input_lines.specs.Ends.{Reading};
-ghost use Rattle.input_lines.specs.Lines.{input_limit};
-ghost use Rattle.input_lines.specs.Turns.{Comes, IsOver, IsTaken, Side, Since, read_between, side};
+ghost use Rattle.input_lines.specs.Turns.{Comes, IsOver, IsTaken, Channel, Since, read_between, channel};
+ghost use Rattle.input_lines.specs.declared.limits.TheConstants.{INPUT_LIMIT};
 
+use crate::limits::INPUT_LIMIT;
 use crate::listener::Listener;
 use crate::reading_end::ReadingEnd;
 use crate::responder::Responder;
@@ -14,9 +15,6 @@ use std::alloc::Global;
 
 /// How many bytes are read at once at most.
 const PIECE: usize = 65_536;
-
-/// How many bytes are read in all at most.
-const INPUT_LIMIT: u64 = 4_294_967_295;
 
 /// Reads an input to its end, or to a line that ends it, and has each line answered as soon as it is whole. All answers to
 /// what was read are written before more is read, a put for each 64 KB or so. An input of more than 4,294,967,295 bytes and a line of more than
@@ -28,7 +26,7 @@ pub fn answer_lines<B, R: Responder<B>, S: Source, K: Sink>(
     input: &mut S,
     out: &mut K,
 ) -> ReadingEnd
-    requires room { input_limit + 1 ≤ R.room responder.old }
+    requires room { INPUT_LIMIT + 1 ≤ R.room responder.old }
     // What was written is what these lines are answered from here on.
     ensures over { IsOver R.quits (λ lines said. R.Leads responder.old beside.old lines said responder.new beside.new) (record {
       before = S.left input.old;
@@ -64,7 +62,7 @@ fn read_all<B, R: Responder<B>, S: Source, K: Sink>(
 ) -> ReadingEnd
     requires some { 0 < length buffer.old }
     requires few { length buffer.old ≤ 65536 }
-    requires room { input_limit + 1 ≤ R.room responder.old }
+    requires room { INPUT_LIMIT + 1 ≤ R.room responder.old }
     ensures over { IsOver R.quits (λ lines said. R.Leads responder.old beside.old lines said responder.new beside.new) (record {
       before = S.left input.old;
       after = S.left input.new;
@@ -101,13 +99,13 @@ impl Listener {
         requires some { 0 < length piece.old }
         requires room { length piece.old + 1 ≤ R.room responder.old }
         requires no_more { HasNoBreak self.old.pending.items }
-        ensures comes { (first : R × B) (before begun : Side) (taken : ℕ) → taken + length piece.old ≤ input_limit
+        ensures comes { (first : R × B) (before begun : Channel) (taken : ℕ) → taken + length piece.old ≤ INPUT_LIMIT
             → IsTaken R.quits (Since R.Leads first (responder.old, beside.old)) before
-            (side (K.written out.old) (K.Sink.faults out.old)) self.old
-            begun (side (S.left input.old) (S.Source.faults input.old)) taken
+            (channel (K.written out.old) (K.Sink.faults out.old)) self.old
+            begun (channel (S.left input.old) (S.Source.faults input.old)) taken
             → Comes R.quits (Since R.Leads first (responder.new, beside.new)) before
-            (side (K.written out.new) (K.Sink.faults out.new)) self.new
-            begun (side (S.left input.new) (S.Source.faults input.new)) taken result }
+            (channel (K.written out.new) (K.Sink.faults out.new)) self.new
+            begun (channel (S.left input.new) (S.Source.faults input.new)) taken result }
         ensures some { IfOk result (λ count. 0 < count) }
         ensures few { IfOk result (λ count. count ≤ length piece.old) }
         ensures room { IfOk result (λ count. R.room responder.old ≤ R.room responder.new + count) }
@@ -136,12 +134,12 @@ impl Listener {
     ) -> ReadingEnd
         requires room { 1 ≤ R.room responder.old }
         requires no_more { HasNoBreak self.old.pending.items }
-        ensures over { (first : R × B) (before begun : Side)
+        ensures over { (first : R × B) (before begun : Channel)
             → IsTaken R.quits (Since R.Leads first (responder.old, beside.old)) before
-            (side (K.written out.old) (K.Sink.faults out.old)) self.old
-            begun (side (S.left input.old) (S.Source.faults input.old)) input_limit
+            (channel (K.written out.old) (K.Sink.faults out.old)) self.old
+            begun (channel (S.left input.old) (S.Source.faults input.old)) INPUT_LIMIT
             → IsOver R.quits (Since R.Leads first (responder.new, beside.new))
-            (read_between begun (side (S.left input.new) (S.Source.faults input.new)))
+            (read_between begun (channel (S.left input.new) (S.Source.faults input.new)))
             (before.faults < K.Sink.faults out.new) before.bytes (K.written out.new) result }
         ensures input_count { S.Source.faults input.old ≤ S.Source.faults input.new }
         ensures sink_count { K.Sink.faults out.old ≤ K.Sink.faults out.new }

@@ -2,7 +2,8 @@
 
 ghost use Rattle.std.specs.Prelude.{◌≡◌, ℕ, ◌+◌, ◌≤◌, Bool, List, [], length};
 ghost use Rattle.std.specs.String.{string_bytes};
-ghost use Rattle.input_lines.specs.Answers.{AnswersLine, HasNoBreak, line_limit};
+ghost use Rattle.input_lines.specs.Answers.{AnswersLine, HasNoBreak};
+ghost use Rattle.input_lines.specs.declared.limits.TheConstants.{LINE_LIMIT};
 
 use lists::NoMemory;
 use std::alloc::Global;
@@ -38,7 +39,7 @@ pub trait Responder<B> {
         answers: &mut String,
     ) -> Result<Flow, NoMemory>
         requires whole { HasNoBreak line.now }
-        requires short { length line.now ≤ line_limit }
+        requires short { length line.now ≤ LINE_LIMIT }
         requires room { 1 ≤ room self.old }
         ensures answers { AnswersLine quits Leads self.old beside.old self.new beside.new line.now (string_bytes answers.old) (string_bytes answers.new) result }
         ensures room { room self.old ≤ room self.new + 1 };

@@ -31,7 +31,7 @@ pub struct Passed<'a> {
 
 /// A word of a paragraph that was judged.
 #[derive(Clone, Copy)]
-struct Judged<'a> {
+struct JudgedWord<'a> {
     /// Where it stands, and what is left behind it.
     found: Found<'a>,
     /// Whether the dictionary generates it.
@@ -116,7 +116,7 @@ fn next_judged<'a, K: Asker>(
     asker: &mut K,
     rest: Rest<'a>,
     word: &mut Vec<char>,
-) -> Result<Option<Judged<'a>>, NoMemory>
+) -> Result<Option<JudgedWord<'a>>, NoMemory>
     requires small { rest.at + length rest.text.now < 2 ^ 32 }
     ensures none { IfOk result (λ judged. IfNone judged (words_after (K.lexicon asker.old).affixes.wordchars rest.entry ≡ [])) }
     ensures next { IfOk result (λ judged. IfSome judged (IsNext (K.lexicon asker.old) rest.entry word.new.items)) }
@@ -126,7 +126,7 @@ fn next_judged<'a, K: Asker>(
         None => Ok(None),
         Some(found) => {
             let is_known = asker.verdict(alloc, word)?;
-            Ok(Some(Judged { found, is_known }))
+            Ok(Some(JudgedWord { found, is_known }))
         }
     }
 }
@@ -135,7 +135,7 @@ fn next_judged<'a, K: Asker>(
 fn add_mark(
     alloc: Global,
     marks: &mut Vec<Mark>,
-    judged: &Judged<'_>,
+    judged: &JudgedWord<'_>,
     word: &[char],
 ) -> Result<(), NoMemory>
     ensures { OnOk result (marks.new.items ≡ marks.old.items ++ (if judged.now.is_known then [] else mark_at (found_word word.now judged.now.found) ∷ [])) }

@@ -2,6 +2,7 @@
 #![tactic(auto)]
 
 mod asking;
+mod crossing;
 mod judging;
 mod stepping;
 

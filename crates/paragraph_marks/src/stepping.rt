@@ -136,7 +136,7 @@ impl<J: Judge + Drop> Checking<J> {
         ensures err { OnErr result (self.new ≡ self.old) }
         ensures same { K.lexicon asker.new ≡ K.lexicon asker.old }
     {
-        go_on(alloc, asker, self.text.as_str(), &mut self.progress, words)
+        step_over(alloc, asker, self.text.as_str(), &mut self.progress, words)
     }
 
     /// What was checked, where no word is left; else itself.
@@ -186,7 +186,7 @@ fn begin<J: Judge>(alloc: Global, judge: &J, text: &str) -> Result<Progress, NoM
 
 /// Judges so many next words of a text, or all that are left, and tells whether none is left.
 #[tactic(auto, unfolding(crate::specs::Stepping::left_of, crate::specs::Stepping::IsProgress))]
-fn go_on<K: Asker>(
+fn step_over<K: Asker>(
     alloc: Global,
     asker: &mut K,
     text: &str,

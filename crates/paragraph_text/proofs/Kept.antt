@@ -1,38 +1,26 @@
 -- The list that an edit makes meets what was asked of the one before, with the next version and the next id.
-use Rattle.std.proofs.Common.{◌≡◌, ◌∙◌, sym, ap, subst, ℕ, zero, suc, ◌+◌, ◌<◌, ◌≤◌, List, [], ◌∷◌, ◌++◌, length, take, drop, Option, Result, Ok, Err, IfOk, length-append, arith}
+use Rattle.std.proofs.Common.{◌≡◌, ◌∙◌, sym, ap, subst, ℕ, ◌+◌, ◌<◌, ◌≤◌, List, [], ◌∷◌, ◌++◌, length, take, drop, Option, Result, Ok, Err, IfOk, length-append, arith}
 use Rattle.std.specs.List.{AllByRecursion}
-use Rattle.lists.specs.Laws.{each-append, each-weaker}
+use Rattle.std.proofs.lemmas.List.{take-append-drop}
+use Rattle.lists.specs.Laws.{each-append, each-front, each-middle, each-weaker}
 use Rattle.paragraph_text.specs.Paragraphs.{Paragraph, AreValid, HaveOwnIds, HasNoBreak, IsValidIn, numbered_from}
 use Rattle.paragraph_text.specs.Edits.{Applies, Inserts, Removes, Replaces, next_id_after, spliced}
 use Rattle.paragraph_text.specs.declared.edits.Edit.{Edit}
 use Rattle.paragraph_text.specs.declared.edits.Edit.TheVariants.{Insert, Remove, Replace}
 use Rattle.paragraph_text.proofs.Places.{numbered-length}
-use Rattle.paragraph_text.proofs.Decided.{all-middle}
-
--- what holds of each item of two lists, one behind the other, holds of those of each
-each-front : {X : Type 0} (P : X → Type 0) (front rest : List X) → AllByRecursion P (front ++ rest) → AllByRecursion P front
-each-front P [] rest all = tt
-each-front P (x ∷ front) rest all = (all.0, each-front P front rest all.1)
+use Rattle.paragraph_text.specs.declared.limits.TheConstants.{MOST_BYTES, MOST_PARAGRAPHS}
 
 each-rest : {X : Type 0} (P : X → Type 0) (front rest : List X) → AllByRecursion P (front ++ rest) → AllByRecursion P rest
 each-rest P [] rest all = all
 each-rest P (x ∷ front) rest all = each-rest P front rest all.1
 
-each-take : {X : Type 0} (P : X → Type 0) (n : ℕ) (xs : List X) → AllByRecursion P xs → AllByRecursion P (take n xs)
-each-take P zero xs all = tt
-each-take P (suc n) [] all = tt
-each-take P (suc n) (x ∷ xs) all = (all.0, each-take P n xs all.1)
-
-each-drop : {X : Type 0} (P : X → Type 0) (n : ℕ) (xs : List X) → AllByRecursion P xs → AllByRecursion P (drop n xs)
-each-drop P zero xs all = all
-each-drop P (suc n) [] all = tt
-each-drop P (suc n) (x ∷ xs) all = each-drop P n xs all.1
-
 pub spliced-whole : (text : List ℕ) (from to : ℕ) (put : List ℕ) → HasNoBreak text → HasNoBreak put → HasNoBreak (spliced text from to put)
 spliced-whole text from to put whole put-whole =
-    each-append (λ byte. ¬ (byte ≡ 10)) (take from text ++ put) (drop to text)
-    (each-append (λ byte. ¬ (byte ≡ 10)) (take from text) put (each-take (λ byte. ¬ (byte ≡ 10)) from text whole) put-whole)
-    (each-drop (λ byte. ¬ (byte ≡ 10)) to text whole)
+    let P : ℕ → Type 0 = λ byte. ¬ (byte ≡ 10) in
+    let parted : (n : ℕ) → HasNoBreak (take n text ++ drop n text) = λ n. subst HasNoBreak (sym (take-append-drop n text)) whole in
+    each-append P (take from text ++ put) (drop to text)
+    (each-append P (take from text) put (each-front P (take from text) (drop from text) (parted from)) put-whole)
+    (each-rest P (take to text) (drop to text) (parted to))
 
 -- a paragraph that may stand in a list may stand in the next one
 later : (version next_id next_id' : ℕ) (paragraph : Paragraph) → next_id ≤ next_id' → IsValidIn version next_id paragraph → IsValidIn (version + 1) next_id' paragraph
@@ -49,7 +37,7 @@ own-replaced [] rest old new same own = (each-weaker (λ p. ¬ (p.id ≡ old.id)
 own-replaced (y ∷ front) rest old new same own =
     let P : Paragraph → Type 0 = λ p. ¬ (p.id ≡ y.id) in (
       each-append P front (new ∷ rest) (each-front P front (old ∷ rest) own.0)
-          (λ is. all-middle P front old rest own.0 (sym same ∙ is), (each-rest P front (old ∷ rest) own.0).1),
+          (λ is. each-middle P front old rest own.0 (sym same ∙ is), (each-rest P front (old ∷ rest) own.0).1),
       own-replaced front rest old new same own.1,
     )
 
@@ -72,7 +60,7 @@ replaced-valid : (version next_id : ℕ) (paragraphs after : List Paragraph) (id
 replaced-valid version next_id paragraphs after id rev from to put valid made =
     let new : Paragraph = record { id = id; rev = version; text = spliced made.touched.text from to put } in
     let all = subst (AllByRecursion (IsValidIn version next_id)) made.before_is valid.each in
-    let old = all-middle (IsValidIn version next_id) made.front made.touched made.rest all in
+    let old = each-middle (IsValidIn version next_id) made.front made.touched made.rest all in
     let known : new.id < next_id = subst (λ n. n < next_id) made.named old.known in
     let one : IsValidIn (version + 1) next_id new =
     record { known = known; older = omega arith; short = made.short; whole = spliced-whole made.touched.text from to put old.whole made.whole } in
@@ -123,21 +111,21 @@ numbered-above : (low id : ℕ) (texts : List (List ℕ)) → low < id → AllBy
 numbered-above low id [] above = tt
 numbered-above low id (text ∷ texts) above = (λ is. omega (arith, above, is), numbered-above low (id + 1) texts (omega (arith, above)))
 
-numbered-own : (id : ℕ) (texts : List (List ℕ)) → HaveOwnIds (numbered_from id texts)
-numbered-own id [] = tt
-numbered-own id (text ∷ texts) = (numbered-above id (id + 1) texts (omega arith), numbered-own (id + 1) texts)
+pub numbered_own : (id : ℕ) (texts : List (List ℕ)) → HaveOwnIds (numbered_from id texts)
+numbered_own id [] = tt
+numbered_own id (text ∷ texts) = (numbered-above id (id + 1) texts (omega arith), numbered_own (id + 1) texts)
 
-numbered-valid : (next_id id : ℕ) (texts : List (List ℕ)) → id + length texts ≤ next_id → AllByRecursion (λ text. (length text ≤ 65536) × HasNoBreak text) texts → AllByRecursion (IsValidIn 1 next_id) (numbered_from id texts)
+numbered-valid : (next_id id : ℕ) (texts : List (List ℕ)) → id + length texts ≤ next_id → AllByRecursion (λ text. (length text ≤ MOST_BYTES) × HasNoBreak text) texts → AllByRecursion (IsValidIn 1 next_id) (numbered_from id texts)
 numbered-valid next_id id [] upto each = tt
 numbered-valid next_id id (text ∷ texts) upto each = (
   record { known = omega (arith, upto); older = omega arith; short = each.0.0; whole = each.0.1 },
   numbered-valid next_id (id + 1) texts (omega (arith, upto)) each.1,
 )
 
-pub opening-valid : (texts : List (List ℕ)) → length texts ≤ 20000 → AllByRecursion (λ text. (length text ≤ 65536) × HasNoBreak text) texts → AreValid 1 (length texts) (numbered_from 0 texts)
+pub opening-valid : (texts : List (List ℕ)) → length texts ≤ MOST_PARAGRAPHS → AllByRecursion (λ text. (length text ≤ MOST_BYTES) × HasNoBreak text) texts → AreValid 1 (length texts) (numbered_from 0 texts)
 opening-valid texts few each =
     record {
-      own_ids = numbered-own 0 texts;
+      own_ids = numbered_own 0 texts;
       each = numbered-valid (length texts) 0 texts (omega arith) each;
       few = omega (arith, few, numbered-length 0 texts);
     }

@@ -1,11 +1,13 @@
 -- What an edit makes of a list of paragraphs, and where it is refused.
 use Rattle.std.specs.Prelude.{◌≡◌, ℕ, ◌+◌, ◌<◌, ◌≤◌, Bool, true, false, ◌&&◌, ◌||◌, ◌==◌, ◌⊎◌, List, [], ◌∷◌, ◌++◌, length, take, drop, nat_lt, nat_le, find, position, slice_get, Option, None, Some}
-use Rattle.std.specs.Option.{option_map, option_map_or, option_or}
+use Rattle.std.specs.Option.{option_and_then, option_map, option_map_or, option_or}
+use Rattle.lists.specs.Changes.{Change, SetAt, InsertAt, RemoveAt, changed}
 use Rattle.paragraph_text.specs.Paragraphs.{Paragraph, HasNoBreak}
 use Rattle.paragraph_text.specs.declared.edits.Edit.{Edit}
 use Rattle.paragraph_text.specs.declared.edits.Edit.TheVariants.{Replace, Insert, Remove}
 use Rattle.paragraph_text.specs.declared.edits.EditRefusal.{EditRefusal}
-use Rattle.paragraph_text.specs.declared.edits.EditRefusal.TheVariants.{Gone, Behind, BadSpan, HasBreak, TooLong, Full, NoMemory}
+use Rattle.paragraph_text.specs.declared.edits.EditRefusal.TheVariants.{Gone, Behind, BadSpan, HasBreak, TooLong, Full}
+use Rattle.paragraph_text.specs.declared.limits.TheConstants.{MOST_BYTES, MOST_PARAGRAPHS}
 
 -- whether a character of a text in UTF-8 ends or begins at a place: bytes from 128 to 191 go on with a character
 abbrev pub is_edge : List ℕ → ℕ → Bool
@@ -23,6 +25,10 @@ spliced text from to put = take from text ++ put ++ drop to text
 abbrev pub with_id : ℕ → List Paragraph → Option Paragraph
 with_id id paragraphs = find (λ paragraph. paragraph.id == id) paragraphs
 
+-- where it stands
+abbrev pub place_of : ℕ → List Paragraph → Option ℕ
+place_of id paragraphs = position (λ paragraph. paragraph.id == id) paragraphs
+
 -- ---- what an edit makes of a list: a front, the touched paragraph, and a rest
 
 -- the bytes from one place to another of a paragraph's text are replaced
@@ -35,7 +41,7 @@ pub record Replaces (version : ℕ) (paragraphs : List Paragraph) (id rev from t
   pub current : touched.rev ≡ rev
   pub span : is_span touched.text from to ≡ true
   pub whole : HasNoBreak put
-  pub short : length (spliced touched.text from to put) ≤ 65536
+  pub short : length (spliced touched.text from to put) ≤ MOST_BYTES
   pub after_is : after ≡ front ++ record { id = id; rev = version; text = spliced touched.text from to put } ∷ rest
 
 -- a rest begins with the paragraph that is named; it is empty where none is
@@ -51,8 +57,8 @@ pub record Inserts (version next_id : ℕ) (paragraphs : List Paragraph) (before
   pub before_is : paragraphs ≡ front ++ rest
   pub begins : BeginsWith before rest
   pub whole : HasNoBreak put
-  pub short : length put ≤ 65536
-  pub room : length paragraphs < 20000
+  pub short : length put ≤ MOST_BYTES
+  pub room : length paragraphs < MOST_PARAGRAPHS
   pub after_is : after ≡ front ++ record { id = next_id; rev = version; text = put } ∷ rest
 
 -- a paragraph is taken out
@@ -76,6 +82,36 @@ abbrev pub next_id_after : ℕ → Edit → ℕ
 next_id_after next_id (Replace id rev from to text) = next_id
 next_id_after next_id (Insert before text) = next_id + 1
 next_id_after next_id (Remove id rev) = next_id
+
+-- ---- which change of the list an edit is
+
+-- the paragraph that an edit names
+abbrev pub named_by : Edit → Option ℕ
+named_by (Replace id rev from to text) = Some id
+named_by (Insert before text) = before
+named_by (Remove id rev) = Some id
+
+-- where that paragraph stands
+abbrev pub named_place : List Paragraph → Edit → Option ℕ
+named_place paragraphs edit = option_and_then (λ id. place_of id paragraphs) (named_by edit)
+
+-- the change that an edit is, at the place of the paragraph that it names; none where that is not there
+abbrev pub change_of : List Paragraph → Edit → Option Change
+change_of paragraphs (Replace id rev from to text) = option_map (λ place. SetAt place) (place_of id paragraphs)
+change_of paragraphs (Insert None text) = Some (InsertAt (length paragraphs))
+change_of paragraphs (Insert (Some id) text) = option_map (λ place. InsertAt place) (place_of id paragraphs)
+change_of paragraphs (Remove id rev) = option_map (λ place. RemoveAt place) (place_of id paragraphs)
+
+-- what is kept beside each paragraph has the same change: the touched paragraph has something new, all others keep what they had
+abbrev pub kept_after : {X : Type 0} → X → List Paragraph → List X → Edit → List X
+kept_after new paragraphs kept edit = option_map_or (λ change. changed change new kept) (change_of paragraphs edit) kept
+
+-- an edit makes this list by the change that it is
+pub record IsChanged (paragraphs : List Paragraph) (edit : Edit) (after : List Paragraph) : Type 0 where
+  pub change : Change
+  pub touched : Paragraph
+  pub change_is : change_of paragraphs edit ≡ Some change
+  pub after_is : after ≡ changed change touched paragraphs
 
 -- ---- the refusals, each where it would be told if no other were there
 
@@ -101,11 +137,11 @@ break_in put = option_map (λ at. HasBreak at) (position (λ byte. byte == 10) p
 
 -- the paragraph would have so many bytes
 abbrev pub too_long : ℕ → Option EditRefusal
-too_long size = unless (nat_le size 65536) (TooLong size)
+too_long size = unless (nat_le size MOST_BYTES) (TooLong size)
 
 -- no further paragraph may be put in
 abbrev pub full : List Paragraph → Option EditRefusal
-full paragraphs = unless (nat_lt (length paragraphs) 20000) (Full (length paragraphs))
+full paragraphs = unless (nat_lt (length paragraphs) MOST_PARAGRAPHS) (Full (length paragraphs))
 
 -- what is asked of a text whose bytes are to be replaced
 abbrev pub splice_refusal : List ℕ → ℕ → ℕ → List ℕ → Option EditRefusal
@@ -132,16 +168,6 @@ first_refusal paragraphs (Remove id rev) = gone_or id paragraphs (λ touched. be
 abbrev pub IsRefused : List Paragraph → Edit → EditRefusal → Type 0
 IsRefused paragraphs edit refusal = first_refusal paragraphs edit ≡ Some refusal
 
--- what is told is the first refusal, or that memory is wanting
-abbrev pub IsTold : Option EditRefusal → EditRefusal → Type 0
-IsTold first (Gone id) = first ≡ Some (Gone id)
-IsTold first (Behind rev) = first ≡ Some (Behind rev)
-IsTold first (BadSpan length) = first ≡ Some (BadSpan length)
-IsTold first (HasBreak at) = first ≡ Some (HasBreak at)
-IsTold first (TooLong would) = first ≡ Some (TooLong would)
-IsTold first (Full count) = first ≡ Some (Full count)
-IsTold first NoMemory = Unit {0}
-
 -- ---- what is decided of each edit
 
 -- there is one, and no other
@@ -160,6 +186,7 @@ IsDecided version next_id paragraphs edit =
 
 -- the first paragraph with an id stands at a place
 pub record IsFoundAt (paragraphs : List Paragraph) (id place : ℕ) (paragraph : Paragraph) : Type 0 where
+  pub place_is : place_of id paragraphs ≡ Some place
   pub inside : place < length paragraphs
   pub at : slice_get paragraphs place ≡ Some paragraph
   pub found : with_id id paragraphs ≡ Some paragraph
@@ -168,7 +195,7 @@ pub record IsFoundAt (paragraphs : List Paragraph) (id place : ℕ) (paragraph :
 pub record IsSpliced (text : List ℕ) (from to : ℕ) (put made : List ℕ) : Type 0 where
   pub span : is_span text from to ≡ true
   pub whole : HasNoBreak put
-  pub short : length made ≤ 65536
+  pub short : length made ≤ MOST_BYTES
   pub made_is : made ≡ spliced text from to put
 
 -- the place before which a paragraph is put, where one is named or none

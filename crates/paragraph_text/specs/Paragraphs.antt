@@ -1,6 +1,7 @@
 -- Paragraphs in order: what one is, how a document opens, and what every list meets that may be edited.
 use Rattle.std.specs.Prelude.{◌≡◌, ℕ, ◌+◌, ◌<◌, ◌≤◌, List, [], ◌∷◌, length}
 use Rattle.std.specs.List.{AllByRecursion}
+use Rattle.paragraph_text.specs.declared.limits.TheConstants.{MOST_BYTES, MOST_PARAGRAPHS}
 
 -- its id is its own for ever, its rev the version of the text that last touched it; the text is bytes
 pub record Paragraph : Type 0 where
@@ -26,11 +27,11 @@ HasNoBreak text = AllByRecursion (λ byte. ¬ (byte ≡ 10)) text
 pub record IsValidIn (version next_id : ℕ) (paragraph : Paragraph) : Type 0 where
   pub known : paragraph.id < next_id
   pub older : paragraph.rev < version
-  pub short : length paragraph.text ≤ 65536
+  pub short : length paragraph.text ≤ MOST_BYTES
   pub whole : HasNoBreak paragraph.text
 
 -- what a list meets that may be edited, where its next version and its next id are these
 pub record AreValid (version next_id : ℕ) (paragraphs : List Paragraph) : Type 0 where
   pub own_ids : HaveOwnIds paragraphs
   pub each : AllByRecursion (IsValidIn version next_id) paragraphs
-  pub few : length paragraphs ≤ 20000
+  pub few : length paragraphs ≤ MOST_PARAGRAPHS

@@ -3,23 +3,21 @@
 ghost use Rattle.std.specs.Prelude.{◌≡◌, ◌==◌, ◌+◌, ◌≤◌, ◌<◌, List, ℕ, length, position, Some, None, MatchOption, IfOk, IfErr, OnOk};
 ghost use Rattle.std.specs.Arc.{arc_value};
 ghost use Rattle.std.specs.List.{AllByRecursion};
-ghost use Rattle.paragraph_text.specs.Paragraphs.{AreValid, HasNoBreak, Paragraph, numbered_from};
-ghost use Rattle.paragraph_text.specs.Edits.{Applies, Inserts, IsDecided, IsFoundAt, IsGap, IsSpliced, IsTold, Removes, Replaces, behind, break_in, entry_refusal, first_refusal, gone_before, gone_or, is_edge, is_span, next_id_after, splice_refusal, too_long, with_id};
+ghost use Rattle.std.specs.Option.{option_and_then};
+ghost use Rattle.lists.specs.Answers.{IsDueOr};
+ghost use Rattle.paragraph_text.specs.Paragraphs.{AreValid, HasNoBreak, HaveOwnIds, Paragraph, numbered_from};
+ghost use Rattle.paragraph_text.specs.Edits.{Applies, Inserts, IsChanged, IsDecided, IsFoundAt, IsGap, IsSpliced, Removes, Replaces, behind, break_in, entry_refusal, first_refusal, gone_before, gone_or, is_edge, is_span, kept_after, named_by, named_place, next_id_after, place_of, splice_refusal, too_long, with_id};
 ghost use Rattle.paragraph_text.specs.declared.edits.Edit.{Edit};
 ghost use Rattle.paragraph_text.specs.declared.edits.Edit.TheVariants.{Insert, Remove, Replace};
 ghost use Rattle.paragraph_text.specs.declared.edits.EditRefusal.TheVariants.{NoMemory as OutOfMemory};
+ghost use Rattle.paragraph_text.specs.declared.limits.TheConstants.{MOST_BYTES, MOST_PARAGRAPHS};
 
+use crate::limits::{MOST_BYTES, MOST_PARAGRAPHS};
 use crate::list::{Para, Paragraphs};
-use lists::NoMemory;
+use lists::{Copied, NoMemory, SharedItems};
 use std::alloc::{AllocError, Global};
 use std::sync::Arc;
 use text_lines::Text;
-
-/// How many bytes a paragraph has at most.
-const MOST_BYTES: usize = 65_536;
-
-/// How many paragraphs there are at most.
-const MOST_PARAGRAPHS: usize = 20_000;
 
 /// What a writer asks for. A paragraph is named by its id, and where its text is meant by its rev too. Places are bytes of the
 /// text, from 0 on.
@@ -43,6 +41,19 @@ pub enum Edit {
         id: u64,
         rev: u64,
     },
+}
+
+impl Edit {
+    /// The id of the paragraph that is named.
+    fn named(&self) -> Option<u64>
+        ensures { result ≡ named_by self.now }
+    {
+        match self {
+            Edit::Replace { id, .. } => Some(*id),
+            Edit::Insert { before, .. } => *before,
+            Edit::Remove { id, .. } => Some(*id),
+        }
+    }
 }
 
 /// Why an edit is refused, in this order.
@@ -90,7 +101,88 @@ pub fn apply(
     edit: &Edit,
 ) -> Result<Paragraphs, EditRefusal>
     ensures applied { IfOk result (Applies version next_id paragraphs.now edit.now) }
-    ensures refused { IfErr result (IsTold (first_refusal paragraphs.now edit.now)) }
+    ensures refused { IfErr result (IsDueOr OutOfMemory (first_refusal paragraphs.now edit.now)) }
+    ensures kept { AreValid version next_id paragraphs.now → IfOk result (AreValid (version + 1) (next_id_after next_id edit.now)) }
+{
+    let place = place_named(paragraphs, edit);
+    apply_at(alloc, paragraphs, version, next_id, edit, place)
+}
+
+/// The same list, of paragraphs whose ids are distinct. The paragraph that the edit names is looked for at `near` first; where it
+/// stands there no other is looked at.
+pub fn apply_near(
+    alloc: Global,
+    paragraphs: &Paragraphs,
+    version: u64,
+    next_id: u64,
+    edit: &Edit,
+    near: usize,
+) -> Result<Paragraphs, EditRefusal>
+    requires { HaveOwnIds paragraphs.now }
+    ensures applied { IfOk result (Applies version next_id paragraphs.now edit.now) }
+    ensures refused { IfErr result (IsDueOr OutOfMemory (first_refusal paragraphs.now edit.now)) }
+    ensures kept { AreValid version next_id paragraphs.now → IfOk result (AreValid (version + 1) (next_id_after next_id edit.now)) }
+{
+    let place = place_named_near(paragraphs, edit, near);
+    apply_at(alloc, paragraphs, version, next_id, edit, place)
+}
+
+/// What is kept beside each paragraph, behind an edit: `new` for the paragraph that it touches, and for all others what they had. The
+/// paragraph that the edit names is looked for at `near` first.
+pub fn kept_beside<T: Copied + Drop>(
+    alloc: Global,
+    paragraphs: &Paragraphs,
+    edit: &Edit,
+    near: usize,
+    kept: &SharedItems<T>,
+    new: T,
+) -> Result<SharedItems<T>, NoMemory>
+    requires own { HaveOwnIds paragraphs.now }
+    requires beside { length kept.now ≡ length paragraphs.now }
+    ensures { IfOk result (λ made. made ≡ kept_after new paragraphs.now kept.now edit.now) }
+{
+    match (edit, place_named_near(paragraphs, edit, near)) {
+        (Edit::Insert { before: None, .. }, _) => kept.inserted(alloc, kept.len(), new),
+        (_, None) => kept.copy(alloc),
+        (Edit::Replace { .. }, Some(place)) => kept.replaced(alloc, place, new),
+        (Edit::Insert { .. }, Some(place)) => kept.inserted(alloc, place, new),
+        (Edit::Remove { .. }, Some(place)) => kept.removed(alloc, place),
+    }
+}
+
+/// Where the paragraph stands that an edit names.
+fn place_named(paragraphs: &Paragraphs, edit: &Edit) -> Option<usize>
+    ensures { result ≡ named_place paragraphs.now edit.now }
+{
+    match edit.named() {
+        None => None,
+        Some(id) => paragraphs.place_of(id),
+    }
+}
+
+/// The same, looked for at a place first.
+fn place_named_near(paragraphs: &Paragraphs, edit: &Edit, near: usize) -> Option<usize>
+    requires { HaveOwnIds paragraphs.now }
+    ensures { result ≡ named_place paragraphs.now edit.now }
+{
+    match edit.named() {
+        None => None,
+        Some(id) => paragraphs.place_near(id, near),
+    }
+}
+
+/// The list that an edit makes, where the paragraph that it names stands at this place, or none does.
+fn apply_at(
+    alloc: Global,
+    paragraphs: &Paragraphs,
+    version: u64,
+    next_id: u64,
+    edit: &Edit,
+    place: Option<usize>,
+) -> Result<Paragraphs, EditRefusal>
+    requires { place ≡ named_place paragraphs.now edit.now }
+    ensures applied { IfOk result (Applies version next_id paragraphs.now edit.now) }
+    ensures refused { IfErr result (IsDueOr OutOfMemory (first_refusal paragraphs.now edit.now)) }
     ensures kept { AreValid version next_id paragraphs.now → IfOk result (AreValid (version + 1) (next_id_after next_id edit.now)) }
 {
     match edit {
@@ -101,18 +193,38 @@ pub fn apply(
             to,
             text,
         } => {
+            let named = Named {
+                id: *id,
+                rev: *rev,
+                place,
+            };
             let span = Span {
                 from: *from as usize,
                 to: *to as usize,
             };
-            replace(alloc, paragraphs, version, *id, *rev, span, text.as_str())
+            replace(alloc, paragraphs, version, named, span, text.as_str())
         }
         Edit::Insert { before, text } => {
             let text = text.as_str();
-            insert(alloc, paragraphs, version, next_id, *before, text)
+            insert(alloc, paragraphs, version, next_id, *before, place, text)
         }
-        Edit::Remove { id, rev } => remove(alloc, paragraphs, *id, *rev),
+        Edit::Remove { id, rev } => {
+            let named = Named {
+                id: *id,
+                rev: *rev,
+                place,
+            };
+            remove(alloc, paragraphs, named)
+        }
     }
+}
+
+/// The paragraph that an edit names: its id, the rev that it is to have, and where it stands.
+#[derive(Clone, Copy, Debug)]
+struct Named {
+    id: u64,
+    rev: u64,
+    place: Option<usize>,
 }
 
 /// The bytes of a text from one place up to another.
@@ -127,37 +239,39 @@ fn replace(
     alloc: Global,
     paragraphs: &Paragraphs,
     version: u64,
-    id: u64,
-    rev: u64,
+    named: Named,
     span: Span,
     put: &str,
 ) -> Result<Paragraphs, EditRefusal>
-    ensures applied { IfOk result (Replaces version paragraphs.now id rev span.from span.to put.now) }
-    ensures refused { IfErr result (IsTold (first_refusal paragraphs.now (Replace id rev span.from span.to put.now))) }
+    requires { named.place ≡ place_of named.id paragraphs.now }
+    ensures applied { IfOk result (Replaces version paragraphs.now named.id named.rev span.from span.to put.now) }
+    ensures refused { IfErr result (IsDueOr OutOfMemory (first_refusal paragraphs.now (Replace named.id named.rev span.from span.to put.now))) }
 {
-    let (place, old) = current(paragraphs, id, rev)?;
+    let (place, old) = current(paragraphs, named)?;
     let text = splice(alloc, old.text.as_str(), span, put)?;
     let para = Para {
-        id,
+        id: named.id,
         rev: version,
         text,
     };
     Ok(paragraphs.replaced(alloc, place, para)?)
 }
 
-/// The list into which a paragraph is put.
+/// The list into which a paragraph is put, before another one or at the end.
 fn insert(
     alloc: Global,
     paragraphs: &Paragraphs,
     version: u64,
     next_id: u64,
     before: Option<u64>,
+    place: Option<usize>,
     put: &str,
 ) -> Result<Paragraphs, EditRefusal>
+    requires { place ≡ option_and_then (λ id. place_of id paragraphs.now) before }
     ensures applied { IfOk result (Inserts version next_id paragraphs.now before put.now) }
-    ensures refused { IfErr result (IsTold (first_refusal paragraphs.now (Insert before put.now))) }
+    ensures refused { IfErr result (IsDueOr OutOfMemory (first_refusal paragraphs.now (Insert before put.now))) }
 {
-    let place = gap(paragraphs, before)?;
+    let place = gap(paragraphs, before, place)?;
     check_entry(paragraphs, put)?;
     let para = Para {
         id: next_id,
@@ -168,36 +282,34 @@ fn insert(
 }
 
 /// The list from which a paragraph is taken out.
-fn remove(
-    alloc: Global,
-    paragraphs: &Paragraphs,
-    id: u64,
-    rev: u64,
-) -> Result<Paragraphs, EditRefusal>
-    ensures applied { IfOk result (Removes paragraphs.now id rev) }
-    ensures refused { IfErr result (IsTold (first_refusal paragraphs.now (Remove id rev))) }
+fn remove(alloc: Global, paragraphs: &Paragraphs, named: Named) -> Result<Paragraphs, EditRefusal>
+    requires { named.place ≡ place_of named.id paragraphs.now }
+    ensures applied { IfOk result (Removes paragraphs.now named.id named.rev) }
+    ensures refused { IfErr result (IsDueOr OutOfMemory (first_refusal paragraphs.now (Remove named.id named.rev))) }
 {
-    let (place, _) = current(paragraphs, id, rev)?;
+    let (place, _) = current(paragraphs, named)?;
     Ok(paragraphs.removed(alloc, place)?)
 }
 
-/// The paragraph with an id and a rev, and its place.
-fn current(paragraphs: &Paragraphs, id: u64, rev: u64) -> Result<(usize, &Para), EditRefusal>
-    ensures found { IfOk result (λ found. IsFoundAt paragraphs.now id found.0 found.1.now × (found.1.now.rev ≡ rev)) }
-    ensures refused { IfErr result (λ refusal. gone_or id paragraphs.now (λ touched. behind touched rev) ≡ Some refusal) }
+/// The paragraph that is named, if it has the rev that it is to have, and its place.
+fn current(paragraphs: &Paragraphs, named: Named) -> Result<(usize, &Para), EditRefusal>
+    requires { named.place ≡ place_of named.id paragraphs.now }
+    ensures found { IfOk result (λ found. IsFoundAt paragraphs.now named.id found.0 found.1.now × (found.1.now.rev ≡ named.rev)) }
+    ensures refused { IfErr result (λ refusal. gone_or named.id paragraphs.now (λ touched. behind touched named.rev) ≡ Some refusal) }
 {
-    match found(paragraphs, id) {
-        None => Err(EditRefusal::Gone { id }),
-        Some((place, para)) if para.rev == rev => Ok((place, para)),
+    match found(paragraphs, named) {
+        None => Err(EditRefusal::Gone { id: named.id }),
+        Some((place, para)) if para.rev == named.rev => Ok((place, para)),
         Some((_, para)) => Err(EditRefusal::Behind { rev: para.rev }),
     }
 }
 
-/// The paragraph with an id, and its place.
-fn found(paragraphs: &Paragraphs, id: u64) -> Option<(usize, &Para)>
-    ensures { MatchOption result (with_id id paragraphs.now ≡ None) (λ found. IsFoundAt paragraphs.now id found.0 found.1.now) }
+/// The paragraph that is named, and its place.
+fn found(paragraphs: &Paragraphs, named: Named) -> Option<(usize, &Para)>
+    requires { named.place ≡ place_of named.id paragraphs.now }
+    ensures { MatchOption result (with_id named.id paragraphs.now ≡ None) (λ found. IsFoundAt paragraphs.now named.id found.0 found.1.now) }
 {
-    match paragraphs.place_of(id) {
+    match named.place {
         None => None,
         Some(place) => match paragraphs.get(place) {
             None => None,
@@ -206,15 +318,20 @@ fn found(paragraphs: &Paragraphs, id: u64) -> Option<(usize, &Para)>
     }
 }
 
-/// The place before which a paragraph is put, where one is named or none.
-fn gap(paragraphs: &Paragraphs, before: Option<u64>) -> Result<usize, EditRefusal>
+/// The place before which a paragraph is put, where the one that is named stands at a place, or none is.
+fn gap(
+    paragraphs: &Paragraphs,
+    before: Option<u64>,
+    place: Option<usize>,
+) -> Result<usize, EditRefusal>
+    requires { place ≡ option_and_then (λ id. place_of id paragraphs.now) before }
     ensures found { IfOk result (IsGap paragraphs.now before) }
     ensures passed { OnOk result (gone_before paragraphs.now before ≡ None) }
     ensures refused { IfErr result (λ refusal. gone_before paragraphs.now before ≡ Some refusal) }
 {
     match before {
         None => Ok(paragraphs.len()),
-        Some(id) => match paragraphs.place_of(id) {
+        Some(id) => match place {
             None => Err(EditRefusal::Gone { id }),
             Some(place) => Ok(place),
         },
@@ -224,8 +341,8 @@ fn gap(paragraphs: &Paragraphs, before: Option<u64>) -> Result<usize, EditRefusa
 /// Whether a text may be a paragraph of its own.
 fn check_entry(paragraphs: &Paragraphs, put: &str) -> Result<(), EditRefusal>
     ensures whole { OnOk result (HasNoBreak put.now) }
-    ensures short { OnOk result (length put.now ≤ 65536) }
-    ensures room { OnOk result (length paragraphs.now < 20000) }
+    ensures short { OnOk result (length put.now ≤ MOST_BYTES) }
+    ensures room { OnOk result (length paragraphs.now < MOST_PARAGRAPHS) }
     ensures passed { OnOk result (entry_refusal paragraphs.now put.now ≡ None) }
     ensures refused { IfErr result (λ refusal. entry_refusal paragraphs.now put.now ≡ Some refusal) }
 {
@@ -262,7 +379,7 @@ fn first_break(put: &str) -> Option<usize>
 
 /// Whether a paragraph may have so many bytes.
 fn check_length(size: usize) -> Result<(), EditRefusal>
-    ensures short { OnOk result (size ≤ 65536) }
+    ensures short { OnOk result (size ≤ MOST_BYTES) }
     ensures passed { OnOk result (too_long size ≡ None) }
     ensures refused { IfErr result (λ refusal. too_long size ≡ Some refusal) }
 {
@@ -276,7 +393,7 @@ fn check_length(size: usize) -> Result<(), EditRefusal>
 /// A text with a part of it replaced.
 fn splice(alloc: Global, old: &str, span: Span, put: &str) -> Result<Arc<Text>, EditRefusal>
     ensures made { IfOk result (λ made. IsSpliced old.now span.from span.to put.now (arc_value made)) }
-    ensures refused { IfErr result (IsTold (splice_refusal old.now span.from span.to put.now)) }
+    ensures refused { IfErr result (IsDueOr OutOfMemory (splice_refusal old.now span.from span.to put.now)) }
 {
     if !is_span(old, span) {
         return Err(EditRefusal::BadSpan {
@@ -315,6 +432,12 @@ fn shared(alloc: Global, text: &str) -> Result<Arc<Text>, NoMemory>
     Ok(Arc::new(alloc, Text::from_str(alloc, text)?)?)
 }
 
+/// An edit makes its list by the change that it is of the paragraphs, whose ids are distinct.
+pub fn edits_are_changes()
+    ensures { (version next_id : ℕ) (paragraphs after : List Paragraph) (edit : Edit) → HaveOwnIds paragraphs
+        → Applies version next_id paragraphs edit after → IsChanged paragraphs edit after }
+{}
+
 /// Where a list meets what is asked of it, each edit makes exactly one list, or has exactly one refusal, and never both; and the
 /// list that it makes meets the same with the next version and the next id.
 pub fn edits_are_decided()
@@ -326,6 +449,6 @@ pub fn edits_are_decided()
 
 /// The paragraphs of at most 20,000 texts meet what is asked of a list, if each text has at most 65,536 bytes and no line feed.
 pub fn openings_are_valid()
-    ensures { (texts : List (List ℕ)) → length texts ≤ 20000 → AllByRecursion (λ text. (length text ≤ 65536) × HasNoBreak text) texts
+    ensures { (texts : List (List ℕ)) → length texts ≤ MOST_PARAGRAPHS → AllByRecursion (λ text. (length text ≤ MOST_BYTES) × HasNoBreak text) texts
         → AreValid 1 (length texts) (numbered_from 0 texts) }
 {}

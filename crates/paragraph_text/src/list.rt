@@ -3,7 +3,7 @@
 ghost use Rattle.std.specs.Prelude.{◌≡◌, ◌<◌, ◌≤◌, ◌==◌, length, position, slice_get, slice_set, IfOk};
 ghost use Rattle.std.specs.List.{insert, remove};
 ghost use Rattle.std.specs.Option.{option_copied};
-ghost use Rattle.paragraph_text.specs.Paragraphs.{numbered_from};
+ghost use Rattle.paragraph_text.specs.Paragraphs.{HaveOwnIds, numbered_from};
 
 use lists::{Copied, NoMemory, SharedItems, Walk};
 use std::alloc::Global;
@@ -108,6 +108,18 @@ impl Paragraphs {
         // There are no more places than a usize counts.
         let _count = self.kept.len();
         self.kept.iter().position(|para| para.id == id)
+    }
+
+    /// The place of the paragraph with an id, where no id stands twice. It looks at the place `near` first, and goes over the ids
+    /// only where the paragraph does not stand there.
+    pub fn place_near(&self, id: u64, near: usize) -> Option<usize>
+        requires { HaveOwnIds self.now }
+        ensures { result ≡ position (λ paragraph. paragraph.id == id) self.now }
+    {
+        match self.get(near) {
+            Some(para) if para.id == id => Some(near),
+            _ => self.place_of(id),
+        }
     }
 
     /// The list with another paragraph in place of the one with this place.

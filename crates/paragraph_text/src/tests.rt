@@ -1,5 +1,8 @@
 //! What no clause says: that the definitions mean what they should, and that calls succeed.
 
+ghost use Rattle.std.specs.Prelude.{IfOk};
+ghost use Rattle.paragraph_text.specs.Paragraphs.{HaveOwnIds};
+
 use super::*;
 use lists::{Copied, NoMemory};
 use std::alloc::{AllocError, Global};
@@ -162,7 +165,10 @@ fn shown_around(
     format!(in alloc; "{before} {here} {behind}")
 }
 
-fn opening(alloc: Global, count: u64) -> Result<Paragraphs, NoMemory> {
+#[tactic(auto, using(crate::proofs::Kept::numbered_own))]
+fn opening(alloc: Global, count: u64) -> Result<Paragraphs, NoMemory>
+    ensures { IfOk result HaveOwnIds }
+{
     let mut texts = Vec::new(alloc);
     for _ in 0..count {
         texts.push(Text::from_str(alloc, "hé")?)?;
@@ -245,5 +251,62 @@ fn lengths(alloc: Global, count: u64) -> Result<(usize, usize), EditRefusal> {
 #[test]
 fn edits_follow_one_another(rt: HostRuntime) -> Result<(), Fail> {
     assert_eq!(rt; lengths(rt.alloc(), 20_000), Ok((20_000, 0)));
+    Ok(())
+}
+
+/// Each row has an edit of four paragraphs, all `hé`, as those above, and what comes of it, whatever place is looked at first.
+const EDITS_NEAR: &str = "
+put 2 0 0 3 a|2|1.0.hé 2.1.a 3.0.hé
+ins 2 a|2|1.0.hé 4.1.a 2.0.hé
+ins - a|4|3.0.hé 4.1.a -
+del 2 0|2|1.0.hé 3.0.hé -
+put 4 0 0 3 a|0|Gone 4
+put 2 1 0 3 a|0|Behind 0
+";
+
+fn edited_near(alloc: Global, edit: &str, near: usize) -> Result<Paragraphs, EditRefusal> {
+    let paragraphs = opening(alloc, 4)?;
+    let edit = edit_of(alloc, edit)?;
+    apply_near(alloc, &paragraphs, 1, 4, &edit, near)
+}
+
+fn outcome_near(
+    alloc: Global,
+    edit: &str,
+    near: usize,
+    place: usize,
+) -> Result<String, AllocError> {
+    match edited_near(alloc, edit, near) {
+        Ok(paragraphs) => shown_around(alloc, &paragraphs, place),
+        Err(refusal) => told(alloc, refusal),
+    }
+}
+
+#[test]
+fn a_hint_changes_no_edit(rt: HostRuntime) -> Result<(), Fail> {
+    let alloc = rt.alloc();
+    for row in EDITS_NEAR.lines().skip(1) {
+        let mut fields = row.split('|');
+        let edit = fields.next().unwrap_or("");
+        let place = fields.next().unwrap_or("").parse().unwrap_or(0);
+        let wanted = fields.next().unwrap_or("");
+        for near in 0..6 {
+            let made = outcome_near(alloc, edit, near, place)?;
+            assert_eq!(rt; made.as_str(), wanted, "{row} near {near}");
+        }
+    }
+    Ok(())
+}
+
+fn place_near(alloc: Global, id: u64, near: usize) -> Result<Option<usize>, NoMemory> {
+    Ok(opening(alloc, 4)?.place_near(id, near))
+}
+
+#[test]
+fn a_hint_changes_no_place(rt: HostRuntime) -> Result<(), Fail> {
+    for near in 0..6 {
+        assert_eq!(rt; place_near(rt.alloc(), 2, near), Ok(Some(2)));
+        assert_eq!(rt; place_near(rt.alloc(), 4, near), Ok(None));
+    }
     Ok(())
 }

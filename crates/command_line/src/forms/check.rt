@@ -1,10 +1,10 @@
 //! What `check` is asked for, and what it is to print, as far as the files let it.
 
-ghost use Rattle.std.specs.Prelude.{◌≡◌, ◌<◌, ◌≤◌, Some, IfOk, IsErrOf, map};
+ghost use Rattle.std.specs.Prelude.{◌≡◌, ◌<◌, ◌≤◌, Some, IsErrOf, map};
 ghost use Rattle.std.specs.String.{string_bytes};
 ghost use Rattle.document_report.specs.Given.{printed_as, printed_by};
 ghost use Rattle.input_lines.specs.Ends.{Reading};
-ghost use Rattle.command_line.specs.Due.{Found, Gives, IsFound, check_due, printed_due};
+ghost use Rattle.command_line.specs.Due.{Found, GivesDue, IsFound, check_due, printed_due};
 ghost use Rattle.command_line.specs.Ends.{EndsAs};
 ghost use Rattle.command_line.specs.Forms.{IsAnswerTo, IsUntouched, Met, form_of};
 ghost use Rattle.command_line.specs.Requests.{check_in};
@@ -14,15 +14,13 @@ ghost use Rattle.dictionary_swap.specs.declared.fault.LoadFault.TheVariants.{Fai
 
 use crate::ending::put_outcome;
 use crate::failure::Failure;
-use crate::loading::{load_document, load_speller};
+use crate::loading::{load_document, load_judge};
 use crate::requests::{Request, are_options};
 use document_report::{Output, Report, report};
-use lists::NoMemory;
 use outside::{Files, Sink};
 use paragraph_marks::Plain;
 use std::alloc::Global;
 use std::marker::Model;
-use std::sync::Arc;
 use word_verdict::Speller;
 
 /// The files that the words `check AFF DIC FILE` name. Contracts see their names.
@@ -93,36 +91,28 @@ fn outcome_of<F: Files>(
     files: &mut F,
 ) -> Result<Report, Failure>
     // It is what is due of some files, which are those that are told, where some are.
-    ensures due { (found : Found) × IsFound (F.told files.old) names.entry found × Gives printed_by (check_due found) result }
+    ensures due { (found : Found) × IsFound (F.told files.old) names.entry found × GivesDue printed_by (check_due found) result }
     ensures failed { IsErrOf result (Load Failed) → F.faults files.old < F.faults files.new }
     ensures same { F.told files.new ≡ F.told files.old }
     ensures count { F.faults files.old ≤ F.faults files.new }
 {
-    let speller = load_speller(alloc, files, names.aff, names.dic)?;
+    let mut judge = load_judge(alloc, files, names.aff, names.dic)?;
     let document = load_document(alloc, files, names.document)?;
-    report_by(alloc, speller, Output::Marks, &document)
+    report_by(alloc, &mut judge, Output::Marks, &document)
 }
 
 /// What is to be printed of a document by a dictionary.
 pub fn report_by(
     alloc: Global,
-    speller: Speller,
+    judge: &mut Plain<Speller>,
     output: Output,
     document: &[u8],
 ) -> Result<Report, Failure>
-    ensures due { Gives printed_by (printed_due (printed_as output) speller document.now) result }
+    ensures due { GivesDue printed_by (printed_due (printed_as output) judge.old document.now) result }
     ensures failed { ¬ (IsErrOf result (Load Failed)) }
 {
-    let mut judge = judge_of(alloc, speller)?;
-    match report(alloc, &mut judge, output, document) {
+    match report(alloc, judge, output, document) {
         Ok(report) => Ok(report),
         Err(fault) => Err(Failure::from(fault)),
     }
-}
-
-/// A dictionary, to be asked.
-fn judge_of(alloc: Global, speller: Speller) -> Result<Plain<Speller>, NoMemory>
-    ensures { IfOk result (λ judge. judge ≡ speller) }
-{
-    Ok(Plain::new(Arc::new(alloc, speller)?))
 }

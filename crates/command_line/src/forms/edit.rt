@@ -9,7 +9,7 @@ ghost use Rattle.console_board.specs.Consoles.{opened};
 ghost use Rattle.console_board.specs.Transcripts.{IsThere};
 ghost use Rattle.dictionary_swap.specs.Loads.{DictionaryFiles};
 ghost use Rattle.dictionary_swap.specs.declared.fault.LoadFault.TheVariants.{Failed};
-ghost use Rattle.command_line.specs.Due.{Gives, dictionary_due};
+ghost use Rattle.command_line.specs.Due.{GivesDue, dictionary_due};
 ghost use Rattle.command_line.specs.Ends.{EndsAs};
 ghost use Rattle.command_line.specs.Forms.{IsAnswerTo, IsDialogue, Met, end_of, form_of};
 ghost use Rattle.command_line.specs.Requests.{edit_in};
@@ -21,17 +21,11 @@ use crate::failure::Failure;
 use crate::loading::load_speller;
 use crate::requests::{Request, are_options};
 use console_board::{Console, quits_are_short};
-use input_lines::{ReadingEnd, answer_lines, fitting_inputs_are_read};
+use input_lines::{INPUT_LIMIT, LINE_LIMIT, ReadingEnd, answer_lines, fitting_inputs_are_read};
 use outside::{Files, Sink, Source};
 use std::alloc::Global;
 use std::marker::Model;
 use word_verdict::Speller;
-
-/// How many bytes are read of an input at most.
-const INPUT_LIMIT: u64 = 4_294_967_295;
-
-/// How long a line of it may be, in bytes.
-const LINE_LIMIT: u64 = 131_072;
 
 /// The files of a dictionary, as the words `edit AFF DIC` name them. Contracts see their names.
 #[derive(Drop)]
@@ -112,7 +106,7 @@ fn open_console<F: Files>(
 ) -> Result<Console<Speller>, Failure>
     // Its dictionary is what is due of some files, which are those that are told, where some are.
     ensures due { (there : DictionaryFiles) × IsThere (F.told files.old) names.entry.aff names.entry.dic there
-        × Gives (λ (console : Console Speller). (console_of console.board).lexicon) (dictionary_due there) result }
+        × GivesDue (λ (console : Console Speller). (console_of console.board).lexicon) (dictionary_due there) result }
     ensures opens { IfOk result (λ console. console_of console.board ≡ opened (console_of console.board).lexicon) }
     ensures fresh { IfOk result (λ console. furthest_point console.board ≡ 0) }
     ensures failed { IsErrOf result (Load Failed) → F.faults files.old < F.faults files.new }
@@ -166,7 +160,9 @@ fn end_of(ended: ReadingEnd) -> Option<End>
         ReadingEnd::Finished => Some(End::Quiet),
         ReadingEnd::Interrupted => Some(End::Failed(Failure::Input)),
         ReadingEnd::TooMuch => Some(End::Failed(Failure::Limit { limit: INPUT_LIMIT })),
-        ReadingEnd::LongLine => Some(End::Failed(Failure::Limit { limit: LINE_LIMIT })),
+        ReadingEnd::LongLine => Some(End::Failed(Failure::Limit {
+            limit: LINE_LIMIT as u64,
+        })),
         ReadingEnd::NoMemory => Some(End::Failed(Failure::NoMemory)),
         ReadingEnd::SinkFailed => None,
     }

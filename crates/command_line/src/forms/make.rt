@@ -5,7 +5,7 @@ ghost use Rattle.std.specs.String.{string_bytes};
 ghost use Rattle.outside.specs.Files.{Folder};
 ghost use Rattle.document_report.specs.Given.{printed_by};
 ghost use Rattle.input_lines.specs.Ends.{Reading};
-ghost use Rattle.command_line.specs.Due.{Gives, HasMade, make_due};
+ghost use Rattle.command_line.specs.Due.{GivesDue, HasMade, make_due};
 ghost use Rattle.command_line.specs.Ends.{EndsAs};
 ghost use Rattle.command_line.specs.Forms.{IsAnswerTo, IsUntouched, Met, form_of};
 ghost use Rattle.command_line.specs.Requests.{make_in, of_numbers};
@@ -16,7 +16,7 @@ ghost use Rattle.dictionary_swap.specs.declared.fault.LoadFault.TheVariants.{Fai
 use crate::ending::put_outcome;
 use crate::failure::Failure;
 use crate::forms::check::report_by;
-use crate::loading::load_speller;
+use crate::loading::load_judge;
 use crate::requests::{Request, are_options};
 use document_report::{Output, Report};
 use lists::NoMemory;
@@ -93,16 +93,16 @@ pub fn make<K: Sink>(alloc: Global, making: Making, out: &mut K) -> u8
 /// The summary of a dictionary and a text that are made: the dictionary is loaded from memory, and the text is checked by
 /// it, as files are.
 fn outcome_of(alloc: Global, making: Making) -> Result<Report, Failure>
-    ensures due { Gives printed_by (make_due making) result }
+    ensures due { GivesDue printed_by (make_due making) result }
     ensures failed { ¬ (IsErrOf result (Load Failed)) }
 {
     let mut files = made_files(alloc, making.size)?;
-    let speller = load_speller(alloc, &mut files, "made.aff", "made.dic")?;
+    let mut judge = load_judge(alloc, &mut files, "made.aff", "made.dic")?;
     let text = make_text(alloc, making.start, making.size)?;
     let output = Output::Summary {
         entries: making.size,
     };
-    report_by(alloc, speller, output, &text)
+    report_by(alloc, &mut judge, output, &text)
 }
 
 /// The files of the dictionary that is made, in memory.

@@ -5,6 +5,7 @@ ghost use Rattle.std.specs.Option.{option_map};
 ghost use Rattle.paragraph_text.specs.declared.edits.Edit.TheVariants.{Replace};
 ghost use Rattle.edit_core.specs.Events.{AnEdit, event_of};
 ghost use Rattle.console_board.specs.BoardAnswers.{IsNamed, IsWholeAt, PutsWhole, event_for, gap_at, paragraph_at};
+ghost use Rattle.paragraph_text.specs.declared.limits.TheConstants.{MOST_PARAGRAPHS};
 
 use super::Console;
 use console_lang::Command;
@@ -127,10 +128,10 @@ impl<J: Judge + Drop> Console<J> {
     /// How many paragraphs there are.
     pub(super) fn count(&self) -> u64
         ensures count { result ≡ length self.now.board.paragraphs }
-        ensures few { result ≤ 20000 }
+        ensures few { result ≤ MOST_PARAGRAPHS }
     {
         self.board_is_valid();
-        self.board.progress().paragraphs
+        self.board.versions().paragraphs
     }
 }
 

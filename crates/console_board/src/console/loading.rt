@@ -4,7 +4,8 @@ ghost use Rattle.std.specs.Prelude.{◌≡◌, ◌+◌, ◌<◌, ◌≤◌, ◌^
 ghost use Rattle.edit_core.specs.Runs.{furthest_point};
 ghost use Rattle.console_board.specs.Boards.{board_after, console_of};
 ghost use Rattle.console_board.specs.Consoles.{fault_reply, loaded};
-ghost use Rattle.console_board.specs.Transcripts.{Is, Loads, failures_in};
+ghost use Rattle.console_board.specs.Transcripts.{HasOutcome, Loads, failures_in};
+ghost use Rattle.edit_core.specs.declared.limits.TheConstants.{MOST_MOVED};
 
 use super::answer::made;
 use super::{Console, Response};
@@ -26,9 +27,9 @@ impl Console<Speller> {
         aff: &str,
         dic: &str,
     ) -> Result<Response<Speller>, NoMemory>
-        requires room { furthest_point self.now.board + 40001 ≤ 2 ^ 62 }
+        requires room { furthest_point self.now.board + MOST_MOVED ≤ 2 ^ 62 }
         ensures does { IfOk result (λ response. Loads (F.told files.old) (console_of self.now.board) aff.now dic.now response.reply (console_of (board_after self.now.board response.next))) }
-        ensures room { IfOk result (λ response. furthest_point (board_after self.now.board response.next) ≤ furthest_point self.now.board + 40001) }
+        ensures room { IfOk result (λ response. furthest_point (board_after self.now.board response.next) ≤ furthest_point self.now.board + MOST_MOVED) }
         ensures failures { IfOk result (λ response. F.faults files.old + failures_in (response.reply ∷ []) ≤ F.faults files.new) }
         ensures same { F.told files.new ≡ F.told files.old }
         ensures count { F.faults files.old ≤ F.faults files.new }
@@ -42,16 +43,16 @@ impl Console<Speller> {
     /// What it comes to that a dictionary is put in force.
     fn put_in_force(&self, alloc: Global, speller: Speller) -> Result<Response<Speller>, NoMemory>
         requires room { furthest_point self.now.board < 2 ^ 62 }
-        ensures does { IfOk result (λ response. Is (loaded (console_of self.now.board) speller) response.reply (console_of (board_after self.now.board response.next))) }
-        ensures room { IfOk result (λ response. furthest_point (board_after self.now.board response.next) ≤ furthest_point self.now.board + 40001) }
+        ensures does { IfOk result (λ response. HasOutcome (loaded (console_of self.now.board) speller) response.reply (console_of (board_after self.now.board response.next))) }
+        ensures room { IfOk result (λ response. furthest_point (board_after self.now.board response.next) ≤ furthest_point self.now.board + MOST_MOVED) }
     {
         runs_are_short();
         self.board_is_valid();
         let judge = Arc::new(alloc, speller)?;
-        let next = made(alloc, &self.board, Event::Load { judge })?;
+        let next = made(alloc, &self.board, Event::Load { judge }, 0)?;
         Ok(Response {
             reply: Reply::Dict {
-                dict: next.progress().dict,
+                dict: next.versions().dict,
             },
             next: Some(next),
         })

@@ -4,8 +4,9 @@ ghost use Rattle.std.specs.Prelude.{◌≡◌, ◌+◌, ◌<◌, ◌≤◌, ◌^
 ghost use Rattle.std.specs.Arc.{arc_value};
 ghost use Rattle.edit_core.specs.Runs.{furthest_point};
 ghost use Rattle.console_board.specs.Boards.{board_after, console_of};
-ghost use Rattle.console_board.specs.Consoles.{settled, settled_stand, stand_at};
-ghost use Rattle.console_board.specs.Transcripts.{Is, is_no_files};
+ghost use Rattle.console_board.specs.Consoles.{settled, settled_state, state_at};
+ghost use Rattle.console_board.specs.Transcripts.{HasOutcome, is_no_files};
+ghost use Rattle.edit_core.specs.declared.limits.TheConstants.{MOST_MOVED};
 
 use super::answer::made;
 use super::{Console, Response};
@@ -21,23 +22,22 @@ use std::sync::Arc;
 use text_lines::Text;
 
 impl<J: Judge + Drop> Console<J> {
-    /// `settle`: checks each text that waits. Each check is an event of its own, whose paragraph is found by its id; so a settle of
-    /// n texts goes over n * n ids.
+    /// `settle`: checks each text that waits. Each check is an event of its own, whose paragraph is found at its place.
     pub(super) fn settle(&self, alloc: Global) -> Result<Response<J>, NoMemory>
-        requires room { furthest_point self.now.board + 40001 ≤ 2 ^ 62 }
-        ensures does { IfOk result (λ response. Is (settled (console_of self.now.board)) response.reply (console_of (board_after self.now.board response.next))) }
+        requires room { furthest_point self.now.board + MOST_MOVED ≤ 2 ^ 62 }
+        ensures does { IfOk result (λ response. HasOutcome (settled (console_of self.now.board)) response.reply (console_of (board_after self.now.board response.next))) }
         ensures files { IfOk result (λ response. is_no_files response.reply ≡ false) }
         ensures room { IfOk result (λ response. furthest_point (board_after self.now.board response.next) ≤ furthest_point self.now.board) }
     {
         self.board_is_valid();
-        let progress = self.board.progress();
+        let versions = self.board.versions();
         let mut next = None;
-        for place in 0..progress.paragraphs as usize {
-            next = self.settle_at(alloc, next, place, progress.dict)?;
+        for place in 0..versions.paragraphs as usize {
+            next = self.settle_at(alloc, next, place, versions.dict)?;
         }
         Ok(Response {
             reply: Reply::Done {
-                text: progress.text,
+                text: versions.text,
             },
             next,
         })
@@ -56,7 +56,7 @@ impl<J: Judge + Drop> Console<J> {
         requires dict { dict ≡ (board_after self.now.board next).dict }
         requires room { furthest_point (board_after self.now.board next) < 2 ^ 62 }
         ensures does { IfOk result (λ later. let console = console_of (board_after self.now.board next) in console_of (board_after self.now.board later)
-            ≡ record console { stands = set console.stands place (settled_stand (stand_at console place)) }) }
+            ≡ record console { states = set console.states place (settled_state (state_at console place)) }) }
         ensures room { IfOk result (λ later. furthest_point (board_after self.now.board later) ≤ furthest_point (board_after self.now.board next)) }
     {
         let board = next.as_ref().unwrap_or(&self.board);
@@ -78,7 +78,7 @@ fn settled_at<J: Judge + Drop>(
     requires dict { dict ≡ board.now.dict }
     requires room { furthest_point board.now < 2 ^ 62 }
     ensures does { IfOk result (λ next. let console = console_of board.now in console_of (board_after board.now next)
-        ≡ record console { stands = set console.stands place (settled_stand (stand_at console place)) }) }
+        ≡ record console { states = set console.states place (settled_state (state_at console place)) }) }
     ensures room { IfOk result (λ next. furthest_point (board_after board.now next) ≤ furthest_point board.now) }
 {
     checks_are_fit();
@@ -101,7 +101,7 @@ fn settled_at<J: Judge + Drop>(
         dict,
         checked: check_all(alloc, board.judge(), view.text)?,
     };
-    Ok(Some(made(alloc, board, event)?))
+    Ok(Some(made(alloc, board, event, place)?))
 }
 
 /// The check of all words of a text.

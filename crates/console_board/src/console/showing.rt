@@ -24,14 +24,14 @@ impl<J: Judge + Drop> Console<J> {
         ensures files { IfOk result (λ response. is_no_files response.reply ≡ false) }
     {
         self.board_is_valid();
-        let progress = self.board.progress();
+        let versions = self.board.versions();
         let mut paragraphs = Items::new(alloc);
-        for place in 0..progress.paragraphs as usize {
+        for place in 0..versions.paragraphs as usize {
             paragraphs.push(self.shown_at(alloc, place)?)?;
         }
         Ok(Response::stays(Reply::Shown {
-            text: progress.text,
-            dict: progress.dict,
+            text: versions.text,
+            dict: versions.dict,
             paragraphs,
         }))
     }

@@ -5,12 +5,12 @@ use Rattle.document_report.specs.Texts.{lent, texts_in}
 use Rattle.document_report.proofs.LineLemmas.{few-found, line-taken, many-found, no-texts, none-left, one-more, some-left}
 use Rattle.document_report.proofs.paragraphs.paragraphs_in.Goals as goal
 
-pub returns-then-len-eq-COUNT_LIMIT-clause-due : goal.returns-then-len-eq-COUNT_LIMIT-clause-due
-returns-then-len-eq-COUNT_LIMIT-clause-due c =
+pub returns-then-len-eq-MOST_PARAGRAPHS-clause-due : goal.returns-then-len-eq-MOST_PARAGRAPHS-clause-due
+returns-then-len-eq-MOST_PARAGRAPHS-clause-due c =
     let l = c.loop-rest in
     let texts = l.paragraphs.items in
     let some = some-left (length l.rest.now) c.is_empty.result c.is_empty.ensures c.loop-rest-test.true in
-    many-found texts (texts_in c.args.text.now) (texts_in l.rest.now) (one-more l.rest.now some) l.invariant.lines (omega (arith, c.len.ensures, c.if-len-eq-COUNT_LIMIT.true))
+    many-found texts (texts_in c.args.text.now) (texts_in l.rest.now) (one-more l.rest.now some) l.invariant.lines (omega (arith, c.len.ensures, c.if-len-eq-MOST_PARAGRAPHS.true))
 
 pub first_line-requires : goal.first_line-requires
 first_line-requires c = some-left (length c.loop-rest.rest.now) c.is_empty.result c.is_empty.ensures c.loop-rest-test.true
@@ -24,7 +24,7 @@ loop-rest-preserved c =
     let more = length_push texts line in
     let before = c.len.ensures in
     let few = l.invariant.few in
-    let other = c.if-len-eq-COUNT_LIMIT.false in
+    let other = c.if-len-eq-MOST_PARAGRAPHS.false in
     record {
       lines = ap (λ found. lent found ++ texts_in c.first_line.result.1.now) c.in_ok-push.ensures.items
           ∙ line-taken texts line (texts_in c.first_line.result.1.now) (texts_in c.args.text.now) (texts_in l.rest.now) c.first_line.ensures.first l.invariant.lines;

@@ -1,8 +1,8 @@
 -- Each turn goes on from what was heard before.
 use Rattle.std.proofs.Common.{◌≡◌, ◌≤◌, ◌+◌, arith, length, take, length-take}
-use Rattle.input_lines.specs.Lines.{input_limit}
 use Rattle.input_lines.proofs.TurnLemmas.{taken-none}
 use Rattle.input_lines.proofs.reading.read_all.Goals as goal
+use Rattle.input_lines.specs.declared.limits.TheConstants.{INPUT_LIMIT}
 
 pub loop-taken-init : goal.loop-taken-init
 loop-taken-init g c =
@@ -16,7 +16,7 @@ pub loop-taken-preserved : goal.loop-taken-preserved
 loop-taken-preserved g c =
     let l = c.loop-taken in
     let turn = c.in-Ok.ensures in
-    let short : l.taken + length (take c.min-room.result l.buffer) ≤ input_limit =
+    let short : l.taken + length (take c.min-room.result l.buffer) ≤ INPUT_LIMIT =
     omega (arith, length-take c.min-room.result l.buffer, c.min-room.ensures, c.loop-taken-test.true) in
     record {
       few = omega (arith, turn.few, short);
@@ -33,5 +33,5 @@ returns-in-Err-clause-over g c =
 pub returns-clause-over : goal.returns-clause-over
 returns-clause-over g c =
     let l = c.loop-taken in
-    let full : l.taken ≡ input_limit = omega (arith, c.loop-taken-test.false, l.invariant.few) in
+    let full : l.taken ≡ INPUT_LIMIT = omega (arith, c.loop-taken-test.false, l.invariant.few) in
     c.end_at_limit.ensures.over (c.args.responder.now, c.args.beside.now) _ _ (rw full at l.invariant.by_now)

@@ -1,31 +1,31 @@
--- The gap before a paragraph is at the first place at which there is one with its id.
-use Rattle.std.proofs.Common.{◌∙◌, ◌==◌, ◌<◌, sym, ap, subst, length, drop, Bool, None, Some, arith}
-use Rattle.std.specs.Option.{option_map_or}
+-- The gap before a paragraph is at the place at which it stands.
+use Rattle.std.proofs.Common.{◌≡◌, ◌∙◌, ◌==◌, sym, ap, subst, Bool, None, Some}
+use Rattle.std.specs.Option.{option_and_then, option_map_or}
+use Rattle.paragraph_text.specs.Laws.{found-none, some-at}
 use Rattle.paragraph_text.specs.Paragraphs.{Paragraph}
-use Rattle.paragraph_text.specs.Edits.{BeginsWith, gone_before}
+use Rattle.paragraph_text.specs.Edits.{IsGap, gone_before, place_of}
 use Rattle.paragraph_text.specs.declared.edits.EditRefusal.TheVariants.{Gone}
-use Rattle.paragraph_text.proofs.Places.{found-none, gap-at, passes-there, place-within}
+use Rattle.paragraph_text.proofs.Decided.{asked-here, gap-before}
 use Rattle.paragraph_text.proofs.edits.gap.Goals as goal
 
-pub returns-in-None-place_of-clause-refused : goal.returns-in-None-place_of-clause-refused
-returns-in-None-place_of-clause-refused c =
-    let p : Paragraph → Bool = λ paragraph. paragraph.id == c.in-Some.id in
-    ap (gone_before c.args.paragraphs.now) c.in-Some.is
-    ∙ ap (λ o. option_map_or (λ _. None) o (Some (Gone c.in-Some.id))) (found-none p c.args.paragraphs.now (sym c.place_of.ensures ∙ c.in-None-place_of.is))
+pub returns-in-None-place-clause-refused : goal.returns-in-None-place-clause-refused
+returns-in-None-place-clause-refused c =
+    let rows = c.args.paragraphs.now in
+    let id = c.in-Some.id in
+    let p : Paragraph → Bool = λ paragraph. paragraph.id == id in
+    let none : place_of id rows ≡ None = ap (option_and_then (λ n. place_of n rows)) (sym c.in-Some.is) ∙ sym c.requires ∙ c.in-None-place.is in
+    ap (gone_before rows) c.in-Some.is ∙ ap (λ o. option_map_or (λ _. None) o (Some (Gone id))) (found-none p rows none)
 
-pub returns-in-Some-place_of-clause-found : goal.returns-in-Some-place_of-clause-found
-returns-in-Some-place_of-clause-found c =
-    let p : Paragraph → Bool = λ paragraph. paragraph.id == c.in-Some.id in
-    let place = c.in-Some-place_of.place in
-    let within : place < length c.args.paragraphs.now = place-within p c.args.paragraphs.now place (sym c.place_of.ensures ∙ c.in-Some-place_of.is) in
-    record {
-      inside = omega (arith, within);
-      begins = subst (λ before. BeginsWith before (drop place c.args.paragraphs.now)) (sym c.in-Some.is)
-          (gap-at c.args.paragraphs.now c.in-Some.id place (sym c.place_of.ensures ∙ c.in-Some-place_of.is));
-    }
+pub returns-in-Some-place-clause-found : goal.returns-in-Some-place-clause-found
+returns-in-Some-place-clause-found c =
+    let rows = c.args.paragraphs.now in
+    let place : place_of c.in-Some.id rows ≡ Some c.in-Some-place.place =
+    ap (option_and_then (λ n. place_of n rows)) (sym c.in-Some.is) ∙ sym c.requires ∙ c.in-Some-place.is in
+    subst (λ before. IsGap rows before c.in-Some-place.place) (sym c.in-Some.is) (gap-before (some-at rows c.in-Some.id c.in-Some-place.place place).1)
 
-pub returns-in-Some-place_of-clause-passed : goal.returns-in-Some-place_of-clause-passed
-returns-in-Some-place_of-clause-passed c =
-    let p : Paragraph → Bool = λ paragraph. paragraph.id == c.in-Some.id in
-    ap (gone_before c.args.paragraphs.now) c.in-Some.is
-    ∙ passes-there p c.args.paragraphs.now c.in-Some-place_of.place (Some (Gone c.in-Some.id)) (sym c.place_of.ensures ∙ c.in-Some-place_of.is)
+pub returns-in-Some-place-clause-passed : goal.returns-in-Some-place-clause-passed
+returns-in-Some-place-clause-passed c =
+    let rows = c.args.paragraphs.now in
+    let place : place_of c.in-Some.id rows ≡ Some c.in-Some-place.place =
+    ap (option_and_then (λ n. place_of n rows)) (sym c.in-Some.is) ∙ sym c.requires ∙ c.in-Some-place.is in
+    ap (gone_before rows) c.in-Some.is ∙ asked-here (λ _. None) (some-at rows c.in-Some.id c.in-Some-place.place place).1

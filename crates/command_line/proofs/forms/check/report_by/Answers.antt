@@ -1,8 +1,7 @@
 -- The report is what is due, or why there is none.
-use Rattle.std.proofs.Common.{◌≡◌, ◌∙◌, ap, sym, subst, refl, Ok, Err, Result}
-use Rattle.spell_types.specs.declared.Lexicon.{Lexicon}
-use Rattle.document_report.specs.Documents.{FailsAs as ReportFails, document_due}
-use Rattle.document_report.specs.Given.{printed_as, printed_by}
+use Rattle.std.proofs.Common.{◌≡◌, ◌∙◌, ap, sym, subst, refl, Err, Result}
+use Rattle.document_report.specs.Documents.{document_due}
+use Rattle.document_report.specs.Given.{printed_as}
 use Rattle.document_report.specs.declared.printing.Report.{Report}
 use Rattle.document_report.specs.declared.fault.DocumentFault.{DocumentFault}
 use Rattle.document_report.specs.declared.fault.DocumentFault.TheVariants.{NoMemory as ReportWanting}
@@ -23,17 +22,14 @@ same-error one other result is also = cc
 
 pub returns-in-Ok-clause-due : goal.returns-in-Ok-clause-due
 unfolding printed_due
-returns-in-Ok-clause-due c =
-    ap (failing document_failure) (subst (λ (lexicon : Lexicon). document_due (printed_as c.args.output) lexicon c.args.document.now ≡ Ok (printed_by c.in-Ok.report))
-    c.in_ok-judge.ensures c.in-Ok.ensures.due)
+returns-in-Ok-clause-due c = ap (failing document_failure) c.in-Ok.ensures.due
 
-pub returns-clause-due : goal.returns-clause-due
+pub returns-in-Err-clause-due : goal.returns-in-Err-clause-due
 unfolding printed_due
-returns-clause-due c =
-    let due = document_due (printed_as c.args.output) c.args.speller c.args.document.now in
-    subst (FailsAs (printed_due (printed_as c.args.output) c.args.speller c.args.document.now)) (sym c.from.ensures)
-    (document-fails due c.in-Err.fault (subst (λ (lexicon : Lexicon). ReportFails (document_due (printed_as c.args.output) lexicon c.args.document.now) c.in-Err.fault)
-    c.in_ok-judge.ensures c.in-Err.ensures.due))
+returns-in-Err-clause-due c =
+    let due = document_due (printed_as c.args.output) c.args.judge.now c.args.document.now in
+    subst (FailsAs (printed_due (printed_as c.args.output) c.args.judge.now c.args.document.now)) (sym c.from.ensures)
+    (document-fails due c.in-Err.fault c.in-Err.ensures.due)
 
-pub returns-clause-failed : goal.returns-clause-failed
-returns-clause-failed c = λ is. no-load c.in-Err.fault (sym c.from.ensures ∙ same-error c.from.result (Load Failed) (Err c.from.result) refl is)
+pub returns-in-Err-clause-failed : goal.returns-in-Err-clause-failed
+returns-in-Err-clause-failed c = λ is. no-load c.in-Err.fault (sym c.from.ensures ∙ same-error c.from.result (Load Failed) (Err c.from.result) refl is)

@@ -19,7 +19,7 @@ loop-place-preserved g c =
 pub returns-clause-does : goal.returns-clause-does
 returns-clause-does g c =
     let board = c.args.self.now.board in
-    let few : length board.paragraphs ≤ c.loop-place.place = omega (arith, ap (λ p. p.paragraphs) c.progress-progress.ensures) in (
-      ap (λ p. Done p.text) c.progress-progress.ensures,
+    let few : length board.paragraphs ≤ c.loop-place.place = omega (arith, ap (λ p. p.paragraphs) c.versions-versions.ensures.versions) in (
+      ap (λ p. Done p.text) c.versions-versions.ensures.versions,
       settled-whole board (board_after board c.loop-place.next) c.loop-place.place c.board_is_valid.ensures few c.loop-place.invariant.console,
     )

@@ -1,8 +1,9 @@
 -- The first of the events that are left has its turn.
 use Rattle.std.proofs.Common.{◌≡◌, ◌∙◌, refl, sym, subst, [], map}
+use Rattle.std.proofs.lemmas.List.{nil_from_length}
 use Rattle.edit_core.specs.Events.{event_of}
 use Rattle.edit_core.specs.Runs.{Replays}
-use Rattle.edit_core.proofs.Replays.{first-fit, later-fit, later-made, none-left}
+use Rattle.edit_core.proofs.Replays.{first-fit, later-fit, later-made}
 use Rattle.edit_core.proofs.board.Board.replay.Goals as goal
 
 pub answered-requires : goal.answered-requires
@@ -23,5 +24,5 @@ loop-event-preserved g c =
 pub returns : goal.returns
 returns g c =
     let left = c.loop-event.event-iterator.rest in
-    let none : left.items ≡ [] = none-left left.items (sym left.ok.0 ∙ c.in-None.ensures.steps.0) in
+    let none : left.items ≡ [] = nil_from_length left.items (sym left.ok.0 ∙ c.in-None.ensures.steps.0) in
     c.loop-event.invariant.made c.loop-event.board (subst (λ es. Replays c.loop-event.board (map (event_of g.J.Judge.lexicon) es) c.loop-event.board) (sym none) refl)

@@ -11,7 +11,7 @@ pub returns-clause-does : goal.returns-clause-does
 returns-clause-does c =
     let board = c.args.self.now.board in
     let is = load-is {board = board} c.in_ok-next.ensures in (
-      ap (λ p. Dict p.dict) c.progress.ensures ∙ is.0,
+      ap (λ p. Dict p.dict) c.versions.ensures.versions ∙ is.0,
       is.1 ∙ ap (λ lexicon. (loaded (console_of board) lexicon).after) c.in_ok-judge.ensures.ok,
     )
 

@@ -3,7 +3,7 @@ use Rattle.std.proofs.Common.{◌≡◌, ◌∙◌, ◌++◌, drop, not, sym, ap
 use Rattle.word_cutter.specs.Runs.{has_some, words_after}
 use Rattle.paragraph_marks.specs.Stepping.{IsProgress, left_of}
 use Rattle.paragraph_marks.proofs.StepLemmas.{WentOn, went-on, left-before, no-words, now-words, words-behind, went-further, went-through}
-use Rattle.paragraph_marks.proofs.stepping.go_on.Goals as goal
+use Rattle.paragraph_marks.proofs.stepping.step_over.Goals as goal
 
 pub returns-then-has_word-clause-is : goal.returns-then-has_word-clause-is
 unfolding IsProgress
