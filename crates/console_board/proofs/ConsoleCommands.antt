@@ -1,7 +1,7 @@
 -- A command does what its event makes of the board, and each refusal of such an event has a reply.
-use Rattle.std.proofs.Common.{◌≡◌, ◌∙◌, inl, inr, refl, sym, ap, subst, ℕ, zero, suc, ◌+◌, ◌*◌, ◌<◌, ◌≤◌, ◌^◌, ◌==◌, Bool, true, false, cond, List, [], ◌∷◌, ◌++◌, length, map, set, take, drop, get_or, position, slice_get, ltb, leb, Option, None, Some, Result, Ok, Err, IfOk, append-nil, arith}
+use Rattle.std.proofs.Common.{◌≡◌, ◌∙◌, inl, inr, refl, sym, ap, subst, ℕ, suc, ◌+◌, ◌*◌, ◌<◌, ◌≤◌, ◌^◌, ◌==◌, Bool, true, false, cond, List, [], ◌∷◌, ◌++◌, length, map, set, take, drop, get_or, position, slice_get, ltb, leb, Option, None, Some, Result, Ok, Err, IfOk, append-nil, arith}
 use Rattle.std.proofs.Math.Seq.{drop-length}
-use Rattle.std.specs.List.{count_by, find, insert, position_or_len, remove, zip}
+use Rattle.std.specs.List.{count_by, insert, position_or_len, remove}
 use Rattle.std.specs.Option.{option_map, option_map_or, option_or}
 use Rattle.std.specs.Str.{IsUtf8}
 use Rattle.std.proofs.lemmas.Bool.{eq-eqb, eqb-true, false≢true, leb-true, lt-ltb}
@@ -33,6 +33,8 @@ use Rattle.edit_core.specs.declared.refusal.Refusal.{Refusal}
 use Rattle.edit_core.specs.declared.refusal.Refusal.TheVariants.{Gone, Spent}
 use Rattle.edit_core.specs.declared.state.Standing.{Standing}
 use Rattle.edit_core.specs.declared.state.Standing.TheVariants as standing
+use Rattle.edit_core.specs.Laws.{find-beside}
+use Rattle.paragraph_text.specs.Laws.{split-at}
 use Rattle.console_board.specs.BoardAnswers.{HasReply, IsAnswered, IsAsked, IsWholeAt, PutsWhole, event_for, gap_at, names_place, paragraph_at, reply_for}
 use Rattle.console_board.specs.Boards.{console_of, state_of}
 use Rattle.console_board.specs.Consoles.{Console, Outcome, TextState, Waiting, asked_from, at_place, index_of, inserted, remove_at, replace_at, splice_at, state_at, stopped_from, text_at}
@@ -85,15 +87,6 @@ whole-at board place paragraph at utf8 other is =
 
 -- ---- what is found of a paragraph by its id
 
-find-beside : {X Y : Type 0} (p : X → Bool) (xs : List X) (ys : List Y) (k : ℕ) (x : X) (y : Y)
-    → position_or_len p xs ≡ k → slice_get xs k ≡ Some x → slice_get ys k ≡ Some y
-    → find (λ (row : X × Y). p row.0) (zip xs ys) ≡ Some (x, y)
-find-beside p [] ys k x y is here beside = cc
-find-beside p (z ∷ xs) [] k x y is here beside = cc
-find-beside p (z ∷ xs) (w ∷ ys) zero x y is here beside = grind arith
-find-beside p (z ∷ xs) (w ∷ ys) (suc k) x y is here beside =
-    grind (arith, find-beside p xs ys k x y)
-
 -- what the core says of each board: a paragraph stands at the place of its id
 abbrev pub IdsArePlaces : Type 0
 IdsArePlaces = (board : Seen) (index : ℕ) (paragraph : Paragraph) → IsValidBoard board
@@ -138,11 +131,6 @@ record IsGap (board : Seen) (index : ℕ) (before : Option ℕ) : Type 0 where
 drop-at : {X : Type 0} (xs : List X) (k : ℕ) (x : X) → slice_get xs k ≡ Some x
     → drop k xs ≡ x ∷ drop (suc k) xs
 drop-at xs k x is = grind (arith, common_steps, gets)
-
--- a list is what stands before an item, the item, and what stands behind it
-split-at : {X : Type 0} (xs : List X) (k : ℕ) (x : X) → slice_get xs k ≡ Some x
-    → xs ≡ take k xs ++ x ∷ drop (suc k) xs
-split-at xs k x is = grind (arith, common_steps, gets)
 
 -- all bytes of a text become others
 all-spliced : (text put : List ℕ) → spliced text 0 (length text) put ≡ put
@@ -218,7 +206,7 @@ module _ (told : Option Folder) (by : ℕ) (board after : Seen) (reply : Reply) 
   -- an edit that is taken makes these paragraphs, and no others
   taken : (edit : Edit) (paragraphs : List Paragraph) (texts : List (List ℕ)) (stands : List TextState)
       → Told (AnEdit by edit) None
-      → Applies (board.text + 1) board.next_id board.paragraphs edit paragraphs
+      → Applies (board.text_version + 1) board.next_id board.paragraphs edit paragraphs
       → map (λ paragraph. paragraph.text) paragraphs ≡ texts
       → map state_of (kept_after standing.Waiting board.paragraphs board.standings edit) ≡ stands
       → Becomes (edited console texts stands)
@@ -227,7 +215,7 @@ module _ (told : Option Folder) (by : ℕ) (board after : Seen) (reply : Reply) 
         goes_on = is.step.goes_on;
         makes = record { paragraphs = paragraphs; applied = applies; after_is = refl };
       }) in (
-        is.reply_is ∙ ap (λ (b : Seen). Done b.text) (sym same),
+        is.reply_is ∙ ap (λ (b : Seen). Done b.text_version) (sym same),
         ap console_of (sym same) ∙ cc (texts-are, stands-are),
       )
 
@@ -269,7 +257,7 @@ module _ (told : Option Folder) (by : ℕ) (board after : Seen) (reply : Reply) 
         let text = paragraph.text in
         let made = spliced text from to put in
         let inside = slice_get_within board.paragraphs index paragraph here.at.paragraph_is in
-        let changed : Paragraph = record { id = paragraph.id; rev = board.text + 1; text = made } in
+        let changed : Paragraph = record { id = paragraph.id; rev = board.text_version + 1; text = made } in
         rw text-here (
         tested event (is_span text from to) (edits.BadSpan (length text)) (NoBadSpan (length text))
         _ _ refl (rw (here.named, own-rev) at answered)
@@ -308,7 +296,7 @@ module _ (told : Option Folder) (by : ℕ) (board after : Seen) (reply : Reply) 
 
     abbrev stood : TextState → Outcome
     stood stand = record {
-      reply = Done board.text;
+      reply = Done board.text_version;
       after = record console { states = set console.states index stand };
     }
 
@@ -328,7 +316,7 @@ module _ (told : Option Folder) (by : ℕ) (board after : Seen) (reply : Reply) 
         → Makes board event (moved becomes) → Becomes (stood (state_of becomes))
     moves event becomes is makes =
         let same = sym (is.only _ (record { goes_on = is.step.goes_on; makes = makes })) in (
-          is.reply_is ∙ ap (λ (b : Seen). Done b.text) same,
+          is.reply_is ∙ ap (λ (b : Seen). Done b.text_version) same,
           ap console_of same ∙ cc (map-set state_of board.standings index becomes),
         )
 
@@ -398,7 +386,7 @@ module _ (told : Option Folder) (by : ℕ) (board after : Seen) (reply : Reply) 
         let count = length board.paragraphs in
         let within = index-within place (count + 1) index place-is in
         let gap = subst (IsGap board index) same (gap-is index within) in
-        let new : Paragraph = record { id = board.next_id; rev = board.text + 1; text = put } in
+        let new : Paragraph = record { id = board.next_id; rev = board.text_version + 1; text = put } in
         let texts = insert console.texts index put in
         let stands = insert console.states index Waiting in
         let no-room : Outcome = record { reply = NoFull count; after = console } in
@@ -583,7 +571,7 @@ has-reply board event asked room =
 
 -- an event that a board takes is answered so, and has no refusal
 pub answered-taken : {board after : Seen} {event : SeenEvent} {reply : Reply}
-    → IsDecided board event → Step board event after → reply ≡ Done after.text
+    → IsDecided board event → Step board event after → reply ≡ Done after.text_version
     → IsAnswered board event (first_refusal board event) reply after
 answered-taken {board} {after} {event} {reply} decided step is =
     by decided (first_refusal board event) refl

@@ -26,11 +26,11 @@ stands-reloaded (standing.Parked ∷ standings) = cc (stands-reloaded standings)
 stands-reloaded (_ ∷ standings) = cc (stands-reloaded standings)
 
 pub load-is : {board after : Seen} {lexicon : Lexicon} → Step board (ALoad lexicon) after
-    → HasOutcome (loaded (console_of board) lexicon) (Dict after.dict) (console_of after)
+    → HasOutcome (loaded (console_of board) lexicon) (Dict after.dict_version) (console_of after)
 load-is {board} {after} {lexicon} step = (
-  ap (λ (b : Seen). Dict b.dict) step.makes,
+  ap (λ (b : Seen). Dict b.dict_version) step.makes,
   ap console_of step.makes
-      ∙ ap (λ stands. record (console_of board) { dict_version = board.dict + 1; lexicon = lexicon; states = stands })
+      ∙ ap (λ stands. record (console_of board) { dict_version = board.dict_version + 1; lexicon = lexicon; states = stands })
       (stands-reloaded board.standings),
 )
 

@@ -92,17 +92,17 @@ OwnChecksFit = (board : Seen) (place rev dict : ℕ) (paragraph : Paragraph) →
 -- the check of a paragraph that is shown as open is not refused
 pub own-check-free : Decided → OwnChecksFit → (board : Seen) (place : ℕ) (paragraph : Paragraph) (held : Option ℕ) → IsValidBoard board → furthest_point board < 2 ^ 62
     → slice_get board.paragraphs place ≡ Some paragraph → place_of paragraph.id board.paragraphs ≡ Some place → slice_get (reply_of board).shown place ≡ Some (Unmarked false held)
-    → first_refusal board (AFinish 0 paragraph.id paragraph.rev board.dict paragraph.text board.lexicon) ≡ None
+    → first_refusal board (AFinish 0 paragraph.id paragraph.rev board.dict_version paragraph.text board.lexicon) ≡ None
 own-check-free decided fit board place paragraph held valid far at named shown =
-    let event = AFinish 0 paragraph.id paragraph.rev board.dict paragraph.text board.lexicon in
+    let event = AFinish 0 paragraph.id paragraph.rev board.dict_version paragraph.text board.lexicon in
     let after = record board { point = board.point + 1; standings = set board.standings place standing.Finished } in
     let free = open-at board 1 board.standings place held shown in
     let here : IsAt board paragraph.id place paragraph free.0 = record { place_is = named; paragraph_is = at; standing_is = free.1 } in
-    let may : MayFinish board paragraph.rev board.dict paragraph.text board.lexicon paragraph free.0 =
+    let may : MayFinish board paragraph.rev board.dict_version paragraph.text board.lexicon paragraph free.0 =
     record { current = refl; in_force = refl; free = free.2; text_is = refl; lexicon_is = refl } in
-    let moves : Moves board paragraph.id (MayFinish board paragraph.rev board.dict paragraph.text board.lexicon) standing.Finished after =
+    let moves : Moves board paragraph.id (MayFinish board paragraph.rev board.dict_version paragraph.text board.lexicon) standing.Finished after =
     record { place = place; paragraph = paragraph; stands = free.0; here = here; allowed = may; after_is = refl } in
-    not-refused board after event (decided board event valid (fit board place paragraph.rev board.dict paragraph valid at))
+    not-refused board after event (decided board event valid (fit board place paragraph.rev board.dict_version paragraph valid at))
     (record { goes_on = point-below board far; makes = moves })
 
 open-settles : (stands : Standing) → is_open stands ≡ true → Finished ≡ settled_state (state_of stands)
@@ -188,7 +188,7 @@ below-most n few = omega (arith, few)
 
 pub short-at : (board : Seen) (place : ℕ) (paragraph : Paragraph) → IsValidBoard board → slice_get board.paragraphs place ≡ Some paragraph → length paragraph.text < 2 ^ 32
 short-at board place paragraph valid at =
-    below-most (length paragraph.text) (short-among (board.text + 1) board.next_id board.paragraphs place paragraph valid.paragraphs.each at)
+    below-most (length paragraph.text) (short-among (board.text_version + 1) board.next_id board.paragraphs place paragraph valid.paragraphs.each at)
 
 some-long : (words : List Word) → has_some words ≡ true → 0 < length words
 some-long [] some = absurd (cc)

@@ -99,7 +99,7 @@ HasReply first = option_map_or (λ refusal. is_some (reply_for refusal)) first t
 pub record IsTaken (before : Seen) (event : SeenEvent) (reply : Reply) (after : Seen) : Type 0 where
   pub step : Step before event after
   pub only : (other : Seen) → Step before event other → other ≡ after
-  pub reply_is : reply ≡ Done after.text
+  pub reply_is : reply ≡ Done after.text_version
 
 -- an event is taken where no refusal is first; otherwise that one is replied to, and the board stays
 abbrev pub IsAnswered : Seen → SeenEvent → Option Refusal → Reply → Seen → Type 0
@@ -113,4 +113,4 @@ shown_para (Unmarked parked held_by) = Pending
 
 -- the reply to a look at a board
 abbrev pub look_reply : Seen → Reply
-look_reply board = Shown board.text board.dict (map shown_para (reply_of board).shown)
+look_reply board = Shown board.text_version board.dict_version (map shown_para (reply_of board).shown)

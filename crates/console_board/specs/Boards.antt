@@ -17,8 +17,8 @@ state_of standing.Finished = Finished
 
 abbrev pub console_of : Seen → Console
 console_of board = record {
-  text_version = board.text;
-  dict_version = board.dict;
+  text_version = board.text_version;
+  dict_version = board.dict_version;
   lexicon = board.lexicon;
   texts = map (λ paragraph. paragraph.text) board.paragraphs;
   states = map state_of board.standings;

@@ -1,6 +1,5 @@
 -- A console: texts that are edited, checked and shown one command after another. It knows nothing of ids, of revs, or of who checks.
 use Rattle.std.specs.Prelude.{ℕ, ◌+◌, ◌-◌, ◌&&◌, List, [], ◌∷◌, length, map, nat_le, nat_lt, set, slice_get, Option, Some, None, Result, Ok, Err, if◌then◌else◌}
-use Rattle.std.specs.List.{insert, remove}
 use Rattle.std.specs.Option.{option_map_or, unwrap_or}
 use Rattle.std.specs.Str.{chars}
 use Rattle.console_lang.specs.declared.reply.Reply.{Reply}
@@ -9,6 +8,7 @@ use Rattle.console_lang.specs.declared.reply.ShownPara.{ShownPara}
 use Rattle.console_lang.specs.declared.reply.ShownPara.TheVariants.{Pending, Finished as Marked}
 use Rattle.dictionary_swap.specs.declared.fault.LoadFault.{LoadFault}
 use Rattle.dictionary_swap.specs.declared.fault.LoadFault.TheVariants.{Failed, Missing, TooLong, Aff, Dic, NoMemory}
+use Rattle.lists.specs.Changes.{Change, SetAt, InsertAt, RemoveAt, changed}
 use Rattle.edit_core.specs.Views.{marks_numbered}
 use Rattle.paragraph_text.specs.Edits.{is_span, spliced}
 use Rattle.spell_types.specs.declared.Lexicon.{Lexicon}
@@ -62,17 +62,21 @@ text_at console index = unwrap_or (slice_get console.texts index) []
 abbrev pub state_at : Console → ℕ → TextState
 state_at console index = unwrap_or (slice_get console.states index) Waiting
 
--- ---- edits: each raises the text's version, and tells it
+-- ---- edits: each is one change of the texts, and of how they stand; it raises the text's version, and tells it
 
-abbrev edited : Console → List (List ℕ) → List TextState → Outcome
-edited console texts states = done (record console { text_version = console.text_version + 1; texts = texts; states = states })
+abbrev edited : Console → Change → List ℕ → Outcome
+edited console change put = done (record console {
+  text_version = console.text_version + 1;
+  texts = changed change put console.texts;
+  states = changed change Waiting console.states;
+})
 
 -- a text is put in, and waits
 abbrev pub insert_at : Console → List ℕ → ℕ → Outcome
 insert_at console put index =
     if nat_le (length put) MOST_BYTES
     then (if nat_lt (length console.texts) MOST_PARAGRAPHS
-    then edited console (insert console.texts index put) (insert console.states index Waiting)
+    then edited console (InsertAt index) put
     else refused console (NoFull (length console.texts)))
     else refused console (NoTooLong (length put))
 
@@ -80,7 +84,7 @@ insert_at console put index =
 abbrev pub replace_at : Console → List ℕ → ℕ → Outcome
 replace_at console put index =
     if nat_le (length put) MOST_BYTES
-    then edited console (set console.texts index put) (set console.states index Waiting)
+    then edited console (SetAt index) put
     else refused console (NoTooLong (length put))
 
 -- bytes of a text, from one up to another, become others
@@ -92,7 +96,7 @@ splice_at console from to put index =
 
 -- a text is taken out
 abbrev pub remove_at : Console → ℕ → Outcome
-remove_at console index = edited console (remove console.texts index) (remove console.states index)
+remove_at console index = edited console (RemoveAt index) []
 
 -- `ins P TEXT`: a place may be one more than there are texts
 abbrev pub inserted : Console → ℕ → List ℕ → Outcome

@@ -36,30 +36,30 @@ valid-moved board standings valid goes_on long =
     record {
       paragraphs = valid.paragraphs;
       standings = long;
-      text = up-to board.text board.point valid.text;
-      dict = up-to board.dict board.point valid.dict;
+      text = up-to board.text_version board.point valid.text;
+      dict = up-to board.dict_version board.point valid.dict;
       next_id = further board.next_id board.point valid.next_id;
       point = one-more board.point (2 ^ 62) goes_on;
     }
 
-pub valid-loaded : (board : Seen) (lexicon : Lexicon) (standings : List Standing) → IsValidBoard board → board.point < 2 ^ 62 → length standings ≡ length board.paragraphs → IsValidBoard (record board { point = board.point + 1; dict = board.dict + 1; lexicon = lexicon; standings = standings })
+pub valid-loaded : (board : Seen) (lexicon : Lexicon) (standings : List Standing) → IsValidBoard board → board.point < 2 ^ 62 → length standings ≡ length board.paragraphs → IsValidBoard (record board { point = board.point + 1; dict_version = board.dict_version + 1; lexicon = lexicon; standings = standings })
 valid-loaded board lexicon standings valid goes_on long =
     record {
       paragraphs = valid.paragraphs;
       standings = long;
-      text = up-to board.text board.point valid.text;
-      dict = with-one board.dict board.point valid.dict;
+      text = up-to board.text_version board.point valid.text;
+      dict = with-one board.dict_version board.point valid.dict;
       next_id = further board.next_id board.point valid.next_id;
       point = one-more board.point (2 ^ 62) goes_on;
     }
 
-pub valid-edited : (board : Seen) (edit : Edit) (paragraphs : List Paragraph) (standings : List Standing) → IsValidBoard board → board.point < 2 ^ 62 → AreValid (board.text + 1 + 1) (next_id_after board.next_id edit) paragraphs → length standings ≡ length paragraphs → IsValidBoard (record board { point = board.point + 1; text = board.text + 1; paragraphs = paragraphs; standings = standings; next_id = next_id_after board.next_id edit })
+pub valid-edited : (board : Seen) (edit : Edit) (paragraphs : List Paragraph) (standings : List Standing) → IsValidBoard board → board.point < 2 ^ 62 → AreValid (board.text_version + 1 + 1) (next_id_after board.next_id edit) paragraphs → length standings ≡ length paragraphs → IsValidBoard (record board { point = board.point + 1; text_version = board.text_version + 1; paragraphs = paragraphs; standings = standings; next_id = next_id_after board.next_id edit })
 valid-edited board edit paragraphs standings valid goes_on made long =
     record {
       paragraphs = made;
       standings = long;
-      text = with-one board.text board.point valid.text;
-      dict = up-to board.dict board.point valid.dict;
+      text = with-one board.text_version board.point valid.text;
+      dict = up-to board.dict_version board.point valid.dict;
       next_id = ids-after board.next_id board.point edit valid.next_id;
       point = one-more board.point (2 ^ 62) goes_on;
     }

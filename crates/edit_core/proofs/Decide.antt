@@ -106,13 +106,13 @@ moves board id may becomes asked long asks = by (place_of id board.paragraphs) r
 abbrev edited : Seen → Edit → List Paragraph → Seen
 edited board edit paragraphs = record board {
   point = board.point + 1;
-  text = board.text + 1;
+  text_version = board.text_version + 1;
   paragraphs = paragraphs;
   standings = kept_after standing.Waiting board.paragraphs board.standings edit;
   next_id = next_id_after board.next_id edit;
 }
 
-edits : (board : Seen) (edit : Edit) → IsDecidedEdit (board.text + 1) board.next_id board.paragraphs edit → Settles (Edits board edit) (option_map refusal_of (edit_refusal board.paragraphs edit))
+edits : (board : Seen) (edit : Edit) → IsDecidedEdit (board.text_version + 1) board.next_id board.paragraphs edit → Settles (Edits board edit) (option_map refusal_of (edit_refusal board.paragraphs edit))
 edits board edit (inl (applies, free)) = inl (only-one, by (edit_refusal board.paragraphs edit) refl)
   where
     only-one : IsOnlyOne (Edits board edit)
@@ -133,16 +133,16 @@ may-finish board id rev dict text lexicon fit place paragraph stands here =
     same-ask (finish_refusal board rev dict paragraph stands) _ (MayFinish board rev dict text lexicon paragraph stands)
     (λ p. let it = fit place paragraph stands here p.0 p.1.0 in record { current = p.0; in_force = p.1.0; free = p.1.1; text_is = it.0; lexicon_is = it.1 })
     (λ may. (may.current, (may.in_force, may.free)))
-    (both (behind rev paragraph) (option_or (outdated board dict) (settled paragraph.rev stands)) (paragraph.rev ≡ rev) ((board.dict ≡ dict) × (is_open stands ≡ true))
+    (both (behind rev paragraph) (option_or (outdated board dict) (settled paragraph.rev stands)) (paragraph.rev ≡ rev) ((board.dict_version ≡ dict) × (is_open stands ≡ true))
     (equal paragraph.rev rev (Behind paragraph.rev))
-    (both (outdated board dict) (settled paragraph.rev stands) (board.dict ≡ dict) (is_open stands ≡ true) (equal board.dict dict (Reloaded board.dict)) (opens paragraph.rev stands)))
+    (both (outdated board dict) (settled paragraph.rev stands) (board.dict_version ≡ dict) (is_open stands ≡ true) (equal board.dict_version dict (Reloaded board.dict_version)) (opens paragraph.rev stands)))
 
 settles : EditsAreDecided → (board : Seen) (event : SeenEvent) → IsValidBoard board → IsFit board event → Settles (Makes board event) (event_refusal board event)
-settles law board (AnEdit session edit) valid fit = edits board edit (law (board.text + 1) board.next_id board.paragraphs edit valid.paragraphs)
+settles law board (AnEdit session edit) valid fit = edits board edit (law (board.text_version + 1) board.next_id board.paragraphs edit valid.paragraphs)
 settles law board (ALoad lexicon) valid fit =
     inl (
       record {
-        one = record board { point = board.point + 1; dict = board.dict + 1; lexicon = lexicon; standings = map reloaded board.standings };
+        one = record board { point = board.point + 1; dict_version = board.dict_version + 1; lexicon = lexicon; standings = map reloaded board.standings };
         holds = refl;
         only = λ other is. is;
       },

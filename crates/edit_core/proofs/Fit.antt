@@ -37,7 +37,7 @@ own-fit board place rev dict paragraph valid at place' paragraph' stands here re
     (ap (λ p. p.text) same, refl)
 
 -- a check of a paragraph of an earlier board, for its rev and its dictionary version, is fit for each later one
-pub later-fit : (earlier later : Seen) (id : ℕ) (paragraph : Paragraph) → OnlyGrew earlier later → with_id id earlier.paragraphs ≡ Some paragraph → IsFitCheck later id paragraph.rev earlier.dict paragraph.text earlier.lexicon
+pub later-fit : (earlier later : Seen) (id : ℕ) (paragraph : Paragraph) → OnlyGrew earlier later → with_id id earlier.paragraphs ≡ Some paragraph → IsFitCheck later id paragraph.rev earlier.dict_version paragraph.text earlier.lexicon
 later-fit earlier later id paragraph grew was place paragraph' stands here rev-is dict-is = (
   (grew.revs id paragraph paragraph' was (at-named later id place paragraph' stands here)).1 (sym rev-is),
   grew.lexicons (sym dict-is),

@@ -7,7 +7,7 @@ use Rattle.edit_core.specs.Seen.{Seen}
 use Rattle.edit_core.specs.Steps.{IsAt, found, place_of}
 use Rattle.edit_core.specs.declared.state.Standing.{Standing}
 use Rattle.edit_core.specs.declared.state.Standing.TheVariants.{Waiting}
-use Rattle.edit_core.proofs.Places.{find-beside, none-beside}
+use Rattle.edit_core.specs.Laws.{find-beside, none-beside}
 
 -- where no paragraph has the id, none is found
 pub found-none : (board : Seen) (id : ℕ) → place_of id board.paragraphs ≡ None → found id board ≡ None

@@ -180,8 +180,8 @@ grew-after before after event valid step = by event step.makes
         subst (OnlyGrew before) (sym made.after_is) (
         record {
           point = more-most before.point;
-          text = same-most before.text;
-          dict = same-most before.dict;
+          text = same-most before.text_version;
+          dict = same-most before.dict_version;
           next_id = same-most before.next_id;
           live = λ id live. inl live;
           revs = same-revs before.paragraphs;
@@ -192,16 +192,16 @@ grew-after before after event valid step = by event step.makes
 
     by : (event : SeenEvent) → Makes before event after → OnlyGrew before after
     by (AnEdit session edit) made =
-        let grew = list-grew (before.text + 1) before.next_id before.paragraphs made.paragraphs edit valid.paragraphs made.applied in
+        let grew = list-grew (before.text_version + 1) before.next_id before.paragraphs made.paragraphs edit valid.paragraphs made.applied in
         subst (OnlyGrew before) (sym made.after_is) (
         record {
           point = more-most before.point;
-          text = more-most before.text;
-          dict = same-most before.dict;
+          text = more-most before.text_version;
+          dict = same-most before.dict_version;
           next_id = ids-grow before.next_id edit;
           live = grew.live;
           revs = λ id old new was is. newer-revs old new (grew.newer id old new was is);
-          texts = λ is. not-more before.text is;
+          texts = λ is. not-more before.text_version is;
           lexicons = λ _. refl;
         }
         )
@@ -209,13 +209,13 @@ grew-after before after event valid step = by event step.makes
         subst (OnlyGrew before) (sym made) (
         record {
           point = more-most before.point;
-          text = same-most before.text;
-          dict = more-most before.dict;
+          text = same-most before.text_version;
+          dict = more-most before.dict_version;
           next_id = same-most before.next_id;
           live = λ id live. inl live;
           revs = same-revs before.paragraphs;
           texts = λ _. refl;
-          lexicons = λ is. not-more before.dict is;
+          lexicons = λ is. not-more before.dict_version is;
         }
         )
     by (AClaim worker id rev) made = moved id (MayClaim rev) (standing.Held worker) made
@@ -228,8 +228,8 @@ pub grew-not : (board : Seen) → OnlyGrew board board
 grew-not board =
     record {
       point = same-most board.point;
-      text = same-most board.text;
-      dict = same-most board.dict;
+      text = same-most board.text_version;
+      dict = same-most board.dict_version;
       next_id = same-most board.next_id;
       live = λ id live. inl live;
       revs = same-revs board.paragraphs;
@@ -241,13 +241,13 @@ pub grew-on : (a b c : Seen) → IsValidBoard a → OnlyGrew a b → OnlyGrew b 
 grew-on a b c valid first second =
     record {
       point = chain a.point b.point c.point first.point second.point;
-      text = chain a.text b.text c.text first.text second.text;
-      dict = chain a.dict b.dict c.dict first.dict second.dict;
+      text = chain a.text_version b.text_version c.text_version first.text second.text;
+      dict = chain a.dict_version b.dict_version c.dict_version first.dict second.dict;
       next_id = chain a.next_id b.next_id c.next_id first.next_id second.next_id;
       live = λ id live. alive id (second.live id live);
       revs = λ id old new was is. revs id old new was is (second.live id (new, is));
-      texts = λ is. first.texts (squeezed-low a.text b.text c.text first.text second.text is) ∙ second.texts (squeezed-high a.text b.text c.text first.text second.text is);
-      lexicons = λ is. first.lexicons (squeezed-low a.dict b.dict c.dict first.dict second.dict is) ∙ second.lexicons (squeezed-high a.dict b.dict c.dict first.dict second.dict is);
+      texts = λ is. first.texts (squeezed-low a.text_version b.text_version c.text_version first.text second.text is) ∙ second.texts (squeezed-high a.text_version b.text_version c.text_version first.text second.text is);
+      lexicons = λ is. first.lexicons (squeezed-low a.dict_version b.dict_version c.dict_version first.dict second.dict is) ∙ second.lexicons (squeezed-high a.dict_version b.dict_version c.dict_version first.dict second.dict is);
     }
   where
     alive : (id : ℕ) → IsLive id b.paragraphs ⊎ (b.next_id ≤ id) → IsLive id a.paragraphs ⊎ (a.next_id ≤ id)
@@ -265,7 +265,7 @@ grew-on a b c valid first second =
           λ same. low.1 (squeezed-low old.rev middle.rev new.rev low.0 high.0 same) ∙ high.1 (squeezed-high old.rev middle.rev new.rev low.0 high.0 same),
         )
     revs id old new was is (inr later) =
-        not-new old.id a.next_id b.next_id id (found-all (IsValidIn (a.text + 1) a.next_id) id a.paragraphs old valid.paragraphs.each was).known first.next_id later (found-has id a.paragraphs old was)
+        not-new old.id a.next_id b.next_id id (found-all (IsValidIn (a.text_version + 1) a.next_id) id a.paragraphs old valid.paragraphs.each was).known first.next_id later (found-has id a.paragraphs old was)
 
 pub grew-run : EditsKeepValidity → (board : Seen) (entries : List Entry) → IsValidBoard board → AreSteps board entries → OnlyGrew board (last_board board entries)
 grew-run law board [] valid steps = grew-not board

@@ -21,8 +21,8 @@ use Rattle.edit_core.proofs.Places.{edit-zip, zip-set, length-of-zip}
 abbrev pub seen : {J : Type 0} → (J → Lexicon) → (point text dict : ℕ) → J → List Paragraph → List (State J) → ℕ → Seen
 seen lexicon_of point text dict judge paragraphs states next_id = record {
   point = point;
-  text = text;
-  dict = dict;
+  text_version = text;
+  dict_version = dict;
   lexicon = lexicon_of judge;
   paragraphs = paragraphs;
   standings = map standing_of states;
@@ -111,7 +111,7 @@ seen-loaded lexicon_of point text dict judge judge' paragraphs paragraphs' state
     ap (λ ps. seen lexicon_of (point + 1) text (dict + 1) judge' ps states' next_id) paragraphs-is
     ∙ ap (λ ss. seen lexicon_of (point + 1) text (dict + 1) judge' paragraphs ss next_id) states-is
     ∙ ap (λ stands. record (seen lexicon_of (point + 1) text (dict + 1) judge' paragraphs states next_id) { standings = stands }) (reloaded-all states)
-    ∙ ap (λ (board : Seen). record board { point = board.point + 1; dict = board.dict + 1; lexicon = lexicon_of judge'; standings = map reloaded board.standings }) is
+    ∙ ap (λ (board : Seen). record board { point = board.point + 1; dict_version = board.dict_version + 1; lexicon = lexicon_of judge'; standings = map reloaded board.standings }) is
 
 -- ---- an edit
 pub kept-edited : {J : Type 0} (lexicon_of : J → Lexicon) (point text dict : ℕ) (judge judge' : J) (paragraphs paragraphs' : List Paragraph) (states states' : List (State J)) (next_id : ℕ) (edit : Edit) → IsKept lexicon_of point text dict judge paragraphs states next_id → point < 2 ^ 62 → judge' ≡ judge → Applies (text + 1) next_id paragraphs edit paragraphs' → AreValid (text + 1 + 1) (next_id_after next_id edit) paragraphs' → states' ≡ kept_after state.Waiting paragraphs states edit → IsKept lexicon_of (point + 1) (text + 1) dict judge' paragraphs' states' (next_id_after next_id edit)

@@ -4,6 +4,7 @@ use Rattle.std.proofs.lemmas.Bool.{eqb-false}
 use Rattle.lists.specs.Laws.{each-weaker}
 use Rattle.spell_types.specs.declared.Lexicon.{Lexicon}
 use Rattle.paragraph_text.specs.Paragraphs.{Paragraph, AreValid, HasNoBreak, numbered_from}
+use Rattle.paragraph_text.specs.Laws.{numbered-length}
 use Rattle.edit_core.specs.Seen.{IsValidBoard, AreTheirs, opening_of, standing_of}
 use Rattle.edit_core.specs.declared.state.Standing.TheVariants as standing
 use Rattle.edit_core.specs.declared.state.State.{State}
@@ -11,12 +12,6 @@ use Rattle.edit_core.specs.declared.state.State.TheVariants as state
 use Rattle.edit_core.proofs.Kept.{IsKept, map-long, seen}
 use Rattle.edit_core.proofs.Waiting.{none-passes}
 use Rattle.paragraph_text.specs.declared.limits.TheConstants.{MOST_PARAGRAPHS}
-
--- a text without a place of a line feed has none
-pub no-break : (text : List ℕ) → position (λ byte. byte == 10) text ≡ None → HasNoBreak text
-no-break text none =
-    each-weaker (λ b. (b == 10) ≡ false) (λ b. ¬ (b ≡ 10)) (λ b other same. eqb-false b 10 other same) text
-    (none-passes (λ b. b == 10) text none)
 
 -- texts that wait are right wherever they stand
 waiting-theirs : {J : Type 0} (lexicon_of : J → Lexicon) (lexicon : Lexicon) (id : ℕ) (texts : List (List ℕ)) → AreTheirs lexicon_of lexicon (numbered_from id texts) (map (λ _. state.Waiting) texts)
@@ -27,12 +22,8 @@ waiting-seen : {J : Type 0} (lexicon_of : J → Lexicon) (texts : List (List ℕ
 waiting-seen lexicon_of [] = refl
 waiting-seen lexicon_of (text ∷ texts) = ap (λ ss. standing.Waiting ∷ ss) (waiting-seen lexicon_of texts)
 
-numbered-long : (id : ℕ) (texts : List (List ℕ)) → length (numbered_from id texts) ≡ length texts
-numbered-long id [] = refl
-numbered-long id (text ∷ texts) = ap (λ n. suc n) (numbered-long (id + 1) texts)
-
 waiting-long : (id : ℕ) (texts : List (List ℕ)) → length (map (λ _. standing.Waiting) texts) ≡ length (numbered_from id texts)
-waiting-long id texts = map-long (λ _. standing.Waiting) texts ∙ sym (numbered-long id texts)
+waiting-long id texts = map-long (λ _. standing.Waiting) texts ∙ sym (numbered-length id texts)
 
 none-yet : (bound : ℕ) → 0 ≤ bound
 none-yet bound = omega arith

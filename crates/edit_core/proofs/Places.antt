@@ -35,27 +35,6 @@ position-miss p x xs is =
     by true n = ap (λ k. Some k) (one n)
     by false n = refl
 
--- ---- what is found in two lists, place by place
-pub find-beside : {X Y : Type 0} (p : X → Bool) (xs : List X) (ys : List Y) (k : ℕ) (x : X) (y : Y)
-    → position_or_len p xs ≡ k → slice_get xs k ≡ Some x → slice_get ys k ≡ Some y
-    → find (λ (row : X × Y). p row.0) (zip xs ys) ≡ Some (x, y)
-find-beside p [] ys k x y is here beside = cc
-find-beside p (z ∷ xs) [] k x y is here beside = cc
-find-beside p (z ∷ xs) (w ∷ ys) zero x y is here beside = grind arith
-find-beside p (z ∷ xs) (w ∷ ys) (suc k) x y is here beside = grind (arith, find-beside p xs ys k x y)
-
-pub none-beside : {X Y : Type 0} (p : X → Bool) (xs : List X) (ys : List Y) → find p xs ≡ None
-    → find (λ (row : X × Y). p row.0) (zip xs ys) ≡ None
-none-beside p [] ys none = refl
-none-beside p (z ∷ xs) [] none = refl
-none-beside {X} {Y} p (z ∷ xs) (w ∷ ys) none = by (p z) none (none-beside p xs ys)
-  where
-    by : (b : Bool) → cond b (Some z) (find p xs) ≡ None
-        → (find p xs ≡ None → find (λ (row : X × Y). p row.0) (zip xs ys) ≡ None)
-        → cond b (Some (z, w)) (find (λ (row : X × Y). p row.0) (zip xs ys)) ≡ None
-    by true none more = cc
-    by false none more = more none
-
 -- ---- what is kept of each paragraph is kept beside it
 pub zip-set : {X Y : Type 0} (P : X → Y → Type 0) (xs : List X) (ys : List Y) (k : ℕ) (y : Y) → AllZip P xs ys → ((x : X) → slice_get xs k ≡ Some x → P x y) → AllZip P xs (set ys k y)
 zip-set P [] [] k y all fits = all

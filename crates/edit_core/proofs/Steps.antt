@@ -34,10 +34,10 @@ valid-after law before after event valid step = by event step.makes
         let long : length (kept_after standing.Waiting before.paragraphs before.standings edit) ≡ length made.paragraphs =
         length-of-zip (λ _ _. Unit {0}) made.paragraphs (kept_after standing.Waiting before.paragraphs before.standings edit)
         (edit-zip (λ _ _. Unit {0}) standing.Waiting before.standings (λ _. tt)
-        (changes (before.text + 1) before.next_id before.paragraphs made.paragraphs edit valid.paragraphs.own_ids made.applied)
+        (changes (before.text_version + 1) before.next_id before.paragraphs made.paragraphs edit valid.paragraphs.own_ids made.applied)
         (zip-of-length before.paragraphs before.standings valid.standings)) in
         subst IsValidBoard (sym made.after_is)
-        (valid-edited before edit made.paragraphs _ valid step.goes_on (law (before.text + 1) before.next_id before.paragraphs made.paragraphs edit valid.paragraphs made.applied) long)
+        (valid-edited before edit made.paragraphs _ valid step.goes_on (law (before.text_version + 1) before.next_id before.paragraphs made.paragraphs edit valid.paragraphs made.applied) long)
     by (ALoad lexicon) made =
         subst IsValidBoard (sym made) (valid-loaded before lexicon (map reloaded before.standings) valid step.goes_on (map-long reloaded before.standings ∙ valid.standings))
     by (AClaim worker id rev) made = moved id (MayClaim rev) (standing.Held worker) made

@@ -85,8 +85,8 @@ IsLive id paragraphs = (paragraph : Paragraph) × (with_id id paragraphs ≡ Som
 -- a later board of a history beside an earlier one
 pub record OnlyGrew (earlier later : Seen) : Type 0 where
   pub point : earlier.point ≤ later.point
-  pub text : earlier.text ≤ later.text
-  pub dict : earlier.dict ≤ later.dict
+  pub text : earlier.text_version ≤ later.text_version
+  pub dict : earlier.dict_version ≤ later.dict_version
   pub next_id : earlier.next_id ≤ later.next_id
   -- an id that is live was live, or is new
   pub live : (id : ℕ) → IsLive id later.paragraphs → IsLive id earlier.paragraphs ⊎ (earlier.next_id ≤ id)
@@ -94,9 +94,9 @@ pub record OnlyGrew (earlier later : Seen) : Type 0 where
   pub revs : (id : ℕ) (old new : Paragraph) → with_id id earlier.paragraphs ≡ Some old → with_id id later.paragraphs ≡ Some new
       → (old.rev ≤ new.rev) × (old.rev ≡ new.rev → old.text ≡ new.text)
   -- equal text versions have equal texts
-  pub texts : earlier.text ≡ later.text → earlier.paragraphs ≡ later.paragraphs
+  pub texts : earlier.text_version ≡ later.text_version → earlier.paragraphs ≡ later.paragraphs
   -- equal dictionary versions have equal dictionaries
-  pub lexicons : earlier.dict ≡ later.dict → earlier.lexicon ≡ later.lexicon
+  pub lexicons : earlier.dict_version ≡ later.dict_version → earlier.lexicon ≡ later.lexicon
 
 -- the kinds of events of workers
 abbrev pub is_workers : EventKind → Bool
@@ -115,8 +115,8 @@ pub record MayBecome (before after : Standing) : Type 0 where
 
 -- events of workers change nothing but that paragraphs are held or finished
 pub record IsQuiet (before after : Seen) : Type 0 where
-  pub text : after.text ≡ before.text
-  pub dict : after.dict ≡ before.dict
+  pub text : after.text_version ≡ before.text_version
+  pub dict : after.dict_version ≡ before.dict_version
   pub lexicon : after.lexicon ≡ before.lexicon
   pub next_id : after.next_id ≡ before.next_id
   pub paragraphs : after.paragraphs ≡ before.paragraphs

@@ -16,8 +16,8 @@ use Rattle.paragraph_text.specs.declared.limits.TheConstants.{MOST_BYTES, MOST_P
 -- the paragraphs in their order, how each stands, and the id that the next one gets that is put in.
 pub record Seen : Type 0 where
   pub point : ℕ
-  pub text : ℕ
-  pub dict : ℕ
+  pub text_version : ℕ
+  pub dict_version : ℕ
   pub lexicon : Lexicon
   pub paragraphs : List Paragraph
   pub standings : List Standing
@@ -32,10 +32,10 @@ standing_of (OfFinished checked) = Finished
 
 -- what every board meets
 pub record IsValidBoard (board : Seen) : Type 0 where
-  pub paragraphs : AreValid (board.text + 1) board.next_id board.paragraphs
+  pub paragraphs : AreValid (board.text_version + 1) board.next_id board.paragraphs
   pub standings : length board.standings ≡ length board.paragraphs
-  pub text : board.text ≤ board.point
-  pub dict : board.dict ≤ board.point
+  pub text : board.text_version ≤ board.point
+  pub dict : board.dict_version ≤ board.point
   pub next_id : board.next_id ≤ MOST_PARAGRAPHS + board.point
   pub point : board.point ≤ 2 ^ 62
 
@@ -52,8 +52,8 @@ AreTheirs lexicon_of lexicon paragraphs states = AllZip (IsTheirs lexicon_of lex
 abbrev pub opening_of : Lexicon → List (List ℕ) → Seen
 opening_of lexicon texts = record {
   point = 0;
-  text = 0;
-  dict = 0;
+  text_version = 0;
+  dict_version = 0;
   lexicon = lexicon;
   paragraphs = numbered_from 0 texts;
   standings = map (λ _. Waiting) texts;

@@ -29,10 +29,10 @@ pub record IsAt (board : Seen) (id place : ℕ) (paragraph : Paragraph) (stands 
 -- a session edits: the text has the next version, and the touched paragraph waits
 pub record Edits (before : Seen) (edit : Edit) (after : Seen) : Type 0 where
   pub paragraphs : List Paragraph
-  pub applied : Applies (before.text + 1) before.next_id before.paragraphs edit paragraphs
+  pub applied : Applies (before.text_version + 1) before.next_id before.paragraphs edit paragraphs
   pub after_is : after ≡ record before {
     point = before.point + 1;
-    text = before.text + 1;
+    text_version = before.text_version + 1;
     paragraphs = paragraphs;
     standings = kept_after standing.Waiting before.paragraphs before.standings edit;
     next_id = next_id_after before.next_id edit;
@@ -52,7 +52,7 @@ reloaded_state _ = state.Waiting
 abbrev pub Loads : Seen → Lexicon → Seen → Type 0
 Loads before lexicon after = after ≡ record before {
   point = before.point + 1;
-  dict = before.dict + 1;
+  dict_version = before.dict_version + 1;
   lexicon = lexicon;
   standings = map reloaded before.standings;
 }
@@ -81,7 +81,7 @@ MayClaim rev paragraph stands = (paragraph.rev ≡ rev) × (stands ≡ standing.
 -- the dictionary in force
 pub record MayFinish (board : Seen) (rev dict : ℕ) (text : List ℕ) (lexicon : Lexicon) (paragraph : Paragraph) (stands : Standing) : Type 0 where
   pub current : paragraph.rev ≡ rev
-  pub in_force : board.dict ≡ dict
+  pub in_force : board.dict_version ≡ dict
   pub free : is_open stands ≡ true
   pub text_is : text ≡ paragraph.text
   pub lexicon_is : lexicon ≡ board.lexicon
@@ -162,7 +162,7 @@ not_parked rev _ = Some (NotParked rev)
 
 -- another dictionary version is in force
 abbrev pub outdated : Seen → ℕ → Option Refusal
-outdated board dict = unless (board.dict == dict) (Reloaded board.dict)
+outdated board dict = unless (board.dict_version == dict) (Reloaded board.dict_version)
 
 abbrev pub claim_refusal : ℕ → Paragraph → Standing → Option Refusal
 claim_refusal rev paragraph stands = option_or (behind rev paragraph) (not_waiting paragraph.rev stands)
@@ -193,7 +193,7 @@ IsRefused board event refusal = first_refusal board event ≡ Some refusal
 -- where its rev and its dictionary version are those of the board, a check is of the paragraph's text, by the dictionary in force
 abbrev pub IsFitCheck : Seen → (id rev dict : ℕ) → (text : List ℕ) → Lexicon → Type 0
 IsFitCheck board id rev dict text lexicon =
-    (place : ℕ) (paragraph : Paragraph) (stands : Standing) → IsAt board id place paragraph stands → paragraph.rev ≡ rev → board.dict ≡ dict
+    (place : ℕ) (paragraph : Paragraph) (stands : Standing) → IsAt board id place paragraph stands → paragraph.rev ≡ rev → board.dict_version ≡ dict
     → (text ≡ paragraph.text) × (lexicon ≡ board.lexicon)
 
 -- the check that finishes a paragraph is fit for it

@@ -64,7 +64,7 @@ pub record Reply : Type 0 where
   pub shown : List ShownMarks
 
 abbrev pub reply_of : Seen → Reply
-reply_of board = record { point = board.point; text = board.text; dict = board.dict; shown = shown_from board 1 board.standings }
+reply_of board = record { point = board.point; text = board.text_version; dict = board.dict_version; shown = shown_from board 1 board.standings }
 
 -- what is seen of the paragraph at a place, from 0
 pub record Shows (board : Seen) (place : ℕ) (view : ParaView) : Type 0 where
@@ -87,8 +87,8 @@ is_parked _ = false
 abbrev pub progress_of : Seen → Progress
 progress_of board = record {
   point = board.point;
-  text = board.text;
-  dict = board.dict;
+  text = board.text_version;
+  dict = board.dict_version;
   paragraphs = length board.paragraphs;
   finished = count_by is_finished board.standings;
   parked = count_by is_parked board.standings;
@@ -98,8 +98,8 @@ progress_of board = record {
 abbrev pub versions_of : Seen → Versions
 versions_of board = record {
   point = board.point;
-  text = board.text;
-  dict = board.dict;
+  text = board.text_version;
+  dict = board.dict_version;
   next_id = board.next_id;
   paragraphs = length board.paragraphs;
 }

@@ -33,8 +33,8 @@ impl<J: Judge> Model for Board<J> {
 
     ghost view = { λ inside. record {
       point = inside.point;
-      text = inside.text;
-      dict = inside.dict;
+      text_version = inside.text;
+      dict_version = inside.dict;
       lexicon = J.lexicon (arc_value inside.judge);
       paragraphs = inside.paragraphs;
       standings = map standing_of inside.states;
@@ -44,8 +44,8 @@ impl<J: Judge> Model for Board<J> {
     ghost invariant = { λ inside.
         IsValidBoard (record {
           point = inside.point;
-          text = inside.text;
-          dict = inside.dict;
+          text_version = inside.text;
+          dict_version = inside.dict;
           lexicon = J.lexicon (arc_value inside.judge);
           paragraphs = inside.paragraphs;
           standings = map standing_of inside.states;

@@ -182,7 +182,7 @@ pub fn checks_are_fit()
         → IsFitCheck board paragraph.id rev dict paragraph.text board.lexicon }
     ensures later { (earlier later : Seen) (id : ℕ) (paragraph : Paragraph) → OnlyGrew earlier later
         → with_id id earlier.paragraphs ≡ Some paragraph
-        → IsFitCheck later id paragraph.rev earlier.dict paragraph.text earlier.lexicon }
+        → IsFitCheck later id paragraph.rev earlier.dict_version paragraph.text earlier.lexicon }
     ensures list { (board : Seen) (events : List SeenEvent) → IsValidBoard board → AllByRecursion (IsOfBoard board) events
         → AreFit board events }
 {

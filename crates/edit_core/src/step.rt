@@ -217,7 +217,7 @@ impl<J: Judge + Drop> Board<J> {
 
     /// Whether a dictionary version is the one in force.
     fn check_dict(&self, dict: u64) -> Result<(), Refusal>
-        ensures in_force { OnOk result (self.now.dict ≡ dict) }
+        ensures in_force { OnOk result (self.now.dict_version ≡ dict) }
         ensures passed { OnOk result (outdated self.now dict ≡ None) }
         ensures refused { IfErr result (λ refusal. outdated self.now dict ≡ Some refusal) }
     {

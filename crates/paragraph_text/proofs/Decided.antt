@@ -6,14 +6,14 @@ use Rattle.std.proofs.Math.Seq.{drop-length}
 use Rattle.std.proofs.lemmas.Bool.{eqb-true, eq-eqb, leb-true, le-leb, ltb-true, lt-ltb}
 use Rattle.std.proofs.lemmas.List.{set_split, take-append-drop}
 use Rattle.std.proofs.lemmas.Option.{none-some, same_Some}
-use Rattle.paragraph_text.specs.Laws.{begun-at, changes, found-id, found-none, some-at, stands-in}
+use Rattle.paragraph_text.specs.Laws.{begun-at, changes, found-id, found-none, some-at, stands-in, no-break, split-at}
 use Rattle.paragraph_text.specs.Paragraphs.{Paragraph, HaveOwnIds, HasNoBreak, AreValid}
 use Rattle.paragraph_text.specs.Edits.{Applies, BeginsWith, IsChanged, IsDecided, IsFoundAt, IsGap, IsSpliced, Removes, Replaces, bad_span, behind, break_in, entry_refusal, first_refusal, full, gone_before, gone_or, is_span, place_of, splice_refusal, spliced, too_long}
 use Rattle.paragraph_text.specs.declared.edits.Edit.{Edit}
 use Rattle.paragraph_text.specs.declared.edits.Edit.TheVariants.{Insert, Remove, Replace}
 use Rattle.paragraph_text.specs.declared.edits.EditRefusal.{EditRefusal}
 use Rattle.paragraph_text.specs.declared.edits.EditRefusal.TheVariants.{Gone, Behind, BadSpan, HasBreak, TooLong, Full}
-use Rattle.paragraph_text.proofs.Places.{gap-at, map-none, no-break, no-break-found, or-parts, split-at, unless-none}
+use Rattle.paragraph_text.proofs.Places.{gap-at, map-none, no-break-found, or-parts, unless-none}
 use Rattle.paragraph_text.specs.declared.limits.TheConstants.{MOST_BYTES, MOST_PARAGRAPHS}
 
 -- ---- and no other list

@@ -5,9 +5,9 @@ use Rattle.std.proofs.lemmas.List.{take-append-drop}
 use Rattle.lists.specs.Laws.{each-append, each-front, each-middle, each-weaker}
 use Rattle.paragraph_text.specs.Paragraphs.{Paragraph, AreValid, HaveOwnIds, HasNoBreak, IsValidIn, numbered_from}
 use Rattle.paragraph_text.specs.Edits.{Applies, Inserts, Removes, Replaces, next_id_after, spliced}
+use Rattle.paragraph_text.specs.Laws.{numbered-length}
 use Rattle.paragraph_text.specs.declared.edits.Edit.{Edit}
 use Rattle.paragraph_text.specs.declared.edits.Edit.TheVariants.{Insert, Remove, Replace}
-use Rattle.paragraph_text.proofs.Places.{numbered-length}
 use Rattle.paragraph_text.specs.declared.limits.TheConstants.{MOST_BYTES, MOST_PARAGRAPHS}
 
 each-rest : {X : Type 0} (P : X → Type 0) (front rest : List X) → AllByRecursion P (front ++ rest) → AllByRecursion P rest

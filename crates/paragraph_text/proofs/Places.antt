@@ -12,29 +12,12 @@ use Rattle.paragraph_text.specs.Paragraphs.{Paragraph, HasNoBreak, numbered_from
 use Rattle.paragraph_text.specs.Edits.{unless, BeginsWith}
 use Rattle.paragraph_text.specs.declared.edits.EditRefusal.{EditRefusal}
 
--- a list is what stands before an item, the item, and what stands behind it
-pub split-at : {X : Type 0} (xs : List X) (k : ℕ) (x : X) → slice_get xs k ≡ Some x → xs ≡ take k xs ++ x ∷ drop (suc k) xs
-split-at [] k x is = cc
-split-at (y ∷ xs) zero x is =
-    let same : y ≡ x = cc in
-    ap (λ z. z ∷ xs) same
-split-at (y ∷ xs) (suc k) x is = ap (λ zs. y ∷ zs) (split-at xs k x is)
-
 -- at the place of the paragraph with an id a rest begins with it
 pub gap-at : (paragraphs : List Paragraph) (id k : ℕ) → position (λ p. p.id == id) paragraphs ≡ Some k → BeginsWith (Some id) (drop k paragraphs)
 gap-at [] id k is = absurd (none-some k is)
 gap-at (first ∷ others) id k is =
     let at = position-Some (λ (p : Paragraph). p.id == id) (first ∷ others) k first is in
     subst (BeginsWith (Some id)) (sym (drop_more (first ∷ others) k first at.0)) (eqb-true (get_or (first ∷ others) k first).id id at.1)
-
--- ---- the line feeds of a text
-pub no-break : (text : List ℕ) → position (λ byte. byte == 10) text ≡ None → HasNoBreak text
-no-break text is =
-    recursion_from_All (λ byte. ¬ (byte ≡ 10)) text (λ k d within. other (get_or text k d)
-    (prefix_len_passes (λ byte. not (byte == 10)) text k d (omega (arith, within, position-none (λ byte. byte == 10) text is))))
-  where
-    other : (byte : ℕ) → not (byte == 10) ≡ true → ¬ (byte ≡ 10)
-    other byte passes is = false≢true (sym (ap not (eq-eqb byte 10 is)) ∙ passes)
 
 pub no-break-found : (text : List ℕ) → HasNoBreak text → position (λ byte. byte == 10) text ≡ None
 no-break-found text whole = by (position (λ byte. byte == 10) text) refl
@@ -67,7 +50,3 @@ numbered_more id (first ∷ texts) text =
   where
     counted : (m n : ℕ) → m + 1 + n ≡ m + suc n
     counted m n = omega arith
-
-pub numbered-length : (id : ℕ) (texts : List (List ℕ)) → length (numbered_from id texts) ≡ length texts
-numbered-length id [] = refl
-numbered-length id (text ∷ texts) = ap suc (numbered-length (id + 1) texts)

@@ -1,16 +1,17 @@
 -- Laws of where a paragraph stands, and of which change an edit is, that the proofs of crates above cite too.
-use Rattle.std.proofs.Common.{◌≡◌, ◌∙◌, refl, sym, ap, subst, ℕ, zero, suc, ◌<◌, ◌≤◌, ◌==◌, Bool, true, false, cond, List, [], ◌∷◌, ◌++◌, append-nil, length, ltb, position, find, slice_get, Option, None, Some, arith}
+use Rattle.std.proofs.Common.{◌≡◌, ◌∙◌, refl, sym, ap, subst, ℕ, zero, suc, ◌+◌, ◌<◌, ◌≤◌, ◌==◌, Bool, true, false, cond, not, List, [], ◌∷◌, ◌++◌, append-nil, length, take, drop, ltb, position, find, get_or, slice_get, Option, None, Some, arith}
 use Rattle.std.specs.List.{AllByRecursion, insert, position_or_len, remove}
 use Rattle.std.specs.Option.{option_map}
 use Rattle.std.proofs.Math.Seq.{drop-append_seam, set-append_seam, take-append_seam}
-use Rattle.std.proofs.lemmas.Bool.{eqb-true, eq-eqb, ltb-false, lt-ltb, ne_eqb}
+use Rattle.std.proofs.lemmas.Bool.{eqb-true, eq-eqb, false≢true, ltb-false, lt-ltb, ne_eqb}
 use Rattle.std.proofs.lemmas.List.Edits.{insert_end}
-use Rattle.std.proofs.lemmas.List.Elements.{All-from_recursion}
+use Rattle.std.proofs.lemmas.List.Elements.{All-from_recursion, recursion_from_All}
 use Rattle.std.proofs.lemmas.List.Folds.{find_at}
 use Rattle.std.proofs.lemmas.List.Quantifiers.{position-Some}
+use Rattle.std.proofs.lemmas.List.Sums.{prefix_len_passes}
 use Rattle.std.proofs.lemmas.Option.{cond_some, none-some, get_or_from_slice_get, same_Some, slice_get_past, slice_get_within, slice_get-get_or}
 use Rattle.lists.specs.Changes.{SetAt, InsertAt, RemoveAt}
-use Rattle.paragraph_text.specs.Paragraphs.{Paragraph, HaveOwnIds}
+use Rattle.paragraph_text.specs.Paragraphs.{Paragraph, HaveOwnIds, HasNoBreak, numbered_from}
 use Rattle.paragraph_text.specs.Edits.{Applies, BeginsWith, IsChanged, IsFoundAt, place_of, spliced}
 use Rattle.paragraph_text.specs.declared.edits.Edit.{Edit}
 use Rattle.paragraph_text.specs.declared.edits.Edit.TheVariants.{Insert, Remove, Replace}
@@ -135,3 +136,25 @@ changes version next_id paragraphs after (Remove id rev) own made = record {
   change_is = ap (option_map (λ place. RemoveAt place)) (stands-in id made.front made.touched made.rest own made.before_is made.named).place_is;
   after_is = made.after_is ∙ rw (made.before_is, remove-seam) refl;
 }
+
+-- a list is what stands before an item, the item, and what stands behind it
+pub split-at : {X : Type 0} (xs : List X) (k : ℕ) (x : X) → slice_get xs k ≡ Some x → xs ≡ take k xs ++ x ∷ drop (suc k) xs
+split-at [] k x is = cc
+split-at (y ∷ xs) zero x is =
+    let same : y ≡ x = cc in
+    ap (λ z. z ∷ xs) same
+split-at (y ∷ xs) (suc k) x is = ap (λ zs. y ∷ zs) (split-at xs k x is)
+
+-- where no line feed is found there is none
+pub no-break : (text : List ℕ) → position (λ byte. byte == 10) text ≡ None → HasNoBreak text
+no-break text is =
+    recursion_from_All (λ byte. ¬ (byte ≡ 10)) text (λ k d within. other (get_or text k d)
+    (prefix_len_passes (λ byte. not (byte == 10)) text k d (omega (arith, within, position-none (λ byte. byte == 10) text is))))
+  where
+    other : (byte : ℕ) → not (byte == 10) ≡ true → ¬ (byte ≡ 10)
+    other byte passes is = false≢true (sym (ap not (eq-eqb byte 10 is)) ∙ passes)
+
+-- as many paragraphs are numbered as there are texts
+pub numbered-length : (id : ℕ) (texts : List (List ℕ)) → length (numbered_from id texts) ≡ length texts
+numbered-length id [] = refl
+numbered-length id (text ∷ texts) = ap suc (numbered-length (id + 1) texts)

@@ -53,7 +53,7 @@ impl<J: Judge + Drop> Console<J> {
         dict: u64,
     ) -> Result<Option<Board<J>>, NoMemory>
         requires inside { place < length (board_after self.now.board next).paragraphs }
-        requires dict { dict ≡ (board_after self.now.board next).dict }
+        requires dict { dict ≡ (board_after self.now.board next).dict_version }
         requires room { furthest_point (board_after self.now.board next) < 2 ^ 62 }
         ensures does { IfOk result (λ later. let console = console_of (board_after self.now.board next) in console_of (board_after self.now.board later)
             ≡ record console { states = set console.states place (settled_state (state_at console place)) }) }
@@ -75,7 +75,7 @@ fn settled_at<J: Judge + Drop>(
     dict: u64,
 ) -> Result<Option<Board<J>>, NoMemory>
     requires inside { place < length board.now.paragraphs }
-    requires dict { dict ≡ board.now.dict }
+    requires dict { dict ≡ board.now.dict_version }
     requires room { furthest_point board.now < 2 ^ 62 }
     ensures does { IfOk result (λ next. let console = console_of board.now in console_of (board_after board.now next)
         ≡ record console { states = set console.states place (settled_state (state_at console place)) }) }

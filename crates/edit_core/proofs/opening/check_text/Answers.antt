@@ -1,6 +1,6 @@
 -- Where no place is found no byte is a line feed.
 use Rattle.std.proofs.Common.{◌∙◌, sym, Ok, Err, Result, OnOk}
-use Rattle.edit_core.proofs.Openings.{no-break}
+use Rattle.paragraph_text.specs.Laws.{no-break}
 use Rattle.edit_core.proofs.opening.check_text.Goals as goal
 
 on-ok : {E A : Type 0} {P : Type 0} (r : Result A E) → P → OnOk r P

@@ -1,6 +1,6 @@
 -- Where no place is found no byte is a line feed.
 use Rattle.std.proofs.Common.{◌∙◌, sym}
-use Rattle.paragraph_text.proofs.Places.{no-break}
+use Rattle.paragraph_text.specs.Laws.{no-break}
 use Rattle.paragraph_text.proofs.edits.check_break.Goals as goal
 
 pub returns-in-None-clause-whole : goal.returns-in-None-clause-whole

@@ -30,7 +30,7 @@ made-requires-clause-not_refused g c =
     let view = c.in-Some.view in
     let checked = c.in_ok-check_all.field-0 in
     let held = c.in-Pending.held_by in
-    let event : AFinish 0 view.id view.rev c.args.dict checked.text (g.J.Judge.lexicon checked.judge) ≡ AFinish 0 shows.paragraph.id shows.paragraph.rev board.dict shows.paragraph.text board.lexicon =
+    let event : AFinish 0 view.id view.rev c.args.dict checked.text (g.J.Judge.lexicon checked.judge) ≡ AFinish 0 shows.paragraph.id shows.paragraph.rev board.dict_version shows.paragraph.text board.lexicon =
     cc (ap (λ checked. checked.text) c.in_ok-check_all.ensures, ap (λ checked. g.J.Judge.lexicon checked.judge) c.in_ok-check_all.ensures, c.judge.ensures.judge, shows.id, shows.rev, shows.text, c.requires.dict) in
     ap (first_refusal board) event
     ∙ own-check-free c.events_are_decided.ensures c.checks_are_fit.ensures.own board c.args.place shows.paragraph held c.judge.ensures.valid c.requires.room shows.at
