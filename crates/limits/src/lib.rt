@@ -1,0 +1,17 @@
+//! What the limits are. Definitions name the constants of the code, so that each number stands there once; this law says the numbers
+//! again, so that no change of one passes unseen.
+#![tactic(auto)]
+
+ghost use Rattle.std.specs.Prelude.{◌≡◌};
+ghost use Rattle.edit_core.specs.declared.limits.TheConstants.{MOST_MOVED};
+ghost use Rattle.input_lines.specs.declared.limits.TheConstants.{INPUT_LIMIT, LINE_LIMIT};
+ghost use Rattle.paragraph_text.specs.declared.limits.TheConstants.{MOST_BYTES, MOST_PARAGRAPHS};
+
+/// The limits on paragraphs, and on the input of `edit` and its lines; and how far an event moves a history.
+pub fn limits_are_these()
+    ensures paragraph { MOST_BYTES ≡ 65536 }
+    ensures paragraphs { MOST_PARAGRAPHS ≡ 20000 }
+    ensures line { LINE_LIMIT ≡ 131072 }
+    ensures input { INPUT_LIMIT ≡ 4294967295 }
+    ensures moved { MOST_MOVED ≡ 40001 }
+{}
