@@ -1,6 +1,8 @@
 -- How a dialogue ends, by how its reading has ended.
-use Rattle.std.proofs.Common.{◌≡◌, ◌∙◌, ◌⊎◌, inl, inr, ℕ, ◌<◌, ◌≤◌, Bool, true, List, [], Option, Some, None, Ok, Err, refl, sym, ap, subst, arith}
+use Rattle.std.proofs.Common.{◌≡◌, ◌∙◌, ◌⊎◌, ⊎_elim, inl, inr, ℕ, ◌<◌, ◌≤◌, Bool, true, List, []}
+use Rattle.std.proofs.Common.{Option, Some, None, Ok, Err, refl, sym, ap, subst, arith}
 use Rattle.std.specs.List.{AllByRecursion}
+use Rattle.lists.specs.Answers.{FailsAs}
 use Rattle.text_lines.specs.Lines.{line_texts}
 use Rattle.outside.specs.Files.{Folder}
 use Rattle.outside.specs.Laws.{front-longer}
@@ -15,7 +17,7 @@ use Rattle.input_lines.specs.declared.reading_end.ReadingEnd.{ReadingEnd}
 use Rattle.input_lines.specs.declared.reading_end.ReadingEnd.TheVariants as reading
 use Rattle.console_board.specs.Consoles.{Console, opened}
 use Rattle.console_board.specs.Transcripts.{Answers, IsRepliedTo, IsThere, asked_by, is_quit}
-use Rattle.command_line.specs.Due.{FailsAs, OfDue, OfFiles, OfMemory, dictionary_due}
+use Rattle.command_line.specs.Due.{MayCome, dictionary_due}
 use Rattle.command_line.specs.Ends.{Cut, EndsAs, IsEndPut}
 use Rattle.command_line.specs.Failures.{last_line}
 use Rattle.command_line.specs.Forms.{AllReplied, AreReplied, FilesFailedFirst, HasReplied, IsAnswerTo, IsCaused, IsDialogue, IsEdited, IsFit, IsUntouched, IsWholeDialogue, Met, NoneReplied, NotOpened, Opened, SomeReplied, WantingFirst, end_of, form_of}
@@ -25,7 +27,7 @@ use Rattle.command_line.specs.declared.ending.End.TheVariants.{Quiet, Failed}
 use Rattle.command_line.specs.declared.failure.Failure.{Failure}
 use Rattle.command_line.specs.declared.failure.Failure.TheVariants.{Load, NoMemory}
 use Rattle.command_line.specs.declared.requests.Request.TheVariants.{Edit}
-use Rattle.command_line.proofs.DueLemmas.{failure-caused}
+use Rattle.command_line.proofs.DueLemmas.{comes-as, dictionary-told, failure-caused, failure-told}
 use Rattle.command_line.proofs.EndLemmas.{ends-behind, goes-on}
 
 -- ---- what a console has replied
@@ -67,7 +69,7 @@ dialogue-cut {before = before} {now = now} sink_failed reading.SinkFailed said i
   due = Failed NoMemory;
   answer = record { ended = reading.NoMemory; end_is = refl; is = is };
   end = Failed NoMemory;
-  end_is = inl refl;
+  end_is = inr refl;
   put = Cut written.0 refl (front-longer before now said (last_line NoMemory) written.1);
 }
 dialogue-cut sink_failed _ said is written told = absurd (cc)
@@ -92,15 +94,18 @@ dialogue-answers {met} {names} {lexicon} {text} {end} (there, is, due) dialogue 
 
 -- it did not
 pub not-opened : {met : Met} {names : DictionaryNamed} {failure : Failure}
-    → (there : DictionaryFiles) × IsThere met.folder names.aff names.dic there × FailsAs (dictionary_due there) failure
+    → (there : DictionaryFiles) × IsThere met.folder names.aff names.dic there
+    × FailsAs MayCome (dictionary_due there) failure
     → (failure ≡ Load FailedLoad → met.files_before < met.files_after) → IsUntouched met.reading → IsAnswerTo (Some (Edit names)) met [] (Failed failure)
 not-opened {met} {names} {failure} (there, is, fails) rose untouched =
-    record { answer = by fails; caused = failure-caused fails rose; input = tt; files = tt }
+    let told = failure-told (dictionary-told there) fails in
+    record { answer = by fails; caused = failure-caused told rose; input = tt; files = tt }
   where
-    by : FailsAs (dictionary_due there) failure → IsEdited met names [] (Failed failure)
-    by (OfDue fault due) = NotOpened there failure is due refl refl untouched
-    by (OfFiles failed) = FilesFailedFirst (ap Failed failed) untouched
-    by (OfMemory wanting) = WantingFirst (ap Failed wanting) refl
+    by : FailsAs MayCome (dictionary_due there) failure → IsEdited met names [] (Failed failure)
+    by (inl comes) =
+        ⊎_elim (λ failed. FilesFailedFirst (ap Failed failed) untouched)
+        (λ wanting. WantingFirst (ap Failed wanting) refl) (comes-as failure comes)
+    by (inr due) = NotOpened there failure is due refl refl untouched
 
 -- ---- where nothing fails and no limit is passed
 
@@ -113,16 +118,21 @@ fit-due {names = names} there fit is =
 
 -- a dictionary that is fit is loaded, unless the files fail first
 pub not-opened-whole : {met : Met} {names : DictionaryNamed} {failure : Failure}
-    → (there : DictionaryFiles) × IsThere met.folder names.aff names.dic there × FailsAs (dictionary_due there) failure
+    → (there : DictionaryFiles) × IsThere met.folder names.aff names.dic there
+    × FailsAs MayCome (dictionary_due there) failure
     → (failure ≡ Load FailedLoad → met.files_before < met.files_after) → IsUntouched met.reading
     → (form_of (Some (Edit names))).whole met [] (Failed failure)
 not-opened-whole {met} {names} {failure} (there, is, fails) rose untouched = λ lexicon fit first reads. by lexicon fit first fails
   where
     by : (lexicon : Lexicon) → IsFit met names lexicon → ¬ ((met.files_before < met.files_after) × IsUntouched met.reading)
-        → FailsAs (dictionary_due there) failure → IsWholeDialogue met lexicon [] (Failed failure)
-    by lexicon fit first (OfDue fault due) = let never : Ok lexicon ≡ Err failure = sym (fit-due there fit is) ∙ due in absurd (cc)
-    by lexicon fit first (OfFiles failed) = absurd (first (rose failed, untouched))
-    by lexicon fit first (OfMemory wanting) = NoneReplied (ap Failed wanting) refl
+        → FailsAs MayCome (dictionary_due there) failure
+        → IsWholeDialogue met lexicon [] (Failed failure)
+    by lexicon fit first (inl comes) =
+        ⊎_elim (λ failed. absurd (first (rose failed, untouched)))
+        (λ wanting. NoneReplied (ap Failed wanting) refl) (comes-as failure comes)
+    by lexicon fit first (inr due) =
+        let never : Ok lexicon ≡ Err failure = sym (fit-due there fit is) ∙ due in
+        absurd (cc)
 
 -- what the law of readings says, of a dialogue
 abbrev pub AreRead : Type 0

@@ -1,21 +1,29 @@
 -- What a call gives or fails with, step by step, is what is due.
-use Rattle.std.proofs.Common.{◌≡◌, ◌∙◌, ℕ, ◌==◌, ◌<◌, ◌≤◌, length, nat_le, Bool, true, false, List, [], Option, Some, None, IfSome, IsErrAnd, IsErrOf, Result, Ok, Err, refl, sym, ap, subst, arith, if◌then◌else◌}
+use Rattle.std.proofs.Common.{◌≡◌, ◌∙◌, ◌⊎◌, ⊎_elim, inl, inr, ℕ, ◌==◌, ◌<◌, ◌≤◌, length, nat_le}
+use Rattle.std.proofs.Common.{Bool, true, false, List, [], Option, Some, None, IfSome}
+use Rattle.std.proofs.Common.{Result, Ok, Err, IfErr, IsErrAnd, IsErrOf}
+use Rattle.std.proofs.Common.{refl, sym, ap, subst, arith, if◌then◌else◌}
 use Rattle.std.proofs.lemmas.Bool.{le-leb}
-use Rattle.outside.specs.Files.{Folder, FailsAs as FileFails, file_due}
+use Rattle.std.proofs.lemmas.Result.{IfErr-at_err}
+use Rattle.lists.specs.AnswerLaws.{fails-then, gives-fault, gives-then}
+use Rattle.lists.specs.Answers.{◌>>=◌, failing, FailsAs, GivesDue}
+use Rattle.outside.specs.Files.{Folder, MayCome as FileMayCome, file_due}
 use Rattle.outside.specs.declared.faults.FileFault.{FileFault}
 use Rattle.outside.specs.declared.faults.FileFault.TheVariants.{Failed as FileFailed, TooLong as FileTooLong, NoMemory as FileWanting}
 use Rattle.spell_types.specs.declared.Lexicon.{Lexicon}
-use Rattle.dictionary_swap.specs.Loads.{DictionaryFiles, FailsAs as LoadFailsAs, found_in, load_fault_of}
+use Rattle.dictionary_swap.specs.Loads.{DictionaryFiles, MayCome as LoadMayCome, found_in}
+use Rattle.dictionary_swap.specs.Loads.{lexicon_due, load_fault_of}
 use Rattle.dictionary_swap.specs.declared.fault.LoadFault.{LoadFault}
 use Rattle.dictionary_swap.specs.declared.fault.LoadFault.TheVariants.{Failed as FailedLoad, NoMemory as LoadWanting}
-use Rattle.document_report.specs.Documents.{FailsAs as ReportFailsAs}
+use Rattle.document_report.specs.Documents.{MayCome as ReportMayCome}
 use Rattle.document_report.specs.Given.{printed_by}
 use Rattle.document_report.specs.Reports.{Printed, report_of}
 use Rattle.document_report.specs.declared.fault.DocumentFault.{DocumentFault}
 use Rattle.document_report.specs.declared.fault.DocumentFault.TheVariants.{NoMemory as ReportWanting}
 use Rattle.document_report.specs.declared.printing.Report.{Report}
 use Rattle.console_board.specs.Transcripts.{IsThere}
-use Rattle.command_line.specs.Due.{Found, FailsAs, OfDue, OfFiles, OfMemory, GivesDue, IsFileThere, IsFound, ◌>>=◌, bytes_due, check_due, checked_due, dictionary_due, failing, printed_due}
+use Rattle.command_line.specs.Due.{Found, IsFileThere, IsFound, MayCome, bytes_due, check_due}
+use Rattle.command_line.specs.Due.{checked_due, dictionary_due, printed_due}
 use Rattle.command_line.specs.Failures.{document_failure, failure_of, is_fault}
 use Rattle.command_line.specs.Forms.{AllOfIt, AllPrinted, AreFirstLines, FilesFailed, IsCaused, IsReport, IsWholeReport, Met, Refused, SomeOfIt, Wanting, end_printed, is_alone, lines_before}
 use Rattle.command_line.specs.Given.{end_by, text_by}
@@ -26,64 +34,93 @@ use Rattle.command_line.specs.declared.failure.Failure.{Failure}
 use Rattle.command_line.specs.declared.failure.Failure.TheVariants.{Words, Load, Input, NoMemory}
 use Rattle.command_line.specs.declared.requests.Request.{Request}
 use Rattle.command_line.proofs.EndLemmas.{goes-on}
-use Rattle.command_line.specs.declared.loading.TheConstants.{DOCUMENT_LIMIT}
-
--- ---- one thing after another
-
--- what fails first fails all
-pub fails-then : {A B : Type 0} {due : Result A Failure} {failure : Failure} (f : A → Result B Failure) → FailsAs due failure → FailsAs (due >>= f) failure
-fails-then f (OfDue fault is) = OfDue fault (ap (λ d. d >>= f) is)
-fails-then f (OfFiles is) = OfFiles is
-fails-then f (OfMemory is) = OfMemory is
-
--- behind what is given all goes on
-pub gives-then : {A B C : Type 0} {due : Result A Failure} {given : A} (f : A → Result B Failure) (view : C → B) (result : Result C Failure)
-    → due ≡ Ok given → GivesDue view (f given) result → GivesDue view (due >>= f) result
-gives-then f view result is gives = subst (λ d. GivesDue view (d >>= f) result) (sym is) gives
-
--- the failure of a result is one that is told
-pub gives-failure : {A B : Type 0} {due : Result B Failure} {failure : Failure} (view : A → B) (result : Result A Failure) → FailsAs due failure
-    → IsErrAnd result (λ told. told ≡ failure) → GivesDue view due result
-gives-failure view (Ok given) fails is = absurd is
-gives-failure {due = due} view (Err told) fails is = subst (FailsAs due) (sym is) fails
+use Rattle.command_line.specs.declared.limits.TheConstants.{DOCUMENT_LIMIT}
 
 -- ---- faults as failures
 
-pub load-fails : {A : Type 0} (due : Result A LoadFault) (fault : LoadFault) → LoadFailsAs due fault → FailsAs (failing failure_of due) (failure_of fault)
-load-fails due FailedLoad is = OfFiles refl
-load-fails due LoadWanting is = OfMemory refl
-load-fails due _ is = OfDue refl (ap (failing failure_of) is)
+-- what may come at any time
+pub comes-as : (failure : Failure) → MayCome failure
+    → (failure ≡ Load FailedLoad) ⊎ (failure ≡ NoMemory)
+comes-as (Load FailedLoad) comes = inl refl
+comes-as NoMemory comes = inr refl
+comes-as _ comes = absurd comes
 
-pub document-fails : {A : Type 0} (due : Result A DocumentFault) (fault : DocumentFault) → ReportFailsAs due fault
-    → FailsAs (failing document_failure due) (document_failure fault)
-document-fails due ReportWanting is = OfMemory refl
-document-fails due _ is = OfDue refl (ap (failing document_failure) is)
+pub load-comes : (fault : LoadFault) → LoadMayCome fault → MayCome (failure_of fault)
+load-comes FailedLoad comes = tt
+load-comes LoadWanting comes = tt
+load-comes _ comes = absurd comes
 
 -- the failure of a file of a document
-abbrev file_failure : FileFault → Failure
+abbrev pub file_failure : FileFault → Failure
 file_failure fault = failure_of (load_fault_of DOCUMENT_LIMIT fault)
 
-pub file-fails : (file : Option (List ℕ)) (fault : FileFault) → FileFails (file_due DOCUMENT_LIMIT file) fault → FailsAs (bytes_due file) (file_failure fault)
-unfolding bytes_due
-file-fails file FileFailed is = OfFiles refl
-file-fails file FileWanting is = OfMemory refl
-file-fails file _ is = OfDue refl (ap (failing file_failure) is)
+pub file-comes : (fault : FileFault) → FileMayCome fault → MayCome (file_failure fault)
+file-comes FileFailed comes = tt
+file-comes FileWanting comes = tt
+file-comes _ comes = absurd comes
 
--- a failure of what is due has no other cause than a failed file
-pub failure-caused : {A : Type 0} {asked : Option Request} {met : Met} {due : Result A Failure} {failure : Failure} → FailsAs due failure
-    → (failure ≡ Load FailedLoad → met.files_before < met.files_after) → IsCaused asked met [] (Failed failure)
-failure-caused {failure = failure} fails rose = record {
-  words = λ is. other fails Words (cc) refl (λ load. absurd (cc)) (λ memory. absurd (cc));
+pub report-comes : (fault : DocumentFault) → ReportMayCome fault → MayCome (document_failure fault)
+report-comes ReportWanting comes = tt
+report-comes _ comes = absurd comes
+
+-- ---- what is due
+
+-- a failure that is told may come at any time, or is a fault of the files or of the document
+abbrev pub IsTold : Failure → Type 0
+IsTold failure = MayCome failure ⊎ (is_fault failure ≡ true)
+
+load-told : (fault : LoadFault) → IsTold (failure_of fault)
+load-told FailedLoad = inl tt
+load-told LoadWanting = inl tt
+load-told _ = inr refl
+
+report-told : (fault : DocumentFault) → IsTold (document_failure fault)
+report-told ReportWanting = inl tt
+report-told _ = inr refl
+
+failing-told : {A E : Type 0} (to : E → Failure) → ((fault : E) → IsTold (to fault))
+    → (due : Result A E) → IfErr (failing to due) IsTold
+failing-told to told (Ok given) = tt
+failing-told to told (Err fault) = told fault
+
+then-told : {A B : Type 0} (due : Result A Failure) (next : A → Result B Failure)
+    → IfErr due IsTold → ((given : A) → IfErr (next given) IsTold) → IfErr (due >>= next) IsTold
+then-told (Ok given) next told later = later given
+then-told (Err failure) next told later = told
+
+pub dictionary-told : (there : DictionaryFiles) → IfErr (dictionary_due there) IsTold
+unfolding dictionary_due
+dictionary-told there = failing-told failure_of load-told (lexicon_due there)
+
+pub checked-told : (printed : Lexicon → List (List ℕ) → Printed) (found : Found)
+    → IfErr (checked_due printed found) IsTold
+unfolding checked_due bytes_due printed_due
+checked-told printed found =
+    then-told (dictionary_due _) _ (dictionary-told _) (λ lexicon.
+    then-told (bytes_due found.document) _
+    (failing-told file_failure (λ fault. load-told (load_fault_of DOCUMENT_LIMIT fault)) _)
+    (λ document. failing-told document_failure report-told _))
+
+-- so what a call fails with is told
+pub failure-told : {A : Type 0} {due : Result A Failure} {failure : Failure}
+    → IfErr due IsTold → FailsAs MayCome due failure → IsTold failure
+failure-told told (inl comes) = inl comes
+failure-told told (inr is) = IfErr-at_err IsTold is told
+
+-- and it has no other cause than a failed file
+pub failure-caused : {asked : Option Request} {met : Met} {failure : Failure} → IsTold failure
+    → (failure ≡ Load FailedLoad → met.files_before < met.files_after)
+    → IsCaused asked met [] (Failed failure)
+failure-caused {failure = failure} told rose = record {
+  words = λ is. let same : failure ≡ Words = cc in other (subst IsTold same told);
   files = λ is. rose (cc);
-  input = λ is. other fails Input (cc) refl (λ load. absurd (cc)) (λ memory. absurd (cc));
+  input = λ is. let same : failure ≡ Input = cc in other (subst IsTold same told);
   alone = λ is. refl;
 }
   where
-    other : {A B : Type 0} {due : Result B Failure} → FailsAs due failure → (told : Failure) → failure ≡ told → is_fault told ≡ false
-        → ¬ (told ≡ Load FailedLoad) → ¬ (told ≡ NoMemory) → A
-    other (OfDue fault is) told same none load memory = let never : true ≡ false = sym fault ∙ ap is_fault same ∙ none in absurd (cc)
-    other (OfFiles is) told same none load memory = absurd (load (sym same ∙ is))
-    other (OfMemory is) told same none load memory = absurd (memory (sym same ∙ is))
+    other : {A : Type 0} → ⊥ ⊎ (false ≡ true) → A
+    other (inl never) = absurd never
+    other (inr never) = absurd (cc)
 
 -- ---- the files of a check
 
@@ -110,37 +147,46 @@ found-both (Some folder) names there file is also = rw (is, also) refl
 
 -- what is due of the files that there are
 abbrev pub IsChecked : Option Folder → CheckedFiles → Result Report Failure → Type 0
-IsChecked told names result = (found : Found) × IsFound told names found × GivesDue printed_by (check_due found) result
+IsChecked told names result = (found : Found) × IsFound told names found
+    × GivesDue MayCome printed_by (check_due found) result
 
 -- the dictionary is not loaded
 pub check-not-loaded : (told : Option Folder) (names : CheckedFiles) {failure : Failure} (result : Result Report Failure)
-    → (there : DictionaryFiles) × IsThere told names.aff names.dic there × FailsAs (dictionary_due there) failure
+    → (there : DictionaryFiles) × IsThere told names.aff names.dic there
+    × FailsAs MayCome (dictionary_due there) failure
     → IsErrAnd result (λ other. other ≡ failure) → IsChecked told names result
 unfolding checked_due
 check-not-loaded told names result (there, is, fails) fault =
     let file = any-file told names.document in
-    (_, found-both told names there file.0 is file.1, gives-failure printed_by result (fails-then _ fails) fault)
+    let due = fails-then MayCome _ fails in
+    let both = found-both told names there file.0 is file.1 in
+    (_, both, gives-fault MayCome printed_by result due fault)
 
 -- the document is not loaded
 pub check-no-document : (told : Option Folder) (names : CheckedFiles) {lexicon : Lexicon} {failure : Failure} (result : Result Report Failure)
     → (there : DictionaryFiles) × IsThere told names.aff names.dic there × (dictionary_due there ≡ Ok lexicon)
-    → (file : Option (List ℕ)) × IsFileThere told names.document file × FailsAs (bytes_due file) failure
+    → (file : Option (List ℕ)) × IsFileThere told names.document file
+    × FailsAs MayCome (bytes_due file) failure
     → IsErrAnd result (λ other. other ≡ failure) → IsChecked told names result
 unfolding checked_due
 check-no-document told names result (there, is, due) (file, also, fails) fault = (
   _,
   found-both told names there file is also,
-  gives-then _ printed_by result due (gives-failure printed_by result (fails-then _ fails) fault),
+  gives-then MayCome _ printed_by result due
+      (gives-fault MayCome printed_by result (fails-then MayCome _ fails) fault),
 )
 
 -- both are, and the report is what is due
 pub check-reported : (told : Option Folder) (names : CheckedFiles) {lexicon : Lexicon} {document : List ℕ} (result : Result Report Failure)
     → (there : DictionaryFiles) × IsThere told names.aff names.dic there × (dictionary_due there ≡ Ok lexicon)
     → (file : Option (List ℕ)) × IsFileThere told names.document file × (bytes_due file ≡ Ok document)
-    → GivesDue printed_by (printed_due report_of lexicon document) result → IsChecked told names result
+    → GivesDue MayCome printed_by (printed_due report_of lexicon document) result
+    → IsChecked told names result
 unfolding checked_due
 check-reported told names result (there, is, due) (file, also, bytes) gives =
-    (_, found-both told names there file is also, gives-then _ printed_by result due (gives-then _ printed_by result bytes gives))
+    let document = gives-then MayCome _ printed_by result bytes gives in
+    let both = found-both told names there file is also in
+    (_, both, gives-then MayCome _ printed_by result due document)
 
 -- bytes that are few enough are due
 pub bytes-made : (bytes given : List ℕ) → given ≡ bytes → length given ≤ DOCUMENT_LIMIT → bytes_due (Some bytes) ≡ Ok given
@@ -151,12 +197,24 @@ bytes-made bytes given same few =
 
 -- ---- what is written of it
 
+-- a failure that may come at any time ends a report
+report-comes-as : (due : Result Printed Failure) (failure : Failure) → MayCome failure
+    → IsReport due [] (Failed failure)
+report-comes-as due failure comes =
+    let lines : AreFirstLines (lines_before due) [] =
+    record { rest = lines_before due; begins = refl; whole = refl } in
+    ⊎_elim (λ failed. FilesFailed (ap Failed failed)) (λ wanting. Wanting (ap Failed wanting) lines)
+    (comes-as failure comes)
+
 -- what a result tells is a report of what is due
-pub report-given : (due : Result Printed Failure) (outcome : Result Report Failure) → GivesDue printed_by due outcome → IsReport due (text_by outcome) (end_by outcome)
-report-given due (Ok report) is = AllPrinted (printed_by report) is refl refl
-report-given due (Err failure) (OfDue fault is) = Refused failure fault is refl
-report-given due (Err failure) (OfFiles is) = FilesFailed (ap Failed is)
-report-given due (Err failure) (OfMemory is) = Wanting (ap Failed is) (record { rest = lines_before due; begins = refl; whole = refl })
+pub report-given : (due : Result Printed Failure) (outcome : Result Report Failure)
+    → IfErr due IsTold → GivesDue MayCome printed_by due outcome
+    → IsReport due (text_by outcome) (end_by outcome)
+report-given due (Ok report) told is = AllPrinted (printed_by report) is refl refl
+report-given due (Err failure) told (inl comes) = report-comes-as due failure comes
+report-given due (Err failure) told (inr is) =
+    ⊎_elim (report-comes-as due failure) (λ fault. Refused failure fault is refl)
+    (IfErr-at_err IsTold is told)
 
 -- what is printed ends no call by a failure
 printed-unfailed : {A : Type 0} {failure : Failure} (none : Bool) → (if none then Quiet else Marked) ≡ Failed failure → A
@@ -168,10 +226,14 @@ printed-goes-on true = refl
 printed-goes-on false = refl
 
 -- with its cause
-pub report-caused : {asked : Option Request} {met : Met} (due : Result Printed Failure) (outcome : Result Report Failure) → GivesDue printed_by due outcome
+pub report-caused : {asked : Option Request} {met : Met} (due : Result Printed Failure)
+    (outcome : Result Report Failure) → IfErr due IsTold → GivesDue MayCome printed_by due outcome
     → (IsErrOf outcome (Load FailedLoad) → met.files_before < met.files_after) → IsCaused asked met (text_by outcome) (end_by outcome)
-report-caused due (Ok report) is failed = goes-on (printed-goes-on (report.marks == 0)) (λ input. printed-unfailed (report.marks == 0) input)
-report-caused due (Err failure) fails failed = failure-caused fails (λ is. failed (ap Err is))
+report-caused due (Ok report) told is failed =
+    let none = report.marks == 0 in
+    goes-on (printed-goes-on none) (λ input. printed-unfailed none input)
+report-caused due (Err failure) told fails failed =
+    failure-caused (failure-told told fails) (λ is. failed (ap Err is))
 
 -- an end by files that failed is that of an outcome that they failed
 pub failed-files : {rose : Type 0} (outcome : Result Report Failure) → (IsErrOf outcome (Load FailedLoad) → rose)

@@ -128,11 +128,13 @@ due-told meant not_sink not_memory ends is = by ends.text ends.due ends.end ends
         → IsPut (status_at end) (text ++ tail_of end) sink_failed before now status → status ≡ meant
         → Tells meant due × Appends before now (text ++ tail_of due)
     by text due end end_is (Cut failed six put) is = absurd (not_sink (sym is ∙ six))
-    by text due end (inr wanting) (Whole told_as put) is = absurd (not_memory (sym is ∙ told_as ∙ ap status_at wanting))
-    by {before = before} {now = now} text due end (inl same) (Whole told_as put) is = (
-      subst (λ n. Tells n due) (ap status_at (sym same) ∙ sym told_as ∙ is) (told due),
-      subst (λ end. Appends before now (text ++ tail_of end)) same put,
-    )
+    by text due end (inl wanting) (Whole told_as put) is =
+        absurd (not_memory (sym is ∙ told_as ∙ ap status_at wanting))
+    by {before = before} {now = now} text due end (inr found) (Whole told_as put) is =
+        let same : due ≡ end = cc in (
+          subst (λ n. Tells n due) (ap status_at same ∙ sym told_as ∙ is) (told due),
+          subst (λ end. Appends before now (text ++ tail_of end)) (sym same) put,
+        )
 
 -- words of no form alone have the status 2
 pub two-has-no-form : {asked : Option Request} {met : Met} {sink_failed : Type 0} {before now : Option (List ℕ)} {status : ℕ}

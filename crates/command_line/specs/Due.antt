@@ -1,5 +1,6 @@
 -- What is due of files: what the program is to print of them, or why there is nothing to print.
-use Rattle.std.specs.Prelude.{◌≡◌, ℕ, true, List, codes, Option, Some, None, IsSomeAnd, Result, Ok, Err}
+use Rattle.std.specs.Prelude.{◌≡◌, ℕ, List, codes, Option, Some, None, IsSomeAnd, Result}
+use Rattle.lists.specs.Answers.{◌>>=◌, failing}
 use Rattle.outside.specs.Files.{Folder, file_due}
 use Rattle.spell_types.specs.declared.Lexicon.{Lexicon}
 use Rattle.dictionary_swap.specs.Loads.{DictionaryFiles, lexicon_due, load_fault_of}
@@ -7,28 +8,17 @@ use Rattle.dictionary_swap.specs.declared.fault.LoadFault.TheVariants.{Failed}
 use Rattle.document_report.specs.Documents.{document_due}
 use Rattle.document_report.specs.Reports.{Printed, report_of, summary_of}
 use Rattle.work_maker.specs.Made.{aff_bytes, dic_bytes, text_bytes}
-use Rattle.command_line.specs.Failures.{document_failure, failure_of, is_fault}
+use Rattle.command_line.specs.Failures.{document_failure, failure_of}
 use Rattle.command_line.specs.Operands.{CheckedFiles, StartAndSize}
 use Rattle.command_line.specs.declared.failure.Failure.{Failure}
 use Rattle.command_line.specs.declared.failure.Failure.TheVariants.{Load, NoMemory}
-use Rattle.command_line.specs.declared.loading.TheConstants.{DOCUMENT_LIMIT}
+use Rattle.command_line.specs.declared.limits.TheConstants.{DOCUMENT_LIMIT}
 
 -- what there is of the files of a dictionary and of a document: the bytes of each, if it is there
 pub record Found : Type 0 where
   pub aff : Option (List ℕ)
   pub dic : Option (List ℕ)
   pub document : Option (List ℕ)
-
--- one thing due after another, up to the first failure
-infixl 10 ◌>>=◌
-abbrev pub ◌>>=◌ : {A B : Type 0} → Result A Failure → (A → Result B Failure) → Result B Failure
-(Ok x) >>= f = f x
-(Err failure) >>= f = Err failure
-
--- a fault is a failure
-abbrev pub failing : {A E : Type 0} → (E → Failure) → Result A E → Result A Failure
-failing to (Ok given) = Ok given
-failing to (Err fault) = Err (to fault)
 
 -- what is due of the files of a dictionary
 unfoldable pub dictionary_due : DictionaryFiles → Result Lexicon Failure
@@ -75,13 +65,8 @@ abbrev pub IsFileThere : Option Folder → List ℕ → Option (List ℕ) → Ty
 IsFileThere None name file = Unit {0}
 IsFileThere (Some folder) name file = file ≡ folder name
 
--- why a call fails: for what is due, for a failed file, or for want of memory, of which the last two may come at any time
-pub data FailsAs {A : Type 0} (due : Result A Failure) (failure : Failure) : Type 0 where
-  OfDue : is_fault failure ≡ true → due ≡ Err failure → FailsAs due failure
-  OfFiles : failure ≡ Load Failed → FailsAs due failure
-  OfMemory : failure ≡ NoMemory → FailsAs due failure
-
--- a call gives what is due, seen by `view`, or fails so
-abbrev pub GivesDue : {A B : Type 0} → (A → B) → Result B Failure → Result A Failure → Type 0
-GivesDue view due (Ok given) = due ≡ Ok (view given)
-GivesDue view due (Err failure) = FailsAs due failure
+-- files that fail and want of memory may come at any time
+abbrev pub MayCome : Failure → Type 0
+MayCome (Load Failed) = Unit {0}
+MayCome NoMemory = Unit {0}
+MayCome _ = ⊥

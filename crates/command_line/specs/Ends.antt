@@ -1,5 +1,6 @@
 -- How a call may end: with which status, and what is written by then.
-use Rattle.std.specs.Prelude.{◌≡◌, ℕ, List, [], ◌++◌, ◌⊎◌, Option}
+use Rattle.std.specs.Prelude.{◌≡◌, ℕ, List, [], ◌++◌, Option, Some}
+use Rattle.lists.specs.Answers.{IsDueOr}
 use Rattle.outside.specs.Sink.{Appends, AppendsFront}
 use Rattle.command_line.specs.Failures.{last_line, status_of}
 use Rattle.command_line.specs.declared.ending.End.{End}
@@ -29,7 +30,7 @@ pub data IsPut (meant : ℕ) (text : List ℕ) (sink_failed : Type 0) (before no
 
 -- an end is this one, or memory is wanting for its last line
 abbrev pub IsOrWanting : End → End → Type 0
-IsOrWanting due end = (end ≡ due) ⊎ (end ≡ Failed NoMemory)
+IsOrWanting due end = IsDueOr (Failed NoMemory) (Some due) end
 
 -- what ends a call was put
 abbrev pub IsEndPut : End → Type 0 → Option (List ℕ) → Option (List ℕ) → ℕ → Type 0

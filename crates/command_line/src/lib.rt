@@ -4,10 +4,12 @@
 mod ending;
 mod failure;
 mod forms;
+mod limits;
 mod loading;
 mod no_input;
 mod requests;
 mod top_call;
 
 pub use ending::put_wanting;
+pub use limits::DOCUMENT_LIMIT;
 pub use top_call::{Ended, run, run_check};

@@ -1,13 +1,15 @@
 //! Loads the files that words name. Why a file is not loaded is a failure.
 
 ghost use Rattle.std.specs.Prelude.{◌≡◌, ◌<◌, ◌≤◌, ℕ, List, Option, IfOk, IsErrOf};
+ghost use Rattle.lists.specs.Answers.{GivesDue};
 ghost use Rattle.console_board.specs.Transcripts.{IsThere};
 ghost use Rattle.dictionary_swap.specs.Loads.{DictionaryFiles};
 ghost use Rattle.dictionary_swap.specs.declared.fault.LoadFault.TheVariants.{Failed};
-ghost use Rattle.command_line.specs.Due.{GivesDue, IsFileThere, bytes_due, dictionary_due};
+ghost use Rattle.command_line.specs.Due.{IsFileThere, MayCome, bytes_due, dictionary_due};
 ghost use Rattle.command_line.specs.declared.failure.Failure.TheVariants.{Load};
 
 use crate::failure::Failure;
+use crate::limits::DOCUMENT_LIMIT;
 use dictionary_swap::{LoadFault, load};
 use lists::NoMemory;
 use outside::{Files, load_file};
@@ -15,9 +17,6 @@ use paragraph_marks::Plain;
 use std::alloc::Global;
 use std::sync::Arc;
 use word_verdict::Speller;
-
-/// How large a document may be, in bytes.
-const DOCUMENT_LIMIT: u64 = 67_108_864;
 
 /// The dictionary of these two files.
 pub fn load_speller<F: Files>(
@@ -27,7 +26,8 @@ pub fn load_speller<F: Files>(
     dic: &str,
 ) -> Result<Speller, Failure>
     // It is what is due of some files, which are those that are told, where some are.
-    ensures due { (there : DictionaryFiles) × IsThere (F.told files.old) aff.now dic.now there × GivesDue (λ speller. speller) (dictionary_due there) result }
+    ensures due { (there : DictionaryFiles) × IsThere (F.told files.old) aff.now dic.now there
+        × GivesDue MayCome (λ speller. speller) (dictionary_due there) result }
     ensures failed { IsErrOf result (Load Failed) → F.faults files.old < F.faults files.new }
     ensures same { F.told files.new ≡ F.told files.old }
     ensures count { F.faults files.old ≤ F.faults files.new }
@@ -46,7 +46,8 @@ pub fn load_judge<F: Files>(
     aff: &str,
     dic: &str,
 ) -> Result<Plain<Speller>, Failure>
-    ensures due { (there : DictionaryFiles) × IsThere (F.told files.old) aff.now dic.now there × GivesDue (λ judge. judge) (dictionary_due there) result }
+    ensures due { (there : DictionaryFiles) × IsThere (F.told files.old) aff.now dic.now there
+        × GivesDue MayCome (λ judge. judge) (dictionary_due there) result }
     ensures failed { IsErrOf result (Load Failed) → F.faults files.old < F.faults files.new }
     ensures same { F.told files.new ≡ F.told files.old }
     ensures count { F.faults files.old ≤ F.faults files.new }
@@ -64,7 +65,8 @@ fn judge_of(alloc: Global, speller: Speller) -> Result<Plain<Speller>, NoMemory>
 
 /// The bytes of a document.
 pub fn load_document<F: Files>(alloc: Global, files: &mut F, name: &str) -> Result<Vec<u8>, Failure>
-    ensures due { (file : Option (List ℕ)) × IsFileThere (F.told files.old) name.now file × GivesDue (λ bytes. bytes.items) (bytes_due file) result }
+    ensures due { (file : Option (List ℕ)) × IsFileThere (F.told files.old) name.now file
+        × GivesDue MayCome (λ bytes. bytes.items) (bytes_due file) result }
     ensures failed { IsErrOf result (Load Failed) → F.faults files.old < F.faults files.new }
     ensures same { F.told files.new ≡ F.told files.old }
     ensures count { F.faults files.old ≤ F.faults files.new }

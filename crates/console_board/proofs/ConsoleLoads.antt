@@ -3,7 +3,8 @@ use Rattle.std.proofs.Common.{◌≡◌, ◌∙◌, inl, inr, refl, sym, ap, sub
 use Rattle.std.specs.Prelude.{IfSome}
 use Rattle.console_lang.specs.declared.reply.Reply.{Reply}
 use Rattle.console_lang.specs.declared.reply.Reply.TheVariants.{Dict}
-use Rattle.dictionary_swap.specs.Loads.{DictionaryFiles, FailsAs, GivesDue, lexicon_due, found_in}
+use Rattle.lists.specs.Answers.{FailsAs, GivesDue}
+use Rattle.dictionary_swap.specs.Loads.{DictionaryFiles, MayCome, lexicon_due, found_in}
 use Rattle.dictionary_swap.specs.declared.fault.LoadFault.{LoadFault}
 use Rattle.dictionary_swap.specs.declared.fault.LoadFault.TheVariants.{Failed, NoMemory}
 use Rattle.outside.specs.Files.{Folder}
@@ -38,12 +39,15 @@ load-is {board} {after} {lexicon} step = (
 
 -- a result is due of some files, and of those of the folder that is told, where one is
 pub record IsDue (told : Option Folder) (aff dic : List ℕ) (result : Result Lexicon LoadFault) : Type 0 where
-  pub found : (there : DictionaryFiles) × GivesDue (λ speller. speller) (lexicon_due there) result
-  pub told_is : IfSome told (λ folder. GivesDue (λ speller. speller) (lexicon_due (found_in folder aff dic)) result)
+  pub found : (there : DictionaryFiles)
+      × GivesDue MayCome (λ speller. speller) (lexicon_due there) result
+  pub told_is : IfSome told (λ folder.
+      GivesDue MayCome (λ speller. speller) (lexicon_due (found_in folder aff dic)) result)
 
 -- so there are some of which it is due: those of the folder that is told, where one is
-found-files : (told : Option Folder) {aff dic : List ℕ} {result : Result Lexicon LoadFault} → IsDue told aff dic result
-    → (there : DictionaryFiles) × IsThere told aff dic there × GivesDue (λ speller. speller) (lexicon_due there) result
+found-files : (told : Option Folder) {aff dic : List ℕ} {result : Result Lexicon LoadFault}
+    → IsDue told aff dic result → (there : DictionaryFiles) × IsThere told aff dic there
+    × GivesDue MayCome (λ speller. speller) (lexicon_due there) result
 found-files None due = (due.found.0, tt, due.found.1)
 found-files (Some folder) {aff} {dic} due = (found_in folder aff dic, refl, due.told_is)
 
@@ -55,11 +59,12 @@ loads-read {told} {before} {after} {reply = reply} due is =
     inl (files.0, files.1, subst (λ read. HasOutcome (load_outcome before read) reply after) (sym files.2) is)
 
 -- a fault that is not of memory is of files that failed, or it is what is due
-failed-or-due : {due : Result Lexicon LoadFault} (fault : LoadFault) → ¬ (fault ≡ NoMemory) → FailsAs due fault
-    → (fault ≡ Failed) ⊎ (due ≡ Err fault)
-failed-or-due Failed other due = inl refl
-failed-or-due NoMemory other due = absurd (other refl)
-failed-or-due fault other due = inr due
+failed-or-due : {due : Result Lexicon LoadFault} (fault : LoadFault) → ¬ (fault ≡ NoMemory)
+    → FailsAs MayCome due fault → (fault ≡ Failed) ⊎ (due ≡ Err fault)
+failed-or-due fault other (inr due) = inr due
+failed-or-due Failed other (inl comes) = inl refl
+failed-or-due NoMemory other (inl comes) = absurd (other refl)
+failed-or-due _ other (inl comes) = absurd comes
 
 -- what is wrong with the files is told, and nothing changes
 pub faults-load : {told : Option Folder} {before after : Console} {aff dic : List ℕ} {fault : LoadFault} {reply : Reply}

@@ -13,7 +13,8 @@ use Rattle.edit_core.specs.Events.{SeenEvent, AFinish}
 use Rattle.edit_core.specs.Runs.{furthest_point, is_held, is_waiting}
 use Rattle.edit_core.specs.Seen.{Seen, IsValidBoard}
 use Rattle.edit_core.specs.Steps.{IsAt, IsDecided, IsFit, IsFitCheck, MayFinish, Moves, Step, first_refusal, is_open, place_of}
-use Rattle.edit_core.specs.Views.{ShownMarks, Marked, Unmarked, reply_of, shown_in, shown_from as board_shows_from}
+use Rattle.edit_core.specs.Views.{ShownMarks, Marked, Unmarked, view_of, shown_in}
+use Rattle.edit_core.specs.Views.{shown_from as board_shows_from}
 use Rattle.edit_core.specs.declared.refusal.Refusal.{Refusal}
 use Rattle.edit_core.specs.declared.state.Standing.{Standing}
 use Rattle.edit_core.specs.declared.state.Standing.TheVariants as standing
@@ -65,7 +66,9 @@ kept-stands board number (standing.Finished ∷ standings) zero marks at other =
 kept-stands board number (stands ∷ standings) (suc place) marks at other =
     ap (λ more. state_of stands ∷ more) (kept-stands board (number + 1) standings place marks at other)
 
-pub kept-is : (board : Seen) (place : ℕ) (marks : ShownMarks) → slice_get (reply_of board).shown place ≡ Some marks → ((held : Option ℕ) → ¬ (marks ≡ Unmarked false held))
+pub kept-is : (board : Seen) (place : ℕ) (marks : ShownMarks)
+    → slice_get (view_of board).shown place ≡ Some marks
+    → ((held : Option ℕ) → ¬ (marks ≡ Unmarked false held))
     → console_of board ≡ record (console_of board) { states = set (console_of board).states place (settled_state (state_at (console_of board) place)) }
 kept-is board place marks at other = ap (λ stands. record (console_of board) { states = stands }) (kept-stands board 1 board.standings place marks at other)
 
@@ -91,7 +94,9 @@ OwnChecksFit = (board : Seen) (place rev dict : ℕ) (paragraph : Paragraph) →
 
 -- the check of a paragraph that is shown as open is not refused
 pub own-check-free : Decided → OwnChecksFit → (board : Seen) (place : ℕ) (paragraph : Paragraph) (held : Option ℕ) → IsValidBoard board → furthest_point board < 2 ^ 62
-    → slice_get board.paragraphs place ≡ Some paragraph → place_of paragraph.id board.paragraphs ≡ Some place → slice_get (reply_of board).shown place ≡ Some (Unmarked false held)
+    → slice_get board.paragraphs place ≡ Some paragraph
+    → place_of paragraph.id board.paragraphs ≡ Some place
+    → slice_get (view_of board).shown place ≡ Some (Unmarked false held)
     → first_refusal board (AFinish 0 paragraph.id paragraph.rev board.dict_version paragraph.text board.lexicon) ≡ None
 own-check-free decided fit board place paragraph held valid far at named shown =
     let event = AFinish 0 paragraph.id paragraph.rev board.dict_version paragraph.text board.lexicon in

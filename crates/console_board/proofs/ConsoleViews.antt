@@ -7,7 +7,8 @@ use Rattle.std.proofs.lemmas.Option.{slice_get-map}
 use Rattle.console_lang.specs.declared.reply.ShownPara.TheVariants.{Finished as Checked}
 use Rattle.paragraph_text.specs.Paragraphs.{Paragraph}
 use Rattle.edit_core.specs.Seen.{Seen, IsValidBoard}
-use Rattle.edit_core.specs.Views.{ShownMarks, marks_numbered, reply_of, shown_as as board_shows, shown_from as board_shows_from}
+use Rattle.edit_core.specs.Views.{ShownMarks, marks_numbered, view_of}
+use Rattle.edit_core.specs.Views.{shown_as as board_shows, shown_from as board_shows_from}
 use Rattle.edit_core.specs.declared.state.Standing.{Standing}
 use Rattle.edit_core.specs.declared.state.Standing.TheVariants.{Waiting, Held, Parked, Finished}
 use Rattle.console_board.specs.BoardAnswers.{look_reply, shown_para}
@@ -16,16 +17,20 @@ use Rattle.console_board.specs.Consoles.{shown, shown_as, shown_from}
 
 -- ---- one text after another
 
-pub shown-at : (board : Seen) (place : ℕ) (marks : ShownMarks) → slice_get (reply_of board).shown place ≡ Some marks
-    → slice_get (map shown_para (reply_of board).shown) place ≡ Some (shown_para marks)
-shown-at board place marks at = slice_get-map shown_para (reply_of board).shown place ∙ ap (option_map shown_para) at
+pub shown-at : (board : Seen) (place : ℕ) (marks : ShownMarks)
+    → slice_get (view_of board).shown place ≡ Some marks
+    → slice_get (map shown_para (view_of board).shown) place ≡ Some (shown_para marks)
+shown-at board place marks at =
+    slice_get-map shown_para (view_of board).shown place ∙ ap (option_map shown_para) at
 
 -- so many are shown as there are texts
 long-as : (board : Seen) (number : ℕ) (standings : List Standing) → length (board_shows_from board number standings) ≡ length standings
 long-as board number [] = refl
 long-as board number (stands ∷ standings) = ap suc (long-as board (number + 1) standings)
 
-pub all-shown : (board : Seen) (count : ℕ) → IsValidBoard board → length board.paragraphs ≤ count → take count (map shown_para (reply_of board).shown) ≡ map shown_para (reply_of board).shown
+pub all-shown : (board : Seen) (count : ℕ) → IsValidBoard board
+    → length board.paragraphs ≤ count
+    → take count (map shown_para (view_of board).shown) ≡ map shown_para (view_of board).shown
 all-shown board count valid few =
     let shown = board_shows_from board 1 board.standings in
     take_all count (map shown_para shown) (omega (arith, length-map shown shown_para, long-as board 1 board.standings, valid.standings, few))

@@ -13,7 +13,7 @@ use Rattle.paragraph_text.specs.declared.edits.Edit.TheVariants.{Insert, Remove,
 use Rattle.edit_core.specs.Events.{SeenEvent, AnEdit, APark, AnAsk}
 use Rattle.edit_core.specs.Seen.{Seen}
 use Rattle.edit_core.specs.Steps.{Step}
-use Rattle.edit_core.specs.Views.{ShownMarks, Marked, Unmarked, reply_of}
+use Rattle.edit_core.specs.Views.{ShownMarks, Marked, Unmarked, view_of}
 use Rattle.edit_core.specs.declared.refusal.Refusal.{Refusal}
 use Rattle.edit_core.specs.declared.refusal.Refusal.TheVariants.{Gone, Behind, BadSpan, TooLong, Full, Finished, Parked, NotParked}
 use Rattle.console_board.specs.Consoles.{index_of}
@@ -113,4 +113,5 @@ shown_para (Unmarked parked held_by) = Pending
 
 -- the reply to a look at a board
 abbrev pub look_reply : Seen → Reply
-look_reply board = Shown board.text_version board.dict_version (map shown_para (reply_of board).shown)
+look_reply board =
+    Shown board.text_version board.dict_version (map shown_para (view_of board).shown)

@@ -1,5 +1,6 @@
 -- What is due of a dictionary, by what there is of its two files.
-use Rattle.std.specs.Prelude.{◌≡◌, ℕ, List, Option, Result, Ok, Err}
+use Rattle.std.specs.Prelude.{ℕ, List, Option, Result, Ok}
+use Rattle.lists.specs.Answers.{◌>>=◌, failing}
 use Rattle.outside.specs.Files.{Folder, file_due as loaded_due}
 use Rattle.outside.specs.declared.faults.FileFault.{FileFault}
 use Rattle.outside.specs.declared.faults.FileFault.TheVariants.{Failed as FailedFile, Missing as MissingFile, TooLong as LongFile, NoMemory as OutOfMemory}
@@ -11,18 +12,7 @@ use Rattle.aff_reader.specs.Grammar.{aff_read}
 use Rattle.dic_reader.specs.Faults.{Fault as DicLineFault, dic_read}
 use Rattle.dictionary_swap.specs.declared.fault.LoadFault.{LoadFault}
 use Rattle.dictionary_swap.specs.declared.fault.LoadFault.TheVariants.{Failed, Missing, TooLong, Aff, Dic, NoMemory}
-use Rattle.dictionary_swap.specs.declared.steps.TheConstants.{SIZE_LIMIT}
-
--- one thing due after another, up to the first fault
-infixl 10 ◌>>=◌
-abbrev pub ◌>>=◌ : {A B : Type 0} → Result A LoadFault → (A → Result B LoadFault) → Result B LoadFault
-(Ok x) >>= f = f x
-(Err fault) >>= f = Err fault
-
--- a fault of a file, or of its lines
-abbrev pub faulting : {A F : Type 0} → (F → LoadFault) → Result A F → Result A LoadFault
-faulting at (Ok read) = Ok read
-faulting at (Err fault) = Err (at fault)
+use Rattle.dictionary_swap.specs.declared.limits.TheConstants.{SIZE_LIMIT}
 
 -- why a file is not loaded that may have so many bytes
 abbrev pub load_fault_of : ℕ → FileFault → LoadFault
@@ -33,7 +23,7 @@ load_fault_of limit OutOfMemory = NoMemory
 
 -- what is due of a file that may have so many bytes: nothing but its bytes
 unfoldable pub file_due : ℕ → Option (List ℕ) → Result (List ℕ) LoadFault
-file_due limit file = faulting (load_fault_of limit) (loaded_due limit file)
+file_due limit file = failing (load_fault_of limit) (loaded_due limit file)
 
 abbrev pub at_aff : AffLineFault → LoadFault
 at_aff fault = Aff fault.line fault.why
@@ -43,11 +33,11 @@ at_dic fault = Dic fault.line fault.why
 
 -- what is due of the bytes of an .aff file
 unfoldable pub affixes_step : List ℕ → Result Affixes LoadFault
-affixes_step bytes = faulting at_aff (aff_read bytes)
+affixes_step bytes = failing at_aff (aff_read bytes)
 
 -- what is due of the bytes of a .dic file
 unfoldable pub entries_step : Affixes → List ℕ → Result (List Entry) LoadFault
-entries_step affixes bytes = faulting at_dic (dic_read affixes bytes)
+entries_step affixes bytes = failing at_dic (dic_read affixes bytes)
 
 -- what there is of the files of a dictionary: the bytes of each, if it is there
 pub record DictionaryFiles : Type 0 where
@@ -76,13 +66,8 @@ lexicon_due files = do
 abbrev pub found_in : Folder → List ℕ → List ℕ → DictionaryFiles
 found_in folder aff dic = record { aff = folder aff; dic = folder dic }
 
--- a fault is what is due; but a failure and want of memory may come at any time
-abbrev pub FailsAs : {A : Type 0} → Result A LoadFault → LoadFault → Type 0
-FailsAs due Failed = Unit {0}
-FailsAs due NoMemory = Unit {0}
-FailsAs due fault = due ≡ Err fault
-
--- a call gives what is due, seen by `view`, or fails so
-abbrev pub GivesDue : {A B : Type 0} → (A → B) → Result B LoadFault → Result A LoadFault → Type 0
-GivesDue view due (Ok given) = due ≡ Ok (view given)
-GivesDue view due (Err fault) = FailsAs due fault
+-- a failure and want of memory may come at any time
+abbrev pub MayCome : LoadFault → Type 0
+MayCome Failed = Unit {0}
+MayCome NoMemory = Unit {0}
+MayCome _ = ⊥

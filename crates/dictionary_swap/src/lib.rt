@@ -2,15 +2,18 @@
 #![tactic(auto)]
 
 ghost use Rattle.std.specs.Prelude.{◌≡◌, ◌<◌, ◌≤◌, IfSome, IsErrOf};
-ghost use Rattle.dictionary_swap.specs.Loads.{DictionaryFiles, lexicon_due, found_in, GivesDue};
+ghost use Rattle.lists.specs.Answers.{GivesDue};
+ghost use Rattle.dictionary_swap.specs.Loads.{DictionaryFiles, MayCome, lexicon_due, found_in};
 
 mod causes;
 mod fault;
+mod limits;
 mod steps;
 #[cfg(test)]
 mod tests;
 
 pub use fault::LoadFault;
+pub use limits::SIZE_LIMIT;
 use outside::Files;
 use std::alloc::Global;
 use steps::{load_affixes, load_entries};
@@ -26,9 +29,10 @@ pub fn load<F: Files>(
     dic: &str,
 ) -> Result<Speller, LoadFault>
     // It is what is due of some files, which are those that are told, where some are.
-    ensures found { (there : DictionaryFiles) × GivesDue (λ speller. speller) (lexicon_due there) result }
-    ensures told { IfSome (F.told files.old)
-        (λ folder. GivesDue (λ speller. speller) (lexicon_due (found_in folder aff.now dic.now)) result) }
+    ensures found { (there : DictionaryFiles)
+        × GivesDue MayCome (λ speller. speller) (lexicon_due there) result }
+    ensures told { IfSome (F.told files.old) (λ folder. GivesDue MayCome (λ speller. speller)
+        (lexicon_due (found_in folder aff.now dic.now)) result) }
     ensures same { F.told files.new ≡ F.told files.old }
     ensures failed { IsErrOf result LoadFault.Failed → F.faults files.old < F.faults files.new }
     ensures count { F.faults files.old ≤ F.faults files.new }

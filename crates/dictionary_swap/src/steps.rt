@@ -1,20 +1,20 @@
 //! The steps of a load: a file's bytes, and what they say.
 
 ghost use Rattle.std.specs.Prelude.{◌≡◌, ◌<◌, ◌≤◌, ℕ, List, Option, length, IfSome, IfOk, IsErrOf};
+ghost use Rattle.lists.specs.Answers.{GivesDue};
 ghost use Rattle.spell_types.specs.Sanity.{AreSaneAffixes, AreSaneEntries};
-ghost use Rattle.dictionary_swap.specs.Loads.{file_due, affixes_step, entries_step, affixes_due, entries_due, GivesDue};
-ghost use Rattle.dictionary_swap.specs.declared.steps.TheConstants.{SIZE_LIMIT};
+ghost use Rattle.dictionary_swap.specs.Loads.{MayCome, file_due, affixes_step, entries_step};
+ghost use Rattle.dictionary_swap.specs.Loads.{affixes_due, entries_due};
+ghost use Rattle.dictionary_swap.specs.declared.limits.TheConstants.{SIZE_LIMIT};
 
 use crate::fault::LoadFault;
+use crate::limits::SIZE_LIMIT;
 use aff_lines::AffFault;
 use aff_reader::read_aff;
 use dic_reader::{DicFault, read_dic};
 use outside::Files;
 use spell_types::{Affixes, Entries};
 use std::alloc::Global;
-
-/// How large an .aff or a .dic file may be, in bytes.
-const SIZE_LIMIT: u64 = 16_777_216;
 
 /// What the .aff file of this name says.
 #[tactic(auto, unfolding(crate::specs::Loads::affixes_due))]
@@ -23,8 +23,10 @@ pub fn load_affixes<F: Files>(
     files: &mut F,
     name: &str,
 ) -> Result<Affixes, LoadFault>
-    ensures found { (file : Option (List ℕ)) × GivesDue (λ affixes. affixes) (affixes_due file) result }
-    ensures told { IfSome (F.told files.old) (λ folder. GivesDue (λ affixes. affixes) (affixes_due (folder name.now)) result) }
+    ensures found { (file : Option (List ℕ))
+        × GivesDue MayCome (λ affixes. affixes) (affixes_due file) result }
+    ensures told { IfSome (F.told files.old) (λ folder.
+        GivesDue MayCome (λ affixes. affixes) (affixes_due (folder name.now)) result) }
     ensures sane { IfOk result AreSaneAffixes }
     ensures same { F.told files.new ≡ F.told files.old }
     ensures failed { IsErrOf result LoadFault.Failed → F.faults files.old < F.faults files.new }
@@ -42,8 +44,10 @@ pub fn load_entries<F: Files>(
     affixes: &Affixes,
     name: &str,
 ) -> Result<Entries, LoadFault>
-    ensures found { (file : Option (List ℕ)) × GivesDue (λ entries. entries) (entries_due affixes.now file) result }
-    ensures told { IfSome (F.told files.old) (λ folder. GivesDue (λ entries. entries) (entries_due affixes.now (folder name.now)) result) }
+    ensures found { (file : Option (List ℕ))
+        × GivesDue MayCome (λ entries. entries) (entries_due affixes.now file) result }
+    ensures told { IfSome (F.told files.old) (λ folder.
+        GivesDue MayCome (λ entries. entries) (entries_due affixes.now (folder name.now)) result) }
     ensures sane { IfOk result AreSaneEntries }
     ensures same { F.told files.new ≡ F.told files.old }
     ensures failed { IsErrOf result LoadFault.Failed → F.faults files.old < F.faults files.new }
@@ -56,8 +60,10 @@ pub fn load_entries<F: Files>(
 /// The bytes of the file of this name.
 #[tactic(auto, unfolding(crate::specs::Loads::file_due))]
 fn load_file<F: Files>(alloc: Global, files: &mut F, name: &str) -> Result<Vec<u8>, LoadFault>
-    ensures found { (file : Option (List ℕ)) × GivesDue (λ bytes. bytes.items) (file_due SIZE_LIMIT file) result }
-    ensures told { IfSome (F.told files.old) (λ folder. GivesDue (λ bytes. bytes.items) (file_due SIZE_LIMIT (folder name.now)) result) }
+    ensures found { (file : Option (List ℕ))
+        × GivesDue MayCome (λ bytes. bytes.items) (file_due SIZE_LIMIT file) result }
+    ensures told { IfSome (F.told files.old) (λ folder.
+        GivesDue MayCome (λ bytes. bytes.items) (file_due SIZE_LIMIT (folder name.now)) result) }
     ensures same { F.told files.new ≡ F.told files.old }
     ensures failed { IsErrOf result LoadFault.Failed → F.faults files.old < F.faults files.new }
     ensures count { F.faults files.old ≤ F.faults files.new }
@@ -70,7 +76,7 @@ fn load_file<F: Files>(alloc: Global, files: &mut F, name: &str) -> Result<Vec<u
 /// What the bytes of an .aff file say.
 #[tactic(auto, unfolding(crate::specs::Loads::affixes_step))]
 fn read_affixes(alloc: Global, bytes: &[u8]) -> Result<Affixes, LoadFault>
-    ensures due { GivesDue (λ affixes. affixes) (affixes_step bytes.now) result }
+    ensures due { GivesDue MayCome (λ affixes. affixes) (affixes_step bytes.now) result }
     ensures sane { IfOk result AreSaneAffixes }
     ensures failed { ¬ (IsErrOf result LoadFault.Failed) }
 {
@@ -84,7 +90,8 @@ fn read_affixes(alloc: Global, bytes: &[u8]) -> Result<Affixes, LoadFault>
 /// What the bytes of a .dic file say, where its flags are written as the affixes have them.
 #[tactic(auto, unfolding(crate::specs::Loads::entries_step))]
 fn read_entries(alloc: Global, affixes: &Affixes, bytes: &[u8]) -> Result<Entries, LoadFault>
-    ensures due { GivesDue (λ entries. entries) (entries_step affixes.now bytes.now) result }
+    ensures due { GivesDue MayCome (λ entries. entries)
+        (entries_step affixes.now bytes.now) result }
     ensures sane { IfOk result AreSaneEntries }
     ensures failed { ¬ (IsErrOf result LoadFault.Failed) }
 {

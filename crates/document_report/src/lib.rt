@@ -5,7 +5,8 @@
 #![tactic(auto)]
 
 ghost use Rattle.std.specs.Prelude.{◌≡◌};
-ghost use Rattle.document_report.specs.Documents.{document_due, GivesDue};
+ghost use Rattle.lists.specs.Answers.{GivesDue};
+ghost use Rattle.document_report.specs.Documents.{MayCome, document_due};
 ghost use Rattle.document_report.specs.Given.{printed_by, printed_as};
 
 mod fault;
@@ -28,7 +29,8 @@ pub fn report<K: Asker>(
     output: Output,
     document: &[u8],
 ) -> Result<Report, DocumentFault>
-    ensures due { GivesDue printed_by (document_due (printed_as output) (K.lexicon asker.old) document.now) result }
+    ensures due { GivesDue MayCome printed_by
+        (document_due (printed_as output) (K.lexicon asker.old) document.now) result }
     ensures same { K.lexicon asker.new ≡ K.lexicon asker.old }
 {
     let text = text_of(document)?;

@@ -3,8 +3,10 @@
 ghost use Rattle.std.specs.Prelude.{◌≡◌, ◌∷◌, ◌<◌, ◌≤◌, All, IfOk, OnOk, drop, length};
 ghost use Rattle.std.specs.List.{list_any};
 ghost use Rattle.std.specs.Str.Lines.{strip_carriage_return};
+ghost use Rattle.lists.specs.Answers.{GivesDue};
 ghost use Rattle.text_lines.specs.Lines.{bad_line, first_place, line_texts};
-ghost use Rattle.document_report.specs.Documents.{is_long, unless_bad, unless_long, unless_many, GivesDue};
+ghost use Rattle.document_report.specs.Documents.{MayCome, is_long, unless_bad};
+ghost use Rattle.document_report.specs.Documents.{unless_long, unless_many};
 ghost use Rattle.document_report.specs.Texts.{lent, texts_in};
 ghost use Rattle.paragraph_text.specs.declared.limits.TheConstants.{MOST_PARAGRAPHS, MOST_BYTES};
 
@@ -15,7 +17,8 @@ use text_lines::bad_line;
 
 /// The text of a document, behind a byte order mark.
 pub fn text_of(document: &[u8]) -> Result<&str, DocumentFault>
-    ensures { GivesDue (λ text. texts_in text.now) (unless_bad (bad_line document.now) (line_texts document.now)) result }
+    ensures { GivesDue MayCome (λ text. texts_in text.now)
+        (unless_bad (bad_line document.now) (line_texts document.now)) result }
 {
     match std::str::from_utf8(without_mark(document)) {
         Ok(text) => Ok(text),
@@ -36,7 +39,8 @@ fn without_mark(document: &[u8]) -> &[u8]
 /// The paragraphs of a text, which are its lines, if they are not too many.
 #[tactic(auto, unfolding(crate::specs::Documents::unless_many))]
 pub fn paragraphs_in<'a>(alloc: Global, text: &'a str) -> Result<Vec<&'a str>, DocumentFault>
-    ensures due { GivesDue (λ paragraphs. lent paragraphs.items) (unless_many (texts_in text.now)) result }
+    ensures due { GivesDue MayCome (λ paragraphs. lent paragraphs.items)
+        (unless_many (texts_in text.now)) result }
     ensures few { IfOk result (λ paragraphs. length paragraphs.items ≤ MOST_PARAGRAPHS) }
 {
     let mut paragraphs = Vec::new(alloc);
@@ -57,7 +61,8 @@ pub fn paragraphs_in<'a>(alloc: Global, text: &'a str) -> Result<Vec<&'a str>, D
 /// Whether no paragraph is too long.
 #[tactic(auto, unfolding(crate::specs::Documents::unless_long))]
 pub fn check_lengths(paragraphs: &[&str]) -> Result<(), DocumentFault>
-    ensures due { GivesDue (λ _. lent paragraphs.now) (unless_long (lent paragraphs.now)) result }
+    ensures due { GivesDue MayCome (λ _. lent paragraphs.now)
+        (unless_long (lent paragraphs.now)) result }
     ensures short { OnOk result (All (λ paragraph. length paragraph.now ≤ MOST_BYTES) paragraphs.now) }
 {
     if has_long(paragraphs) {

@@ -14,7 +14,7 @@ use Rattle.lists.specs.Laws.{range_more}
 use Rattle.edit_core.specs.Events.{kind_of}
 use Rattle.edit_core.specs.Runs.{AreQuiet, AreSteps, Entry, IsRun, Run, all_kinds, asked_by, asked_kinds, asked_of, entries_by, entries_of, entries_through, is_entry, is_kind, is_quiet, is_workers, last_board}
 use Rattle.edit_core.specs.Seen.{Seen, IsValidBoard}
-use Rattle.edit_core.specs.Views.{Marked, marks_numbered, reply_of, texts_of}
+use Rattle.edit_core.specs.Views.{Marked, marks_numbered, view_of, texts_of}
 use Rattle.edit_core.specs.declared.event.EventKind.{EventKind}
 use Rattle.edit_core.specs.declared.event.EventKind.TheVariants as kind
 use Rattle.edit_core.specs.declared.state.Standing.TheVariants.{Finished}
@@ -197,7 +197,14 @@ run-point r is =
 one-on : (place : ℕ) → 1 + place ≡ place + 1
 one-on place = omega arith
 
-pub finished-local : ((lexicon : Lexicon) (texts : List (List ℕ)) (place : ℕ) (text : List ℕ) → slice_get texts place ≡ Some text → marks_numbered lexicon texts (place + 1) ≡ marks_in lexicon text) → (board : Seen) (place : ℕ) (paragraph : Paragraph) → slice_get board.paragraphs place ≡ Some paragraph → slice_get board.standings place ≡ Some Finished → slice_get (reply_of board).shown place ≡ Some (Marked (marks_in board.lexicon (chars paragraph.text)))
+pub finished-local : ((lexicon : Lexicon) (texts : List (List ℕ)) (place : ℕ) (text : List ℕ)
+    → slice_get texts place ≡ Some text
+    → marks_numbered lexicon texts (place + 1) ≡ marks_in lexicon text)
+    → (board : Seen) (place : ℕ) (paragraph : Paragraph)
+    → slice_get board.paragraphs place ≡ Some paragraph
+    → slice_get board.standings place ≡ Some Finished
+    → slice_get (view_of board).shown place
+    ≡ Some (Marked (marks_in board.lexicon (chars paragraph.text)))
 finished-local local board place paragraph at stands =
     let texts = texts_of board in
     shown-at board 1 board.standings place Finished stands

@@ -57,14 +57,19 @@ shown_from board number [] = []
 shown_from board number (stands ∷ standings) = shown_as board number stands ∷ shown_from board (number + 1) standings
 
 -- what a look at a board tells: its point, its versions, and what it shows of each paragraph
-pub record Reply : Type 0 where
+pub record BoardView : Type 0 where
   pub point : ℕ
   pub text : ℕ
   pub dict : ℕ
   pub shown : List ShownMarks
 
-abbrev pub reply_of : Seen → Reply
-reply_of board = record { point = board.point; text = board.text_version; dict = board.dict_version; shown = shown_from board 1 board.standings }
+abbrev pub view_of : Seen → BoardView
+view_of board = record {
+  point = board.point;
+  text = board.text_version;
+  dict = board.dict_version;
+  shown = shown_from board 1 board.standings;
+}
 
 -- what is seen of the paragraph at a place, from 0
 pub record Shows (board : Seen) (place : ℕ) (view : ParaView) : Type 0 where
@@ -73,7 +78,7 @@ pub record Shows (board : Seen) (place : ℕ) (view : ParaView) : Type 0 where
   pub id : view.id ≡ paragraph.id
   pub rev : view.rev ≡ paragraph.rev
   pub text : arc_value view.text.now ≡ paragraph.text
-  pub shown : slice_get (reply_of board).shown place ≡ Some (shown_in view.shown)
+  pub shown : slice_get (view_of board).shown place ≡ Some (shown_in view.shown)
 
 abbrev pub is_finished : Standing → Bool
 is_finished standing.Finished = true

@@ -10,7 +10,7 @@ ghost use Rattle.edit_core.specs.Events.{SeenEvent, kind_of};
 ghost use Rattle.edit_core.specs.Runs.{AreFit, AreQuiet, AreSteps, Entry, IsOfBoard, IsQuiet, IsReplayed, IsRun, OnlyGrew, Replays, Run, all_kinds, asked_by, asked_kinds, asked_of, entries_by, entries_of, entries_through, furthest_point, is_entry, is_kind, is_quiet, last_board};
 ghost use Rattle.edit_core.specs.Seen.{IsOpening, IsValidBoard, Seen};
 ghost use Rattle.edit_core.specs.Steps.{IsAt, IsDecided, IsFit, IsFitCheck, Step, place_of};
-ghost use Rattle.edit_core.specs.Views.{Marked, reply_of};
+ghost use Rattle.edit_core.specs.Views.{Marked, view_of};
 ghost use Rattle.edit_core.specs.declared.event.EventKind.{EventKind};
 ghost use Rattle.edit_core.specs.declared.state.Standing.{Standing};
 ghost use Rattle.edit_core.specs.declared.state.Standing.TheVariants.{Finished};
@@ -157,7 +157,8 @@ pub fn fronts_are_runs()
 pub fn finished_marks_are_local()
     ensures { (board : Seen) (place : ℕ) (paragraph : Paragraph) → slice_get board.paragraphs place ≡ Some paragraph
         → slice_get board.standings place ≡ Some Finished
-        → slice_get (reply_of board).shown place ≡ Some (Marked (marks_in board.lexicon (chars paragraph.text))) }
+        → slice_get (view_of board).shown place
+        ≡ Some (Marked (marks_in board.lexicon (chars paragraph.text))) }
 {
     shown_marks_are_local();
 }

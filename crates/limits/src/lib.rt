@@ -3,12 +3,17 @@
 #![tactic(auto)]
 
 ghost use Rattle.std.specs.Prelude.{◌≡◌};
+ghost use Rattle.command_line.specs.declared.limits.TheConstants.{DOCUMENT_LIMIT};
+ghost use Rattle.dictionary_swap.specs.declared.limits.TheConstants.{SIZE_LIMIT};
 ghost use Rattle.edit_core.specs.declared.limits.TheConstants.{MOST_MOVED};
 ghost use Rattle.input_lines.specs.declared.limits.TheConstants.{INPUT_LIMIT, LINE_LIMIT};
 ghost use Rattle.paragraph_text.specs.declared.limits.TheConstants.{MOST_BYTES, MOST_PARAGRAPHS};
 
-/// The limits on paragraphs, and on the input of `edit` and its lines; and how far an event moves a history.
+/// The limits on files, on paragraphs, and on the input of `edit` and its lines; and how far an
+/// event moves a history.
 pub fn limits_are_these()
+    ensures file { SIZE_LIMIT ≡ 16777216 }
+    ensures document { DOCUMENT_LIMIT ≡ 67108864 }
     ensures paragraph { MOST_BYTES ≡ 65536 }
     ensures paragraphs { MOST_PARAGRAPHS ≡ 20000 }
     ensures line { LINE_LIMIT ≡ 131072 }

@@ -1,9 +1,11 @@
 -- Each answer of a load is what is due of some file.
-use Rattle.std.proofs.Common.{◌≡◌, Option, Some, None, ℕ, ◌+◌, ◌≤◌, Result, Ok, Err, IsErrAnd, List, Vec, length, replicate, refl, sym, subst, arith}
-use Rattle.std.specs.declared.alloc.Global.{Global}
+use Rattle.std.proofs.Common.{◌≡◌, inl, inr, Option, Some, None, ℕ, ◌+◌, ◌≤◌, Result, Ok, Err}
+use Rattle.std.proofs.Common.{IsErrAnd, List, length, replicate, refl, arith}
 use Rattle.std.proofs.lemmas.Bool.Decides.{nat_tests}
 use Rattle.std.proofs.lemmas.List.{length-replicate}
-use Rattle.outside.specs.Files.{FailsAs, GivesBytes, file_due}
+use Rattle.lists.specs.AnswerLaws.{gives-fault}
+use Rattle.lists.specs.Answers.{FailsAs, GivesDue}
+use Rattle.outside.specs.Files.{MayCome, file_due}
 use Rattle.outside.specs.declared.faults.FileFault.{FileFault}
 use Rattle.outside.specs.declared.faults.FileFault.TheVariants.{Failed, Missing, TooLong, NoMemory}
 
@@ -19,17 +21,19 @@ too-long limit =
     let long : length (replicate {A = ℕ} (limit + 1) 0) ≡ limit + 1 = length-replicate {A = ℕ} (limit + 1) 0 in
     grind (arith, nat_tests)
 
-explained : (limit : ℕ) (fault : FileFault) → (file : Option (List ℕ)) × FailsAs (file_due limit file) fault
+-- each fault is that of some file
+explained : (limit : ℕ) (fault : FileFault)
+    → (file : Option (List ℕ)) × FailsAs MayCome (file_due limit file) fault
 unfolding file_due
-explained limit Failed = (None, tt)
-explained limit Missing = (None, refl)
-explained limit TooLong = (Some (replicate {A = ℕ} (limit + 1) 0), too-long limit)
-explained limit NoMemory = (None, tt)
+explained limit Failed = (None, inl tt)
+explained limit Missing = (None, inr refl)
+explained limit TooLong = (Some (replicate {A = ℕ} (limit + 1) 0), inr (too-long limit))
+explained limit NoMemory = (None, inl tt)
 
--- and each fault is that of some file
-pub fault-explained : (limit : ℕ) (result : Result (Vec ℕ Global) FileFault) (fault : FileFault) → IsErrAnd result (λ f. f ≡ fault)
-    → (file : Option (List ℕ)) × GivesBytes (file_due limit file) result
-fault-explained limit (Ok bytes) fault is = absurd is
-fault-explained limit (Err f) fault is =
+-- and so is the fault of a result
+pub fault-explained : {A : Type 0} (limit : ℕ) (view : A → List ℕ) (result : Result A FileFault)
+    (fault : FileFault) → IsErrAnd result (λ told. told ≡ fault)
+    → (file : Option (List ℕ)) × GivesDue MayCome view (file_due limit file) result
+fault-explained limit view result fault is =
     let some = explained limit fault in
-    (some.0, subst (FailsAs (file_due limit some.0)) (sym is) some.1)
+    (some.0, gives-fault MayCome view result some.1 is)

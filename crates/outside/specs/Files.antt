@@ -1,6 +1,6 @@
 -- What a folder holds, and what a load may answer.
-use Rattle.std.specs.Prelude.{◌≡◌, ℕ, ◌<◌, List, length, nat_le, Option, Some, None, IsSomeAnd, Result, Ok, Err, Vec, if◌then◌else◌}
-use Rattle.std.specs.declared.alloc.Global.{Global}
+use Rattle.std.specs.Prelude.{◌≡◌, ℕ, ◌<◌, List, length, nat_le, Option, Some, None, IsSomeAnd}
+use Rattle.std.specs.Prelude.{Result, Ok, Err, if◌then◌else◌}
 use Rattle.outside.specs.declared.faults.FileFault.{FileFault}
 use Rattle.outside.specs.declared.faults.FileFault.TheVariants.{Failed, Missing, TooLong, NoMemory}
 
@@ -25,14 +25,8 @@ bytes_due limit (Some bytes) = if nat_le (length bytes) limit then Ok bytes else
 unfoldable pub file_due : ℕ → Option (List ℕ) → Result (List ℕ) FileFault
 file_due limit file = bytes_due limit file
 
--- a fault is what is due; but a failure and want of memory may come at any file
-abbrev pub FailsAs : Result (List ℕ) FileFault → FileFault → Type 0
-FailsAs due Failed = Unit {0}
-FailsAs due Missing = due ≡ Err Missing
-FailsAs due TooLong = due ≡ Err TooLong
-FailsAs due NoMemory = Unit {0}
-
--- a load gives the bytes that are due, or fails so
-abbrev pub GivesBytes : Result (List ℕ) FileFault → Result (Vec ℕ Global) FileFault → Type 0
-GivesBytes due (Ok given) = due ≡ Ok given.items
-GivesBytes due (Err fault) = FailsAs due fault
+-- a failure and want of memory may come at any file
+abbrev pub MayCome : FileFault → Type 0
+MayCome Failed = Unit {0}
+MayCome NoMemory = Unit {0}
+MayCome _ = ⊥

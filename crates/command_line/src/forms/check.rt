@@ -2,9 +2,10 @@
 
 ghost use Rattle.std.specs.Prelude.{◌≡◌, ◌<◌, ◌≤◌, Some, IsErrOf, map};
 ghost use Rattle.std.specs.String.{string_bytes};
+ghost use Rattle.lists.specs.Answers.{GivesDue};
 ghost use Rattle.document_report.specs.Given.{printed_as, printed_by};
 ghost use Rattle.input_lines.specs.Ends.{Reading};
-ghost use Rattle.command_line.specs.Due.{Found, GivesDue, IsFound, check_due, printed_due};
+ghost use Rattle.command_line.specs.Due.{Found, IsFound, MayCome, check_due, printed_due};
 ghost use Rattle.command_line.specs.Ends.{EndsAs};
 ghost use Rattle.command_line.specs.Forms.{IsAnswerTo, IsUntouched, Met, form_of};
 ghost use Rattle.command_line.specs.Requests.{check_in};
@@ -91,7 +92,8 @@ fn outcome_of<F: Files>(
     files: &mut F,
 ) -> Result<Report, Failure>
     // It is what is due of some files, which are those that are told, where some are.
-    ensures due { (found : Found) × IsFound (F.told files.old) names.entry found × GivesDue printed_by (check_due found) result }
+    ensures due { (found : Found) × IsFound (F.told files.old) names.entry found
+        × GivesDue MayCome printed_by (check_due found) result }
     ensures failed { IsErrOf result (Load Failed) → F.faults files.old < F.faults files.new }
     ensures same { F.told files.new ≡ F.told files.old }
     ensures count { F.faults files.old ≤ F.faults files.new }
@@ -108,7 +110,8 @@ pub fn report_by(
     output: Output,
     document: &[u8],
 ) -> Result<Report, Failure>
-    ensures due { GivesDue printed_by (printed_due (printed_as output) judge.old document.now) result }
+    ensures due { GivesDue MayCome printed_by
+        (printed_due (printed_as output) judge.old document.now) result }
     ensures failed { ¬ (IsErrOf result (Load Failed)) }
 {
     match report(alloc, judge, output, document) {

@@ -2,6 +2,7 @@
 
 ghost use Rattle.std.specs.Prelude.{◌≡◌, ◌<◌, ◌≤◌, ℕ, Option, Some, IfOk, IsErrOf, map};
 ghost use Rattle.std.specs.String.{string_bytes};
+ghost use Rattle.lists.specs.Answers.{GivesDue};
 ghost use Rattle.outside.specs.Files.{Folder};
 ghost use Rattle.edit_core.specs.Runs.{furthest_point};
 ghost use Rattle.console_board.specs.Boards.{console_of};
@@ -9,7 +10,7 @@ ghost use Rattle.console_board.specs.Consoles.{opened};
 ghost use Rattle.console_board.specs.Transcripts.{IsThere};
 ghost use Rattle.dictionary_swap.specs.Loads.{DictionaryFiles};
 ghost use Rattle.dictionary_swap.specs.declared.fault.LoadFault.TheVariants.{Failed};
-ghost use Rattle.command_line.specs.Due.{GivesDue, dictionary_due};
+ghost use Rattle.command_line.specs.Due.{MayCome, dictionary_due};
 ghost use Rattle.command_line.specs.Ends.{EndsAs};
 ghost use Rattle.command_line.specs.Forms.{IsAnswerTo, IsDialogue, Met, end_of, form_of};
 ghost use Rattle.command_line.specs.Requests.{edit_in};
@@ -106,7 +107,8 @@ fn open_console<F: Files>(
 ) -> Result<Console<Speller>, Failure>
     // Its dictionary is what is due of some files, which are those that are told, where some are.
     ensures due { (there : DictionaryFiles) × IsThere (F.told files.old) names.entry.aff names.entry.dic there
-        × GivesDue (λ (console : Console Speller). (console_of console.board).lexicon) (dictionary_due there) result }
+        × GivesDue MayCome (λ (console : Console Speller). (console_of console.board).lexicon)
+        (dictionary_due there) result }
     ensures opens { IfOk result (λ console. console_of console.board ≡ opened (console_of console.board).lexicon) }
     ensures fresh { IfOk result (λ console. furthest_point console.board ≡ 0) }
     ensures failed { IsErrOf result (Load Failed) → F.faults files.old < F.faults files.new }

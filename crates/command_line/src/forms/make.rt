@@ -2,10 +2,11 @@
 
 ghost use Rattle.std.specs.Prelude.{◌≡◌, ◌<◌, ◌≤◌, ℕ, List, Option, Some, IfOk, IsErrOf, map};
 ghost use Rattle.std.specs.String.{string_bytes};
+ghost use Rattle.lists.specs.Answers.{GivesDue};
 ghost use Rattle.outside.specs.Files.{Folder};
 ghost use Rattle.document_report.specs.Given.{printed_by};
 ghost use Rattle.input_lines.specs.Ends.{Reading};
-ghost use Rattle.command_line.specs.Due.{GivesDue, HasMade, make_due};
+ghost use Rattle.command_line.specs.Due.{HasMade, MayCome, make_due};
 ghost use Rattle.command_line.specs.Ends.{EndsAs};
 ghost use Rattle.command_line.specs.Forms.{IsAnswerTo, IsUntouched, Met, form_of};
 ghost use Rattle.command_line.specs.Requests.{make_in, of_numbers};
@@ -93,7 +94,7 @@ pub fn make<K: Sink>(alloc: Global, making: Making, out: &mut K) -> u8
 /// The summary of a dictionary and a text that are made: the dictionary is loaded from memory, and the text is checked by
 /// it, as files are.
 fn outcome_of(alloc: Global, making: Making) -> Result<Report, Failure>
-    ensures due { GivesDue printed_by (make_due making) result }
+    ensures due { GivesDue MayCome printed_by (make_due making) result }
     ensures failed { ¬ (IsErrOf result (Load Failed)) }
 {
     let mut files = made_files(alloc, making.size)?;

@@ -1,7 +1,7 @@
 //! What a console shows.
 
 ghost use Rattle.std.specs.Prelude.{◌≡◌, ◌<◌, false, None, Some, length, map, slice_get, IfOk};
-ghost use Rattle.edit_core.specs.Views.{reply_of};
+ghost use Rattle.edit_core.specs.Views.{view_of};
 ghost use Rattle.console_board.specs.BoardAnswers.{look_reply, shown_para};
 ghost use Rattle.console_board.specs.Boards.{console_of};
 ghost use Rattle.console_board.specs.Consoles.{shown};
@@ -39,7 +39,8 @@ impl<J: Judge + Drop> Console<J> {
     /// What is shown of the text with a place, from 0.
     fn shown_at(&self, alloc: Global, place: usize) -> Result<ShownPara, NoMemory>
         requires { place < length self.now.board.paragraphs }
-        ensures { IfOk result (λ para. slice_get (map shown_para (reply_of self.now.board).shown) place ≡ Some para) }
+        ensures { IfOk result (λ para.
+            slice_get (map shown_para (view_of self.now.board).shown) place ≡ Some para) }
     {
         let Some(view) = self.board.para(place) else {
             unreachable!()

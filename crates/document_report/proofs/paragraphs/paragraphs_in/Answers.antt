@@ -1,5 +1,5 @@
 -- A line is taken from the front of the rest, and is the next paragraph.
-use Rattle.std.proofs.Common.{rules, ◌∙◌, ◌++◌, append-nil, length, sym, ap, arith}
+use Rattle.std.proofs.Common.{rules, ◌∙◌, ◌++◌, append-nil, inr, length, sym, ap, arith}
 use Rattle.std.proofs.lemmas.List.{length_push}
 use Rattle.document_report.specs.Texts.{lent, texts_in}
 use Rattle.document_report.proofs.LineLemmas.{few-found, line-taken, many-found, no-texts, none-left, one-more, some-left}
@@ -10,7 +10,9 @@ returns-then-len-eq-MOST_PARAGRAPHS-clause-due c =
     let l = c.loop-rest in
     let texts = l.paragraphs.items in
     let some = some-left (length l.rest.now) c.is_empty.result c.is_empty.ensures c.loop-rest-test.true in
-    many-found texts (texts_in c.args.text.now) (texts_in l.rest.now) (one-more l.rest.now some) l.invariant.lines (omega (arith, c.len.ensures, c.if-len-eq-MOST_PARAGRAPHS.true))
+    inr (many-found texts (texts_in c.args.text.now) (texts_in l.rest.now)
+    (one-more l.rest.now some) l.invariant.lines
+    (omega (arith, c.len.ensures, c.if-len-eq-MOST_PARAGRAPHS.true)))
 
 pub first_line-requires : goal.first_line-requires
 first_line-requires c = some-left (length c.loop-rest.rest.now) c.is_empty.result c.is_empty.ensures c.loop-rest-test.true

@@ -1,7 +1,9 @@
 -- What is written is the report that is due.
 use Rattle.std.proofs.Common.{arith, refl}
 use Rattle.command_line.specs.Due.{check_due}
-use Rattle.command_line.proofs.DueLemmas.{failed-files, report-caused, report-given, report-whole}
+use Rattle.document_report.specs.Reports.{report_of}
+use Rattle.command_line.proofs.DueLemmas.{checked-told, failed-files, report-caused, report-given}
+use Rattle.command_line.proofs.DueLemmas.{report-whole}
 use Rattle.command_line.proofs.EndLemmas.{outcome-put}
 use Rattle.command_line.proofs.forms.check.check.Goals as goal
 
@@ -9,9 +11,11 @@ pub returns-clause-due : goal.returns-clause-due
 returns-clause-due g c = λ reading untouched.
     let outcome = c.outcome_of-outcome.result in
     let found = c.outcome_of-outcome.ensures.due in
+    let due = check_due found.0 in
+    let told = checked-told report_of found.0 in
     outcome-put outcome (λ failed. failed) (record {
-      answer = (check_due found.0, (found.0, found.1, refl), report-given (check_due found.0) outcome found.2);
-      caused = report-caused (check_due found.0) outcome found.2 c.outcome_of-outcome.ensures.failed;
+      answer = (due, (found.0, found.1, refl), report-given due outcome told found.2);
+      caused = report-caused due outcome told found.2 c.outcome_of-outcome.ensures.failed;
       input = untouched;
       files = tt;
     }) c.put_outcome.ensures.puts
@@ -22,5 +26,6 @@ returns-clause-complete g c = λ reading same.
     let found = c.outcome_of-outcome.ensures.due in
     outcome-put outcome (λ failed. omega (arith, failed, same)) (λ printed only unfailed.
     report-whole (only (check_due found.0) (found.0, found.1, refl)) unfailed
-    (report-given (check_due found.0) outcome found.2) (failed-files outcome c.outcome_of-outcome.ensures.failed))
+    (report-given (check_due found.0) outcome (checked-told report_of found.0) found.2)
+    (failed-files outcome c.outcome_of-outcome.ensures.failed))
     c.put_outcome.ensures.puts

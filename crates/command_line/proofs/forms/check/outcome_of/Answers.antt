@@ -1,8 +1,9 @@
 -- Each step gives what is due.
 use Rattle.std.proofs.Common.{subst}
+use Rattle.lists.specs.Answers.{GivesDue}
 use Rattle.document_report.specs.Given.{printed_by}
 use Rattle.document_report.specs.Reports.{report_of}
-use Rattle.command_line.specs.Due.{GivesDue, printed_due}
+use Rattle.command_line.specs.Due.{MayCome, printed_due}
 use Rattle.command_line.specs.Operands.{CheckedFiles}
 use Rattle.command_line.proofs.DueLemmas.{IsChecked, check-no-document, check-not-loaded, check-reported}
 use Rattle.command_line.proofs.forms.check.outcome_of.Goals as goal
@@ -23,6 +24,10 @@ returns-in_err-document-clause-due g c =
 pub returns-clause-due : goal.returns-clause-due
 returns-clause-due g c =
     let told = g.F.Files.told c.args.files.now in
-    subst (λ (names : CheckedFiles). IsChecked told names c.report_by.result) c.names.view_is
-    (check-reported told _ c.report_by.result c.in_ok-judge.ensures.due (rw c.in_ok-judge.ensures.same at c.in_ok-document.ensures.due)
-    (subst (λ document. GivesDue printed_by (printed_due report_of c.in_ok-judge.judge document) c.report_by.result) c.deref.ensures.value c.report_by.ensures.due))
+    let result = c.report_by.result in
+    subst (λ (names : CheckedFiles). IsChecked told names result) c.names.view_is
+    (check-reported told _ result c.in_ok-judge.ensures.due
+    (rw c.in_ok-judge.ensures.same at c.in_ok-document.ensures.due)
+    (subst (λ document. GivesDue MayCome printed_by
+    (printed_due report_of c.in_ok-judge.judge document) result)
+    c.deref.ensures.value c.report_by.ensures.due))

@@ -1,15 +1,17 @@
 -- The report is what is due, or why there is none.
 use Rattle.std.proofs.Common.{◌≡◌, ◌∙◌, ap, sym, subst, refl, Err, Result}
-use Rattle.document_report.specs.Documents.{document_due}
+use Rattle.lists.specs.AnswerLaws.{fails-told}
+use Rattle.lists.specs.Answers.{FailsAs, failing}
+use Rattle.document_report.specs.Documents.{MayCome as ReportMayCome}
 use Rattle.document_report.specs.Given.{printed_as}
 use Rattle.document_report.specs.declared.printing.Report.{Report}
 use Rattle.document_report.specs.declared.fault.DocumentFault.{DocumentFault}
 use Rattle.document_report.specs.declared.fault.DocumentFault.TheVariants.{NoMemory as ReportWanting}
 use Rattle.dictionary_swap.specs.declared.fault.LoadFault.TheVariants.{Failed}
-use Rattle.command_line.specs.Due.{FailsAs, failing, printed_due}
+use Rattle.command_line.specs.Due.{MayCome, printed_due}
 use Rattle.command_line.specs.Failures.{document_failure}
 use Rattle.command_line.specs.declared.failure.Failure.TheVariants.{Load}
-use Rattle.command_line.proofs.DueLemmas.{document-fails}
+use Rattle.command_line.proofs.DueLemmas.{report-comes}
 use Rattle.command_line.proofs.forms.check.report_by.Goals as goal
 
 -- no fault of a document is that the files failed
@@ -27,9 +29,9 @@ returns-in-Ok-clause-due c = ap (failing document_failure) c.in-Ok.ensures.due
 pub returns-in-Err-clause-due : goal.returns-in-Err-clause-due
 unfolding printed_due
 returns-in-Err-clause-due c =
-    let due = document_due (printed_as c.args.output) c.args.judge.now c.args.document.now in
-    subst (FailsAs (printed_due (printed_as c.args.output) c.args.judge.now c.args.document.now)) (sym c.from.ensures)
-    (document-fails due c.in-Err.fault c.in-Err.ensures.due)
+    let due = printed_due (printed_as c.args.output) c.args.judge.now c.args.document.now in
+    subst (FailsAs MayCome due) (sym c.from.ensures)
+    (fails-told ReportMayCome MayCome document_failure report-comes c.in-Err.ensures.due)
 
 pub returns-in-Err-clause-failed : goal.returns-in-Err-clause-failed
 returns-in-Err-clause-failed c = λ is. no-load c.in-Err.fault (sym c.from.ensures ∙ same-error c.from.result (Load Failed) (Err c.from.result) refl is)

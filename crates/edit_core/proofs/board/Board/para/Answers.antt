@@ -4,7 +4,7 @@ use Rattle.std.specs.Arc.{arc_value}
 use Rattle.std.specs.Option.{option_copied, option_map}
 use Rattle.std.proofs.lemmas.Option.{slice_get-map}
 use Rattle.edit_core.specs.Seen.{Seen, IsTheirs, standing_of}
-use Rattle.edit_core.specs.Views.{reply_of, shown_in}
+use Rattle.edit_core.specs.Views.{view_of, shown_in}
 use Rattle.edit_core.proofs.Kept.{seen}
 use Rattle.edit_core.proofs.Locality.{shown-at, shown-kept, shows-now}
 use Rattle.edit_core.proofs.Places.{zip-at}
@@ -21,7 +21,7 @@ returns-in-Some-get-clause-some g c =
     let at : slice_get board.paragraphs place ≡ Some paragraph = sym c.get.ensures ∙ ap option_copied c.in-Some.is in
     let beside : slice_get inside.states place ≡ Some s = sym c.get-in-Some.ensures ∙ ap option_copied c.in-Some-get.is in
     let stands : slice_get board.standings place ≡ Some (standing_of s) = slice_get-map standing_of inside.states place ∙ ap (option_map standing_of) beside in
-    let shown : slice_get (reply_of board).shown place ≡ Some (shown_in c.shown.result) =
+    let shown : slice_get (view_of board).shown place ≡ Some (shown_in c.shown.result) =
     shown-at board 1 board.standings place (standing_of s) stands
     ∙ ap (λ m. Some m) (shown-kept lexicon_of board place paragraph s c.shown_marks_are_local.ensures at (zip-at (IsTheirs lexicon_of board.lexicon) board.paragraphs inside.states place paragraph s c.self.invariant.1 at beside) ∙ sym c.shown.ensures) in
     shows-now board c.args.self.now place _ c.self.view_is (
