@@ -8,7 +8,7 @@ use Rattle.spell_types.specs.declared.flags.FlagKind.{FlagKind}
 use Rattle.spell_types.specs.declared.flags.FlagKind.TheVariants.{Utf8, Long, Num}
 use Rattle.flag_sets.specs.FlagTexts.{listed_flags, one_flag}
 use Rattle.aff_lines.specs.declared.faults.AffWhy.{AffWhy}
-use Rattle.aff_lines.specs.declared.faults.AffWhy.TheVariants.{OtherEncoding, LeftOut, MissingField, BadNumber, OtherFlag, BadFlag}
+use Rattle.aff_lines.specs.declared.faults.AffWhy.TheVariants.{OtherEncoding, MissingField, BadNumber, OtherFlag, BadFlag}
 use Rattle.aff_lines.specs.declared.names.Form.{Form}
 use Rattle.aff_lines.specs.declared.names.Row.{Row}
 use Rattle.aff_lines.specs.declared.rows.DirectiveLine.{DirectiveLine}
@@ -75,11 +75,10 @@ abbrev pub flagged_why : FlagKind → Option (List ℕ) → Option (List ℕ) �
 flagged_why kind (Some first) (Some second) = unless (is_flagged kind first && is_flagged kind second) BadFlag
 flagged_why kind _ _ = Some MissingField
 
--- what is wrong with a row of two texts that may have flags; a third text is not built
+-- what is wrong with a row of two texts that may have flags, with any text behind them
 abbrev pub joint_why : FlagKind → DirectiveLine → Option AffWhy
 joint_why kind line =
-    if is_some (slice_get (fields line.text) 3) then Some LeftOut
-    else flagged_why kind (slice_get (fields line.text) 1) (slice_get (fields line.text) 2)
+    flagged_why kind (slice_get (fields line.text) 1) (slice_get (fields line.text) 2)
 
 -- what is wrong with a row of a table
 abbrev pub row_why : FlagKind → Row → DirectiveLine → Option AffWhy

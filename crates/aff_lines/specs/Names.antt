@@ -58,6 +58,8 @@ all_directives =
     ∷ describes Directive.CheckCompoundDuplicates (codes "CHECKCOMPOUNDDUP") None Form.Switch Pass.Fourth
     ∷ describes Directive.CheckCompoundCase (codes "CHECKCOMPOUNDCASE") None Form.Switch Pass.Fourth
     ∷ describes Directive.CheckCompoundTriple (codes "CHECKCOMPOUNDTRIPLE") None Form.Switch Pass.Fourth
+    ∷ describes Directive.SimplifiedTriple (codes "SIMPLIFIEDTRIPLE") None Form.Switch Pass.Fourth
+    ∷ describes Directive.CheckSharps (codes "CHECKSHARPS") None Form.Switch Pass.Fourth
     ∷ describes Directive.CheckCompoundReplacements (codes "CHECKCOMPOUNDREP") None Form.Switch Pass.Fourth
     ∷ describes Directive.InputConversion (codes "ICONV") None (Form.Table Row.TwoTexts) Pass.Fourth
     ∷ describes Directive.Replacement (codes "REP") None (Form.Table Row.TwoTexts) Pass.Fourth
@@ -69,8 +71,6 @@ all_directives =
     ∷ describes Directive.ComplexPrefixes (codes "COMPLEXPREFIXES") None Form.LeftOut Pass.Fourth
     ∷ describes Directive.CompoundSyllable (codes "COMPOUNDSYLLABLE") None Form.LeftOut Pass.Fourth
     ∷ describes Directive.SyllableNumber (codes "SYLLABLENUM") None Form.LeftOut Pass.Fourth
-    ∷ describes Directive.CheckSharps (codes "CHECKSHARPS") None Form.LeftOut Pass.Fourth
-    ∷ describes Directive.SimplifiedTriple (codes "SIMPLIFIEDTRIPLE") None Form.LeftOut Pass.Fourth
     ∷ []
 
 -- a row of the code's table

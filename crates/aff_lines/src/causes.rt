@@ -85,14 +85,11 @@ fn has_two_texts(line: &DirectiveLine) -> bool
     field(line.text.as_str(), 2).is_some()
 }
 
-/// What is wrong with a row of two texts that may have flags.
+/// What is wrong with a row of two texts that may have flags, with any text behind them.
 fn joint_why(kind: FlagKind, line: &DirectiveLine) -> Option<AffWhy>
     ensures { result ≡ joint_why kind line.now }
 {
     let text = line.text.as_str();
-    if field(text, 3).is_some() {
-        return Some(AffWhy::LeftOut);
-    }
     flagged_why(kind, field(text, 1), field(text, 2))
 }
 

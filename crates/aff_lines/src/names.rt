@@ -36,6 +36,8 @@ pub enum Directive {
     CheckCompoundDuplicates,
     CheckCompoundCase,
     CheckCompoundTriple,
+    SimplifiedTriple,
+    CheckSharps,
     CheckCompoundReplacements,
     InputConversion,
     Replacement,
@@ -47,8 +49,6 @@ pub enum Directive {
     ComplexPrefixes,
     CompoundSyllable,
     SyllableNumber,
-    CheckSharps,
-    SimplifiedTriple,
 }
 
 /// What the lines of a directive have to look like.
@@ -83,7 +83,7 @@ pub enum Row {
     OneText,
     /// Two texts.
     TwoTexts,
-    /// Two texts that may each have a flag behind a slash, and no third.
+    /// Two texts that may each have a flag behind a slash, with any text behind them.
     Joint,
 }
 
@@ -156,6 +156,8 @@ static DIRECTIVES: &[Described] = &[
     described!(CheckCompoundDuplicates => "CHECKCOMPOUNDDUP", None, Form::Switch, Fourth),
     described!(CheckCompoundCase => "CHECKCOMPOUNDCASE", None, Form::Switch, Fourth),
     described!(CheckCompoundTriple => "CHECKCOMPOUNDTRIPLE", None, Form::Switch, Fourth),
+    described!(SimplifiedTriple => "SIMPLIFIEDTRIPLE", None, Form::Switch, Fourth),
+    described!(CheckSharps => "CHECKSHARPS", None, Form::Switch, Fourth),
     described!(CheckCompoundReplacements => "CHECKCOMPOUNDREP", None, Form::Switch, Fourth),
     described!(InputConversion => "ICONV", None, Form::Table(Row::TwoTexts), Fourth),
     described!(Replacement => "REP", None, Form::Table(Row::TwoTexts), Fourth),
@@ -167,8 +169,6 @@ static DIRECTIVES: &[Described] = &[
     described!(ComplexPrefixes => "COMPLEXPREFIXES", None, Form::LeftOut, Fourth),
     described!(CompoundSyllable => "COMPOUNDSYLLABLE", None, Form::LeftOut, Fourth),
     described!(SyllableNumber => "SYLLABLENUM", None, Form::LeftOut, Fourth),
-    described!(CheckSharps => "CHECKSHARPS", None, Form::LeftOut, Fourth),
-    described!(SimplifiedTriple => "SIMPLIFIEDTRIPLE", None, Form::LeftOut, Fourth),
 ];
 
 /// The table of all directives.

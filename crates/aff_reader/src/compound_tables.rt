@@ -2,7 +2,7 @@
 
 ghost use Rattle.std.specs.Prelude.{◌≡◌, ◌<◌, Some, length, IfOk};
 ghost use Rattle.spell_types.specs.Sanity.{IsOrdinaryJoint};
-ghost use Rattle.aff_reader.specs.CompoundTables.{meant_by, spaced, rep_of, rep_in, joint_with, joint_in};
+ghost use Rattle.aff_reader.specs.CompoundTables.{meant_by, spaced, rep_of, rep_in, is_remark, replacement_in, joint_with, joint_in};
 
 use crate::anchored_texts::read_anchored;
 use crate::class_lines::field_of;
@@ -59,7 +59,7 @@ fn meant_by(c: char) -> char
     if c == '_' { ' ' } else { c }
 }
 
-/// A row of CHECKCOMPOUNDPATTERN: parts that may not meet.
+/// A row of CHECKCOMPOUNDPATTERN: parts that may not meet as they are, and how they may meet.
 impl RowValue for JointPattern {
     ghost said_in = { joint_in };
 
@@ -71,20 +71,38 @@ impl RowValue for JointPattern {
         row: &DirectiveLine,
     ) -> Result<Option<JointPattern>, NoMemory> {
         match (field_of(row, 1), field_of(row, 2)) {
-            (Some(left), Some(right)) => Ok(Some(joint_with(alloc, kind, left, right)?)),
+            (Some(left), Some(right)) => {
+                let replacement = replacement_in(alloc, row)?;
+                Ok(Some(joint_with(alloc, kind, left, right, replacement)?))
+            }
             _ => Ok(None),
         }
     }
 }
 
-/// Two parts that may not meet, by what is written for each of them.
+/// What a row puts in place of what it names on both sides: its third text, if it is no remark.
+fn replacement_in(alloc: Global, row: &DirectiveLine) -> Result<Option<Chars>, NoMemory>
+    ensures { IfOk result (λ text. text ≡ replacement_in row.now) }
+{
+    Ok(text_at(alloc, row, 3)?.filter(|text| !is_remark(text)))
+}
+
+/// Whether a text is a remark.
+fn is_remark(text: &[char]) -> bool
+    ensures { result ≡ is_remark text.now }
+{
+    text.starts_with(&['#'])
+}
+
+/// Two parts that may not meet as they are, by what is written for each, and how they may meet.
 fn joint_with(
     alloc: Global,
     kind: FlagKind,
     left: &str,
     right: &str,
+    replacement: Option<Chars>,
 ) -> Result<JointPattern, NoMemory>
-    ensures joint { IfOk result (λ joint. joint ≡ joint_with kind left.now right.now) }
+    ensures joint { IfOk result (λ joint. joint ≡ joint_with kind left.now right.now replacement) }
     ensures ordinary { IfOk result IsOrdinaryJoint }
 {
     let end = chars_of(alloc, bare_text(left))?;
@@ -94,5 +112,6 @@ fn joint_with(
         end_flag: flag_behind(kind, left),
         begin: chars_of(alloc, bare_text(right))?,
         begin_flag: flag_behind(kind, right),
+        replacement,
     })
 }

@@ -156,6 +156,8 @@ fn options_of(rows: &[DirectiveLine]) -> Options
         check_dup: is_said(Directive::CheckCompoundDuplicates, rows),
         check_case: is_said(Directive::CheckCompoundCase, rows),
         check_triple: is_said(Directive::CheckCompoundTriple, rows),
+        simplified: is_said(Directive::SimplifiedTriple, rows),
+        sharps: is_said(Directive::CheckSharps, rows),
         check_rep: is_said(Directive::CheckCompoundReplacements, rows),
         compound_min: compound_min_of(number_said(Directive::CompoundMinimum, rows)),
         word_max: number_said(Directive::CompoundWordMaximum, rows),

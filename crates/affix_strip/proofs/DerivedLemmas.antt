@@ -4,6 +4,7 @@ use Rattle.std.specs.List.{filter, list_any}
 use Rattle.std.proofs.lemmas.Bool.{and_parts}
 use Rattle.spell_types.specs.declared.Lexicon.{Lexicon}
 use Rattle.spell_types.specs.declared.derivations.Derivation.{Derivation}
+use Rattle.spell_types.specs.declared.licences.Case.{Case}
 use Rattle.spell_types.specs.Bases.{is_alone_in_case}
 use Rattle.spell_types.specs.Derivations.{Named, named, all_derivations}
 use Rattle.spell_types.specs.Licences.{is_allowed, holds_of, has_form, meets_need, meets_circumfix, meets_signs, is_alone, is_licensed, is_forbidden, is_derived, is_barred}
@@ -45,15 +46,15 @@ forbidden-licensed : (lexicon : Lexicon) (d : Derivation) → is_forbidden lexic
 unfolding is_forbidden is_licensed
 forbidden-licensed lexicon d = has-licence lexicon _ (named lexicon d)
 
-alone-licensed : (written spelling : List ℕ) (lexicon : Lexicon) (d : Derivation) → is_alone_in_case written spelling lexicon d ≡ true → is_licensed lexicon d ≡ true
+alone-licensed : (case : Case) (lexicon : Lexicon) (d : Derivation) → is_alone_in_case case lexicon d ≡ true → is_licensed lexicon d ≡ true
 unfolding is_alone_in_case is_alone is_licensed
-alone-licensed written spelling lexicon d in_case = has-licence lexicon _ (named lexicon d) (and_parts _ _ in_case).0
+alone-licensed case lexicon d in_case = has-licence lexicon _ (named lexicon d) (and_parts _ _ in_case).0
 
 -- ---- the questions
 pub barred_found : (lexicon : Lexicon) (word : List ℕ) → list_any (is_forbidden lexicon) (derivations_of lexicon word) ≡ is_barred lexicon word
 unfolding is_barred
 barred_found lexicon word = derived-found is_forbidden lexicon word (forbidden-licensed lexicon)
 
-pub alone_found : (written spelling : List ℕ) (lexicon : Lexicon)
-    → list_any (is_alone_in_case written spelling lexicon) (derivations_of lexicon spelling) ≡ is_derived (is_alone_in_case written spelling) lexicon spelling
-alone_found written spelling lexicon = derived-found (is_alone_in_case written spelling) lexicon spelling (alone-licensed written spelling lexicon)
+pub alone_found : (case : Case) (spelling : List ℕ) (lexicon : Lexicon)
+    → list_any (is_alone_in_case case lexicon) (derivations_of lexicon spelling) ≡ is_derived (is_alone_in_case case) lexicon spelling
+alone_found case spelling lexicon = derived-found (is_alone_in_case case) lexicon spelling (alone-licensed case lexicon)

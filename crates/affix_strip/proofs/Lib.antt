@@ -4,6 +4,7 @@ pub mod DerivedLemmas
 pub mod EntryLemmas
 pub mod FoundLemmas
 pub mod InverseLemmas
+pub mod LengthLemmas
 pub mod LicenceLemmas
 pub mod MemberLemmas
 pub mod OrderLemmas

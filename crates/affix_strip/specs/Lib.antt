@@ -1,6 +1,7 @@
 pub mod EntryTable
 pub mod Found
 pub mod Hashes
+pub mod Lengths
 pub mod Parts
 pub mod Peeling
 pub mod Tables

@@ -10,6 +10,7 @@ use Rattle.spell_types.specs.declared.rules.Side.TheVariants.{Suffix}
 use Rattle.spell_types.specs.Flags.{has}
 use Rattle.affix_tables.specs.Tables.{IsTableOf}
 use Rattle.affix_strip.specs.EntryTable.{HasEntries}
+use Rattle.affix_strip.specs.Lengths.{IsLongest}
 use Rattle.affix_strip.specs.Peeling.{may_undo_at}
 use Rattle.affix_strip.specs.declared.barring.Barring.{Barring}
 use Rattle.affix_strip.specs.declared.barring.Barring.TheVariants.{Nowhere, AtEntries, AtForms}
@@ -64,6 +65,7 @@ pub record AreTablesOf (lexicon : Lexicon) (tables : Tables) : Type 0 where
   pub seconds : AreSeconds lexicon.affixes.rules tables.seconds.items
   pub has_seconds : tables.has_seconds ≡ list_any (λ may. may) tables.seconds.items
   pub barring : IsBarring lexicon tables.barring
+  pub longest : IsLongest lexicon tables.longest
 
 -- the tables are those of the dictionary
 abbrev pub IsReady : IndexedLexicon → Type 0

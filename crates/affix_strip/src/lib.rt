@@ -1,7 +1,7 @@
 //! The derivations of a word, found by undoing its affixes.
 #![tactic(auto)]
 
-ghost use Rattle.std.specs.Prelude.{◌≡◌, ◌↔◌, ℕ, List, Some, true, Contains, IfOk};
+ghost use Rattle.std.specs.Prelude.{◌≡◌, ◌↔◌, ℕ, ◌<◌, List, Some, true, length, Contains, IfOk};
 ghost use Rattle.spell_types.specs.declared.Lexicon.{Lexicon};
 ghost use Rattle.spell_types.specs.declared.derivations.Derivation.{Derivation};
 ghost use Rattle.spell_types.specs.Derivations.{form_of};
@@ -13,13 +13,14 @@ ghost use Rattle.affix_strip.specs.Found.{derivations_of, derivation_cmp, AreInO
 mod barring;
 mod entry_table;
 mod hashed;
+mod lengths;
 mod peeling;
 mod rule_flags;
 mod visiting;
 mod walk;
 
 use lists::NoMemory;
-use spell_types::{Derivation, Lexicon};
+use spell_types::{Case, Derivation, Lexicon};
 use std::alloc::Global;
 use std::cmp::Ordering;
 use std::marker::Model;
@@ -63,6 +64,14 @@ impl Stems {
         &self.dictionary.lexicon
     }
 
+    /// Whether every word of so many characters is longer than each form of the dictionary, so that it has no derivation. It is
+    /// said only where that is told by the longest entry and the longest texts that rules add.
+    pub fn is_too_long(&self, count: usize) -> bool
+        ensures { result ≡ true → (d : Derivation) (text : List ℕ) → form_of self.now d ≡ Some text → length text < count }
+    {
+        self.dictionary.is_too_long(count)
+    }
+
     /// All derivations of a word: those that are licensed and whose form is the word, by entry, then by prefix, by
     /// first and by second suffix, none before any. Only rules are looked at that add a text which begins or ends the word, or
     /// what is left of it, and only entries of the words that are left.
@@ -83,21 +92,14 @@ impl Stems {
         self.dictionary.is_barred(alloc, word)
     }
 
-    /// Whether one of the derivations of a spelling stands as a word where a word is written so. It is looked for among entries
+    /// Whether one of the derivations of a spelling stands as a word where a word is written in this case. It is looked for among entries
     /// first, then with one suffix, with two, and last with a prefix, and no further than to the first.
     #[tactic(auto, using(crate::proofs::DerivedLemmas::alone_found))]
-    pub fn is_alone(
-        &self,
-        alloc: Global,
-        written: &[char],
-        spelling: &[char],
-    ) -> Result<bool, NoMemory>
-        ensures { IfOk result (λ answer.
-            answer ≡ is_derived (is_alone_in_case written.now spelling.now) self.now spelling.now) }
+    pub fn is_alone(&self, alloc: Global, case: Case, spelling: &[char]) -> Result<bool, NoMemory>
+        ensures { IfOk result (λ answer. answer ≡ is_derived (is_alone_in_case case) self.now spelling.now) }
     {
         let test = Alone {
-            written,
-            spelling,
+            case,
             lexicon: &self.dictionary.lexicon,
         };
         self.dictionary.one_passes(alloc, spelling, test)

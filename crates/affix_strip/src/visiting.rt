@@ -7,7 +7,7 @@ ghost use Rattle.spell_types.specs.Licences.{is_forbidden};
 ghost use Rattle.affix_strip.specs.Parts.{Sight, sees_by, Shows};
 
 use lists::NoMemory;
-use spell_types::{Derivation, Lexicon, alone_in_case, forbidden};
+use spell_types::{Case, Derivation, Lexicon, alone_in_case, forbidden};
 
 /// Who is shown derivations, one after another, and may end the walk to them.
 pub(crate) trait Visitor {
@@ -66,18 +66,17 @@ impl Test for Forbidden<'_> {
     }
 }
 
-/// Whether a derivation, whose form is the spelling, stands as a word that is written so.
+/// Whether a derivation stands as a word that is written in this case.
 #[derive(Clone, Copy)]
 pub(crate) struct Alone<'a> {
-    pub(crate) written: &'a [char],
-    pub(crate) spelling: &'a [char],
+    pub(crate) case: Case,
     pub(crate) lexicon: &'a Lexicon,
 }
 
 impl Test for Alone<'_> {
-    ghost passing = { λ test. is_alone_in_case test.written.now test.spelling.now test.lexicon.now };
+    ghost passing = { λ test. is_alone_in_case test.case test.lexicon.now };
 
     fn passes(&self, d: &Derivation) -> bool {
-        alone_in_case(self.written, self.spelling, self.lexicon, d)
+        alone_in_case(self.case, self.lexicon, d)
     }
 }

@@ -1,6 +1,6 @@
 //! The walk from a word to its derivations: affixes that may have made it are undone, and what is left is looked up.
 
-ghost use Rattle.std.specs.Prelude.{◌≡◌, ◌++◌, ◌^◌, ◌<◌, [], ◌∷◌, Bool, List, Some, None, true, length, map, filter, is_some, Contains, IfOk};
+ghost use Rattle.std.specs.Prelude.{◌≡◌, ◌++◌, ◌^◌, ◌<◌, [], ◌∷◌, ℕ, Bool, List, Some, None, true, length, map, filter, is_some, Contains, IfOk};
 ghost use Rattle.std.specs.List.{list_any};
 ghost use Rattle.spell_types.specs.declared.derivations.Derivation.{Derivation};
 ghost use Rattle.spell_types.specs.Derivations.{form_of};
@@ -15,6 +15,7 @@ ghost use Rattle.affix_strip.specs.Tables.{AreTablesOf, IsReady, may_be_outer, m
 use crate::barring::{Barring, barring_of};
 use crate::entry_table::{EntryTable, Places};
 use crate::hashed::Hashed;
+use crate::lengths::longest_of;
 use crate::peeling::{Peeled, peel};
 use crate::rule_flags::second_suffixes;
 use crate::visiting::{Forbidden, Question, Test, Visitor};
@@ -43,6 +44,8 @@ struct Tables {
     /// Whether one of them may.
     has_seconds: bool,
     barring: Barring,
+    /// How long a form is at most.
+    longest: Option<usize>,
 }
 
 impl Tables {
@@ -63,6 +66,7 @@ impl Tables {
             seconds,
             has_seconds,
             barring,
+            longest: longest_of(lexicon),
         })
     }
 }
@@ -77,6 +81,17 @@ impl IndexedLexicon {
     {
         let tables = Tables::new(alloc, &lexicon)?;
         Ok(IndexedLexicon { lexicon, tables })
+    }
+
+    /// Whether a word of so many characters is longer than every form.
+    pub(crate) fn is_too_long(&self, count: usize) -> bool
+        requires { IsReady self.now }
+        ensures { result ≡ true → (d : Derivation) (text : List ℕ) → form_of self.now.lexicon d ≡ Some text → length text < count }
+    {
+        match self.tables.longest {
+            None => false,
+            Some(most) => most < count,
+        }
     }
 
     /// Whether one of the derivations of a word passes a test. The walk ends at the first that does.

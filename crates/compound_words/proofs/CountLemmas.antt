@@ -26,25 +26,33 @@ fewest-snoc [] x = least-none x
 fewest-snoc (y ∷ xs) x = ap (least y) (fewest-snoc xs x) ∙ least-assoc y (fewest xs) x
 
 -- one rest more
-pub fewest-turn : (f : FirstPart → Option ℕ) (rests : List (Bor FirstPart)) (place : ℕ) (rest : Bor FirstPart) (found : Option ℕ) → place < length rests → rest ≡ get_or rests place rest
-    → found ≡ fewest (map f (rests_at (take place rests))) → least found (f rest.now) ≡ fewest (map f (rests_at (take (place + 1) rests)))
+pub fewest-turn : (f : FirstPart → Option ℕ) (rests : List (Bor FirstPart)) (place : ℕ)
+    (rest : Bor FirstPart) (found : Option ℕ) → place < length rests
+    → rest ≡ get_or rests place rest
+    → found ≡ fewest (map f (rests_at (take place rests)))
+    → least found (f rest.now) ≡ fewest (map f (rests_at (take (place + 1) rests)))
 fewest-turn f rests place rest found within is so_far =
     let before = take place rests in
-    let whole : map f (rests_at (take (place + 1) rests)) ≡ map f (rests_at before) ++ f rest.now ∷ [] =
-    ap (λ l. map f (rests_at l)) (take_more rests place rest within ∙ ap (λ (l : Bor FirstPart). before ++ l ∷ []) (sym is))
+    let whole : map f (rests_at (take (place + 1) rests)) ≡ map f
+    (rests_at before) ++ f rest.now ∷ [] =
+    ap (λ l. map f (rests_at l))
+    (take_more rests place rest within ∙ ap (λ (l : Bor FirstPart). before ++ l ∷ []) (sym is))
     ∙ ap (map f) (map-append (λ (l : Bor FirstPart). l.now) before (rest ∷ []))
     ∙ map-append f (rests_at before) (rest.now ∷ []) in
-    ap (λ o. least o (f rest.now)) so_far ∙ sym (fewest-snoc (map f (rests_at before)) (f rest.now)) ∙ ap fewest (sym whole)
+    ap (λ o. least o (f rest.now)) so_far ∙ sym (fewest-snoc (map f (rests_at before)) (f rest.now))
+    ∙ ap fewest (sym whole)
 
 -- ---- the least number for which something holds
-pub fewest-same : (P Q : ℕ → Type 0) → ((n : ℕ) → P n → Q n) → ((n : ℕ) → Q n → P n) → (found : Option ℕ) → IsFewest P found → IsFewest Q found
+pub fewest-same : (P Q : ℕ → Type 0) → ((n : ℕ) → P n → Q n) → ((n : ℕ) → Q n → P n)
+    → (found : Option ℕ) → IsFewest P found → IsFewest Q found
 fewest-same P Q there back None none = λ n holds. none n (back n holds)
 fewest-same P Q there back (Some m) is = (there m is.0, λ n holds. is.1 n (back n holds))
 
 pub fewest-none : (P : ℕ → Type 0) → ((n : ℕ) → ¬ (P n)) → IsFewest P None
 fewest-none P none = none
 
-pub fewest-either : (P Q : ℕ → Type 0) (a b : Option ℕ) → IsFewest P a → IsFewest Q b → IsFewest (λ n. P n ⊎ Q n) (least a b)
+pub fewest-either : (P Q : ℕ → Type 0) (a b : Option ℕ) → IsFewest P a → IsFewest Q b
+    → IsFewest (λ n. P n ⊎ Q n) (least a b)
 fewest-either P Q None None p q = λ n holds. no n holds
   where
     no : (n : ℕ) → ¬ (P n ⊎ Q n)
@@ -71,11 +79,18 @@ fewest-either P Q (Some m) (Some k) p q = by (nat_le m k) refl
     upper test n (inr is) = q.1 n is
 
     by : (b : Bool) → nat_le m k ≡ b → IsFewest (λ n. P n ⊎ Q n) (least (Some m) (Some k))
-    by true test = subst (IsFewest (λ n. P n ⊎ Q n)) (sym (ap (λ c. cond c (Some m) (Some k)) test)) (inl p.0, lower test)
-    by false test = subst (IsFewest (λ n. P n ⊎ Q n)) (sym (ap (λ c. cond c (Some m) (Some k)) test)) (inr q.0, upper test)
+    by true test =
+        subst (IsFewest (λ n. P n ⊎ Q n)) (sym (ap (λ c. cond c (Some m) (Some k)) test))
+        (inl p.0, lower test)
+    by false test =
+        subst (IsFewest (λ n. P n ⊎ Q n)) (sym (ap (λ c. cond c (Some m) (Some k)) test))
+        (inr q.0, upper test)
 
 -- the fewest of a list of numbers, each of which is the least for its item
-pub fewest-list : {X : Type 0} (L : X → ℕ → Type 0) (f : X → Option ℕ) (xs : List X) → AllByRecursion (λ x. IsFewest (L x) (f x)) xs
+pub fewest-list : {X : Type 0} (L : X → ℕ → Type 0) (f : X → Option ℕ) (xs : List X)
+    → AllByRecursion (λ x. IsFewest (L x) (f x)) xs
     → IsFewest (λ n. OneOf (λ x. L x n) xs) (fewest (map f xs))
 fewest-list L f [] right = λ n holds. holds
-fewest-list L f (x ∷ xs) right = fewest-either (L x) (λ n. OneOf (λ x. L x n) xs) (f x) (fewest (map f xs)) right.0 (fewest-list L f xs right.1)
+fewest-list L f (x ∷ xs) right =
+    fewest-either (L x) (λ n. OneOf (λ x. L x n) xs) (f x) (fewest (map f xs)) right.0
+    (fewest-list L f xs right.1)

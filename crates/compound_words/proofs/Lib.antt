@@ -1,5 +1,5 @@
 pub mod CountLemmas
-pub mod PartLemmas
+pub mod PieceLemmas
 pub mod StepLemmas
 pub mod NumberLemmas
 pub mod RestLemmas

@@ -9,31 +9,44 @@ use Rattle.compound_words.specs.declared.rests.Behind.{Behind}
 use Rattle.compound_words.proofs.StepLemmas.{no-step-from, or-false}
 
 -- no flags, no number
-pub by-no-flags : (rules : List (List PatternStep)) (behind : Behind) (rule step : ℕ) → number_by_rule [] rules behind rule step ≡ None
+pub by-no-flags : (rules : List (List PatternStep)) (behind : Behind) (rule step : ℕ)
+    → number_by_rule [] rules behind rule step ≡ None
 by-no-flags rules behind rule step = by (slice_get rules rule)
   where
     none : (pattern : List PatternStep) → list_any (λ s. fits_step s []) pattern ≡ false
     none [] = refl
     none (s ∷ more) = none more
 
-    by : (found : Option (List PatternStep)) → option_and_then (λ pattern. number_by_steps [] (λ j. number_behind rules behind (ByRule rule j)) (drop step pattern) step) found ≡ None
+    by : (found : Option (List PatternStep))
+        → option_and_then
+        (λ pattern. number_by_steps [] (λ j. number_behind rules behind (ByRule rule j))
+        (drop step pattern) step) found ≡ None
     by None = refl
-    by (Some pattern) = no-step-from [] (λ j. number_behind rules behind (ByRule rule j)) pattern step (none pattern)
+    by (Some pattern) =
+        no-step-from [] (λ j. number_behind rules behind (ByRule rule j)) pattern step
+        (none pattern)
 
 -- where no number is there, there is none at each place
 not-some : (number : Option ℕ) → is_some number ≡ false → number ≡ None
 not-some None none = refl
 not-some (Some n) none = absurd (true≢false none)
 
-none-at : (own : List (Option ℕ)) (step : ℕ) → list_any is_some own ≡ false → number_at own step ≡ None
+none-at : (own : List (Option ℕ)) (step : ℕ) → list_any is_some own ≡ false
+    → number_at own step ≡ None
 none-at [] step none = refl
-none-at (number ∷ own) zero none = not-some number (or-false (is_some number) (list_any is_some own) none).0
-none-at (number ∷ own) (suc step) none = none-at own step (or-false (is_some number) (list_any is_some own) none).1
+none-at (number ∷ own) zero none =
+    not-some number (or-false (is_some number) (list_any is_some own) none).0
+none-at (number ∷ own) (suc step) none =
+    none-at own step (or-false (is_some number) (list_any is_some own) none).1
 
-pub no-numbers : (numbers : List (List (Option ℕ))) (rule step : ℕ) → list_any (list_any is_some) numbers ≡ false → numbers_at numbers rule step ≡ None
+pub no-numbers : (numbers : List (List (Option ℕ))) (rule step : ℕ)
+    → list_any (list_any is_some) numbers ≡ false → numbers_at numbers rule step ≡ None
 no-numbers [] rule step none = refl
-no-numbers (own ∷ numbers) zero step none = none-at own step (or-false (list_any is_some own) (list_any (list_any is_some) numbers) none).0
-no-numbers (own ∷ numbers) (suc rule) step none = no-numbers numbers rule step (or-false (list_any is_some own) (list_any (list_any is_some) numbers) none).1
+no-numbers (own ∷ numbers) zero step none =
+    none-at own step (or-false (list_any is_some own) (list_any (list_any is_some) numbers) none).0
+no-numbers (own ∷ numbers) (suc rule) step none =
+    no-numbers numbers rule step
+    (or-false (list_any is_some own) (list_any (list_any is_some) numbers) none).1
 
 pub none-is : (number : Option ℕ) → is_none number ≡ true → number ≡ None
 none-is None is = refl

@@ -22,31 +22,49 @@ pub or-false : (a b : Bool) → (a || b) ≡ false → (a ≡ false) × (b ≡ f
 or-false true b is = (is, absurd (true≢false is))
 or-false false b is = (refl, is)
 
-no-step : (flags : List Flag) (behind : ℕ → Option ℕ) (steps : List PatternStep) (place : ℕ) → list_any (λ step. fits_step step flags) steps ≡ false → number_by_steps flags behind steps place ≡ None
+no-step : (flags : List Flag) (behind : ℕ → Option ℕ) (steps : List PatternStep) (place : ℕ)
+    → list_any (λ step. fits_step step flags) steps ≡ false
+    → number_by_steps flags behind steps place ≡ None
 no-step flags behind [] place none = refl
 no-step flags behind (step ∷ more) place none =
     let parts = or-false (fits_step step flags) (list_any (λ s. fits_step s flags) more) none in
-    ap (λ n. least (cond (is_left_out step) n None) (cond (fits_step step flags) (one_more (behind (cond (is_many step.times) place (place + 1)))) None)) (no-step flags behind more (place + 1) parts.1)
-    ∙ ap (λ b. least (cond (is_left_out step) None None) (cond b (one_more (behind (cond (is_many step.times) place (place + 1)))) None)) parts.0
+    ap (λ n. least (cond (is_left_out step) n None)
+    (cond (fits_step step flags)
+    (one_more (behind (cond (is_many step.times) place (place + 1))))
+    None)) (no-step flags behind more (place + 1) parts.1)
+    ∙ ap (λ b. least (cond (is_left_out step) None None)
+    (cond b (one_more (behind (cond (is_many step.times) place (place + 1)))) None)) parts.0
     ∙ ap (λ n. least n None) (if-none (is_left_out step))
 
-drop-none : {X : Type 0} (test : X → Bool) (xs : List X) (count : ℕ) → list_any test xs ≡ false → list_any test (drop count xs) ≡ false
+drop-none : {X : Type 0} (test : X → Bool) (xs : List X) (count : ℕ) → list_any test xs ≡ false
+    → list_any test (drop count xs) ≡ false
 drop-none test xs zero none = none
 drop-none test [] (suc count) none = refl
-drop-none test (x ∷ xs) (suc count) none = drop-none test xs count (or-false (test x) (list_any test xs) none).1
+drop-none test (x ∷ xs) (suc count) none =
+    drop-none test xs count (or-false (test x) (list_any test xs) none).1
 
-pub no-step-from : (flags : List Flag) (behind : ℕ → Option ℕ) (steps : List PatternStep) (place : ℕ) → list_any (λ step. fits_step step flags) steps ≡ false → number_by_steps flags behind (drop place steps) place ≡ None
-no-step-from flags behind steps place none = no-step flags behind (drop place steps) place (drop-none (λ step. fits_step step flags) steps place none)
+pub no-step-from : (flags : List Flag) (behind : ℕ → Option ℕ) (steps : List PatternStep)
+    (place : ℕ) → list_any (λ step. fits_step step flags) steps ≡ false
+    → number_by_steps flags behind (drop place steps) place ≡ None
+no-step-from flags behind steps place none =
+    no-step flags behind (drop place steps) place
+    (drop-none (λ step. fits_step step flags) steps place none)
 
 -- ---- the numbers from the last step to the first
-number-past : (numbers : List (Option ℕ)) (place : ℕ) → length numbers ≤ place → number_at numbers place ≡ None
-number-past numbers place past = ap (option_and_then (λ number. number)) (slice_get_past numbers place past)
+number-past : (numbers : List (Option ℕ)) (place : ℕ) → length numbers ≤ place
+    → number_at numbers place ≡ None
+number-past numbers place past =
+    ap (option_and_then (λ number. number)) (slice_get_past numbers place past)
 
-number-within : (numbers : List (Option ℕ)) (place : ℕ) (d : Option ℕ) → place < length numbers → number_at numbers place ≡ get_or numbers place d
-number-within numbers place d within = ap (option_and_then (λ number. number)) (slice_get-get_or numbers place d within)
+number-within : (numbers : List (Option ℕ)) (place : ℕ) (d : Option ℕ) → place < length numbers
+    → number_at numbers place ≡ get_or numbers place d
+number-within numbers place d within =
+    ap (option_and_then (λ number. number)) (slice_get-get_or numbers place d within)
 
-steps-past : (flags : List Flag) (behind : ℕ → Option ℕ) (steps : List PatternStep) (place : ℕ) → length steps ≤ place → number_by_steps flags behind (drop place steps) place ≡ None
-steps-past flags behind steps place past = ap (λ rest. number_by_steps flags behind rest place) (nothing steps place past)
+steps-past : (flags : List Flag) (behind : ℕ → Option ℕ) (steps : List PatternStep) (place : ℕ)
+    → length steps ≤ place → number_by_steps flags behind (drop place steps) place ≡ None
+steps-past flags behind steps place past =
+    ap (λ rest. number_by_steps flags behind rest place) (nothing steps place past)
   where
     nothing : {X : Type 0} (xs : List X) (count : ℕ) → length xs ≤ count → drop count xs ≡ []
     nothing [] zero past = refl
@@ -55,38 +73,64 @@ steps-past flags behind steps place past = ap (λ rest. number_by_steps flags be
     nothing (x ∷ xs) (suc count) past = nothing xs count (omega (arith, past))
 
 -- past the last step there is no number
-pub numbers-past : (numbers : List (Option ℕ)) (flags : List Flag) (behind : ℕ → Option ℕ) (steps : List PatternStep) (place : ℕ) → length numbers ≡ length steps → length steps ≤ place
+pub numbers-past : (numbers : List (Option ℕ)) (flags : List Flag) (behind : ℕ → Option ℕ)
+    (steps : List PatternStep) (place : ℕ) → length numbers ≡ length steps → length steps ≤ place
     → number_at numbers place ≡ number_by_steps flags behind (drop place steps) place
-numbers-past numbers flags behind steps place long past = number-past numbers place (omega (arith, long, past)) ∙ sym (steps-past flags behind steps place past)
+numbers-past numbers flags behind steps place long past =
+    number-past numbers place (omega (arith, long, past))
+    ∙ sym (steps-past flags behind steps place past)
 
 abbrev pub Are : List (Option ℕ) → List Flag → (ℕ → Option ℕ) → List PatternStep → ℕ → Type 0
-Are numbers flags behind steps from = (place : ℕ) → from ≤ place → number_at numbers place ≡ number_by_steps flags behind (drop place steps) place
+Are numbers flags behind steps from =
+    (place : ℕ) → from ≤ place
+    → number_at numbers place ≡ number_by_steps flags behind (drop place steps) place
 
 -- one step more
-pub numbers-turn : (numbers : List (Option ℕ)) (flags : List Flag) (behind : ℕ → Option ℕ) (steps : List PatternStep) (place : ℕ) (step d : PatternStep) (number : Option ℕ)
+pub numbers-turn : (numbers : List (Option ℕ)) (flags : List Flag) (behind : ℕ → Option ℕ)
+    (steps : List PatternStep) (place : ℕ) (step d : PatternStep) (number : Option ℕ)
     → length numbers ≡ length steps → place < length steps → step ≡ get_or steps place d
-    → ((later : ℕ) → place + 1 ≤ later → number_at numbers later ≡ number_by_steps flags behind (drop later steps) later)
-    → number ≡ least (cond (is_left_out step) (number_at numbers (place + 1)) None) (cond (fits_step step flags) (one_more (behind (cond (is_many step.times) place (place + 1)))) None)
-    → (at : ℕ) → place ≤ at → number_at (set numbers place number) at ≡ number_by_steps flags behind (drop at steps) at
-numbers-turn numbers flags behind steps place step d number long within is later made at from = ⊎_elim (λ above. other above) (λ here. same (omega (arith, here, from))) (cases_lt place at)
+    → ((later : ℕ) → place + 1 ≤ later
+    → number_at numbers later ≡ number_by_steps flags behind (drop later steps) later)
+    → number ≡ least (cond (is_left_out step) (number_at numbers (place + 1)) None)
+    (cond (fits_step step flags)
+    (one_more (behind (cond (is_many step.times) place (place + 1)))) None)
+    → (at : ℕ) → place ≤ at → number_at (set numbers place number) at
+    ≡ number_by_steps flags behind (drop at steps) at
+numbers-turn numbers flags behind steps place step d number long within is later made at from =
+    ⊎_elim (λ above. other above) (λ here. same (omega (arith, here, from))) (cases_lt place at)
   where
-    other : place < at → number_at (set numbers place number) at ≡ number_by_steps flags behind (drop at steps) at
+    other : place < at → number_at (set numbers place number) at
+        ≡ number_by_steps flags behind (drop at steps) at
     other above = kept (cases_lt at (length numbers)) ∙ later at (omega (arith, above))
       where
-        kept : (at < length numbers) ⊎ (length numbers ≤ at) → number_at (set numbers place number) at ≡ number_at numbers at
+        kept : (at < length numbers) ⊎ (length numbers ≤ at)
+            → number_at (set numbers place number) at ≡ number_at numbers at
         kept (inl inside) =
-            number-within (set numbers place number) at None (subst (λ n. at < n) (sym (length-set numbers place number)) inside)
-            ∙ get_or-set_other numbers place at number None (λ e. omega (arith, e, above)) ∙ sym (number-within numbers at None inside)
-        kept (inr past) = number-past (set numbers place number) at (subst (λ n. n ≤ at) (sym (length-set numbers place number)) past) ∙ sym (number-past numbers at past)
+            number-within (set numbers place number) at None
+            (subst (λ n. at < n) (sym (length-set numbers place number)) inside)
+            ∙ get_or-set_other numbers place at number None (λ e. omega (arith, e, above))
+            ∙ sym (number-within numbers at None inside)
+        kept (inr past) =
+            number-past (set numbers place number) at
+            (subst (λ n. n ≤ at) (sym (length-set numbers place number)) past)
+            ∙ sym (number-past numbers at past)
 
-    same : at ≡ place → number_at (set numbers place number) at ≡ number_by_steps flags behind (drop at steps) at
+    same : at ≡ place → number_at (set numbers place number) at
+        ≡ number_by_steps flags behind (drop at steps) at
     same here =
-        subst (λ p. number_at (set numbers place number) p ≡ number_by_steps flags behind (drop p steps) p) (sym here)
-        (number-within (set numbers place number) place None (subst (λ n. place < n) (sym (length-set numbers place number)) (omega (arith, within, long)))
+        subst (λ p. number_at (set numbers place number) p ≡ number_by_steps flags behind
+        (drop p steps) p) (sym here)
+        (number-within (set numbers place number) place None
+        (subst (λ n. place < n) (sym (length-set numbers place number))
+        (omega (arith, within, long)))
         ∙ get_or-set_same numbers place number None (omega (arith, within, long))
         ∙ made
-        ∙ ap (λ n. least (cond (is_left_out step) n None) (cond (fits_step step flags) (one_more (behind (cond (is_many step.times) place (place + 1)))) None)) (later (place + 1) (omega arith))
-        ∙ ap (λ rest. number_by_steps flags behind rest place) (sym (drop_more steps place d within ∙ ap (λ s. s ∷ drop (place + 1) steps) (sym is))))
+        ∙ ap (λ n. least (cond (is_left_out step) n None)
+        (cond (fits_step step flags)
+        (one_more (behind (cond (is_many step.times) place (place + 1))))
+        None)) (later (place + 1) (omega arith))
+        ∙ ap (λ rest. number_by_steps flags behind rest place)
+        (sym (drop_more steps place d within ∙ ap (λ s. s ∷ drop (place + 1) steps) (sym is))))
 
 -- ---- whether the steps from a place on match nothing
 and-swap : (a b : Bool) → (a && b) ≡ (b && a)
@@ -99,16 +143,24 @@ pub nothing-past : (steps : List PatternStep) → true ≡ matches (drop (length
 nothing-past [] = refl
 nothing-past (step ∷ more) = nothing-past more
 
-pub nothing-turn : MatchesOneByOne → (steps : List PatternStep) (place : ℕ) (step d : PatternStep) (before : Bool) → place < length steps → step ≡ get_or steps place d
-    → before ≡ matches (drop (place + 1) steps) [] → (before && is_left_out step) ≡ matches (drop place steps) []
+pub nothing-turn : MatchesOneByOne → (steps : List PatternStep) (place : ℕ) (step d : PatternStep)
+    (before : Bool) → place < length steps → step ≡ get_or steps place d
+    → before ≡ matches (drop (place + 1) steps) []
+    → (before && is_left_out step) ≡ matches (drop place steps) []
 nothing-turn law steps place step d before within is so_far =
-    and-swap before (is_left_out step) ∙ ap (λ b. is_left_out step && b) so_far ∙ sym (law.none step (drop (place + 1) steps))
-    ∙ ap (λ rest. matches rest []) (sym (drop_more steps place d within ∙ ap (λ s. s ∷ drop (place + 1) steps) (sym is)))
+    and-swap before (is_left_out step) ∙ ap (λ b. is_left_out step && b) so_far
+    ∙ sym (law.none step (drop (place + 1) steps))
+    ∙ ap (λ rest. matches rest [])
+    (sym (drop_more steps place d within ∙ ap (λ s. s ∷ drop (place + 1) steps) (sym is)))
 
 -- and so whether those match nothing that may stand behind this one
-pub nothing-behind : MatchesOneByOne → (rules : List (List PatternStep)) (rule : ℕ) (steps : List PatternStep) (place : ℕ) (step d : PatternStep) (before : Bool) → place < length steps → step ≡ get_or steps place d
-    → slice_get rules rule ≡ Some steps → before ≡ matches (drop (place + 1) steps) [] → before ≡ matches_from rules rule (cond (is_many step.times) place (place + 1)) []
-nothing-behind law rules rule steps place step d before within is found so_far = by (is_many step.times) refl
+pub nothing-behind : MatchesOneByOne → (rules : List (List PatternStep)) (rule : ℕ)
+    (steps : List PatternStep) (place : ℕ) (step d : PatternStep) (before : Bool)
+    → place < length steps → step ≡ get_or steps place d
+    → slice_get rules rule ≡ Some steps → before ≡ matches (drop (place + 1) steps) []
+    → before ≡ matches_from rules rule (cond (is_many step.times) place (place + 1)) []
+nothing-behind law rules rule steps place step d before within is found so_far =
+    by (is_many step.times) refl
   where
     from : (k : ℕ) → matches_from rules rule k [] ≡ matches (drop k steps) []
     from k = ap (λ o. option_map_or (λ pattern. matches (drop k pattern) []) o false) found
@@ -121,7 +173,9 @@ nothing-behind law rules rule steps place step d before within is found so_far =
         is-left-out Maybe many = refl
         is-left-out Many many = refl
 
-    by : (b : Bool) → is_many step.times ≡ b → before ≡ matches_from rules rule (cond b place (place + 1)) []
+    by : (b : Bool) → is_many step.times ≡ b → before
+        ≡ matches_from rules rule (cond b place (place + 1)) []
     by true many =
-        sym (and-swap before (is_left_out step) ∙ ap (λ b. b && before) (left_out many)) ∙ nothing-turn law steps place step d before within is so_far ∙ sym (from place)
+        sym (and-swap before (is_left_out step) ∙ ap (λ b. b && before) (left_out many))
+        ∙ nothing-turn law steps place step d before within is so_far ∙ sym (from place)
     by false many = so_far ∙ sym (from (place + 1))

@@ -18,7 +18,9 @@ has_number numbers flag = contains nat_cmp numbers flag.0
 
 -- the set has the numbers of all flags of the entries
 abbrev pub HasFlagsOf : BTreeSet ℕ → List Entry → Type 0
-HasFlagsOf numbers entries = AllByRecursion (λ entry. AllByRecursion (λ flag. has_number numbers flag ≡ true) entry.flags) entries
+HasFlagsOf numbers entries =
+    AllByRecursion
+    (λ entry. AllByRecursion (λ flag. has_number numbers flag ≡ true) entry.flags) entries
 
 -- whether the set has the number of a flag of the rule
 abbrev pub has_step_in : BTreeSet ℕ → List PatternStep → Bool

@@ -1,18 +1,16 @@
 -- Lists of parts that make up the rest of a word, and how few parts they may have.
-use Rattle.std.specs.Prelude.{◌≡◌, ℕ, ◌+◌, ◌<◌, Bool, true, false, nat_lt, ◌&&◌, ◌||◌, List, [], ◌∷◌, ◌++◌, length, map, drop, slice_get, Option, None, Some, option_and_then, if◌then◌else◌}
+use Rattle.std.specs.Prelude.{◌≡◌, ℕ, ◌+◌, ◌<◌, Bool, true, false, nat_lt, ◌&&◌, ◌||◌, List, [], ◌∷◌, ◌++◌, length, map, take, drop, slice_get, Option, None, Some, option_and_then, if◌then◌else◌}
 use Rattle.std.specs.Borrow.{Bor}
-use Rattle.std.specs.List.{AllByRecursion, filter, list_any}
+use Rattle.std.specs.List.{AllByRecursion, list_any}
 use Rattle.std.specs.Option.{option_map_or, option_to_list}
-use Rattle.affix_strip.specs.Found.{derivations_of}
 use Rattle.spell_types.specs.declared.derivations.Derivation.{Derivation}
 use Rattle.spell_types.specs.declared.flags.Flag.{Flag}
 use Rattle.spell_types.specs.declared.parts.Part.{Part}
 use Rattle.spell_types.specs.declared.parts.Place.{Place}
 use Rattle.spell_types.specs.declared.parts.Place.TheVariants.{First, Middle, Last}
 use Rattle.spell_types.specs.declared.patterns.PatternStep.{PatternStep}
-use Rattle.spell_types.specs.Compounds.{Asked, IsGiven, may_be_part, part_with, written, all_stand, flags_of, do_meet, end_well, follow, are_few}
+use Rattle.spell_types.specs.Compounds.{Asked, IsGiven, are_joined, begin_well, stretch, written, all_stand, flags_of, do_meet, end_well, follows_rule, are_few}
 use Rattle.spell_types.specs.EntriesOf.{entry_flags}
-use Rattle.spell_types.specs.Joints.{is_joint}
 use Rattle.spell_types.specs.Parts.{stands_at, stands_in_rule}
 use Rattle.spell_types.specs.Patterns.{matches, fits_step, is_left_out, is_many}
 use Rattle.compound_words.specs.declared.rests.Behind.{Behind}
@@ -20,14 +18,12 @@ use Rattle.compound_words.specs.declared.rests.FirstPart.{FirstPart}
 use Rattle.compound_words.specs.declared.rests.Row.{Row}
 use Rattle.compound_words.specs.declared.search.Search.{Search}
 use Rattle.compound_words.specs.Counting.{fewest, least, one_more, number_at, IsFewest, OneOf}
+use Rattle.compound_words.specs.Pieces.{may_begin, EndsBefore}
 
 -- of what compounds are asked in a search
 abbrev pub asked_by : Search → Asked
-asked_by search = record { lexicon = search.stems.now; by_case = search.by_case; capital = search.capital }
-
--- the parts that write this text
-unfoldable pub parts_of : Asked → List ℕ → List Part
-parts_of a text = filter (may_be_part a) (map (λ d. part_with d text) (derivations_of a.lexicon text))
+asked_by search =
+    record { lexicon = search.stems.now; by_case = search.by_case; capital = search.capital }
 
 -- How parts may stand: by their flags; or as the steps of a rule from a place on match them.
 pub data Way : Type 0 where
@@ -36,17 +32,24 @@ pub data Way : Type 0 where
 
 -- whether the steps of a rule from a place on match these sets
 abbrev pub matches_from : List (List PatternStep) → ℕ → ℕ → List (List Flag) → Bool
-matches_from rules rule step sets = option_map_or (λ pattern. matches (drop step pattern) sets) (slice_get rules rule) false
+matches_from rules rule step sets =
+    option_map_or (λ pattern. matches (drop step pattern) sets) (slice_get rules rule) false
 
 -- the rules of a search
 abbrev pub patterns_of : Search → List (List PatternStep)
 patterns_of search = search.rules.now
 
--- whether there are as many parts as a word needs of which the first stands here
+-- whether there are as many parts as a word needs of which the first stands here, and it begins as a word does
 abbrev pub is_enough : Place → List Part → Bool
-is_enough First parts = nat_lt 1 (length parts)
+is_enough First parts = nat_lt 1 (length parts) && begin_well parts
 is_enough Middle parts = true
 is_enough Last parts = true
+
+-- nothing is before a part that stands first in a word
+abbrev pub IsFrontOf : Place → List ℕ → Type 0
+IsFrontOf First before = before ≡ []
+IsFrontOf Middle before = Unit {0}
+IsFrontOf Last before = Unit {0}
 
 -- whether there are enough parts, and each stands at its place, the first of them here
 abbrev pub stand_from : (Derivation → Place → Bool) → Place → List Part → Bool
@@ -56,7 +59,8 @@ stand_from stands here parts = is_enough here parts && all_stand stands here par
 abbrev pub holds : Asked → List (List PatternStep) → Place → Way → List Part → Bool
 holds a rules here ByFlags parts = stand_from (stands_at a.lexicon) here parts
 holds a rules here (ByRule rule step) parts =
-    stand_from (stands_in_rule a.lexicon) here parts && matches_from rules rule step (flags_of a parts)
+    stand_from (stands_in_rule a.lexicon) here parts && matches_from rules rule step
+    (flags_of a parts)
 
 -- the parts write the text, they meet, and the last of them may stand there
 pub record AreRest (a : Asked) (text : List ℕ) (parts : List Part) : Type 0 where
@@ -89,28 +93,34 @@ count_of rest (ByRule rule step) = numbers_at rest.by_rules rule step
 
 -- the numbers tell for each way how few parts, of which its part is the first, write the text
 abbrev pub IsRight : Asked → List (List PatternStep) → Place → List ℕ → FirstPart → Type 0
-IsRight a rules here text rest = (way : Way) → IsFewest (Leads a text (holds a rules here way) rest.part) (count_of rest way)
+IsRight a rules here text rest =
+    (way : Way) → IsFewest (Leads a text (holds a rules here way) rest.part) (count_of rest way)
 
 -- the part stands first in one of them
 abbrev pub HasPart : Part → List FirstPart → Type 0
 HasPart part rests = OneOf (λ rest. rest.part ≡ part) rests
 
--- these are the first parts of all that write the text behind a place inside the word
-pub record IsRow (a : Asked) (rules : List (List PatternStep)) (text : List ℕ) (rests : List FirstPart) : Type 0 where
+-- these are the first parts of all that write the text behind a place inside the word, where this text is before it
+pub record IsRow (a : Asked) (rules : List (List PatternStep)) (before text : List ℕ) (rests : List FirstPart) : Type 0 where
   pub right : AllByRecursion (IsRight a rules Middle text) rests
-  pub all : (part : Part) (more : List Part) (way : Way) → AreRest a text (part ∷ more) → holds a rules Middle way (part ∷ more) ≡ true → HasPart part rests
+  pub all : (part : Part) (more : List Part) (way : Way) → may_begin a.lexicon before part ≡ true
+      → AreRest a text (part ∷ more) → holds a rules Middle way (part ∷ more) ≡ true
+      → HasPart part rests
 
 -- a row of places behind this one
 pub record IsRowAt (a : Asked) (rules : List (List PatternStep)) (word : List ℕ) (from : ℕ) (row : Row) : Type 0 where
   pub after : from < row.place
   pub inside : row.place < length word
-  pub is : IsRow a rules (drop row.place word) row.rests
+  pub is : IsRow a rules (take row.place word) (drop row.place word) row.rests
 
 -- there is a row for each place behind this one from which parts write the rest of the word
 pub record AreRows (a : Asked) (rules : List (List PatternStep)) (word : List ℕ) (from : ℕ) (rows : List Row) : Type 0 where
   pub right : AllByRecursion (IsRowAt a rules word from) rows
-  pub all : (place : ℕ) (part : Part) (more : List Part) (way : Way) → from < place → place < length word
-      → AreRest a (drop place word) (part ∷ more) → holds a rules Middle way (part ∷ more) ≡ true → OneOf (λ row. row.place ≡ place) rows
+  pub all : (place : ℕ) (part : Part) (more : List Part) (way : Way) → from < place
+      → place < length word
+      → may_begin a.lexicon (take place word) part ≡ true
+      → AreRest a (drop place word) (part ∷ more) → holds a rules Middle way (part ∷ more) ≡ true
+      → OneOf (λ row. row.place ≡ place) rows
 
 -- the rests that references lead to
 abbrev pub rests_at : List (Bor FirstPart) → List FirstPart
@@ -118,7 +128,7 @@ rests_at rests = map (λ rest. rest.now) rests
 
 -- whether the part may stand before the first part of a rest
 abbrev pub may_precede : Asked → Part → FirstPart → Bool
-may_precede a part rest = is_joint a.lexicon part.text part.d rest.part.text rest.part.d
+may_precede a part rest = are_joined a part rest.part
 
 -- how few parts may stand behind the last part: none, unless the steps of a rule do not match nothing
 abbrev pub number_at_end : List (List PatternStep) → Way → Option ℕ
@@ -128,7 +138,8 @@ number_at_end rules (ByRule rule step) = if matches_from rules rule step [] then
 -- how few parts may stand behind a part: none at the end of the word, or those of a rest
 abbrev pub number_behind : List (List PatternStep) → Behind → Way → Option ℕ
 number_behind rules behind way =
-    if behind.is_end then number_at_end rules way else fewest (map (λ rest. count_of rest way) (rests_at behind.rests.now))
+    if behind.is_end then number_at_end rules way else fewest
+    (map (λ rest. count_of rest way) (rests_at behind.rests.now))
 
 -- How few parts the steps of a rule match whose first has these flags, where `behind` tells how few the steps from a place on
 -- match behind it: a step is left out, or it stands for the first part.
@@ -136,19 +147,23 @@ abbrev pub number_by_steps : List Flag → (ℕ → Option ℕ) → List Pattern
 number_by_steps flags behind [] place = None
 number_by_steps flags behind (step ∷ more) place =
     least (if is_left_out step then number_by_steps flags behind more (place + 1) else None)
-    (if fits_step step flags then one_more (behind (if is_many step.times then place else place + 1)) else None)
+    (if fits_step step flags then one_more
+    (behind (if is_many step.times then place else place + 1)) else None)
 
 -- how few parts a rule matches from a step on
 abbrev pub number_by_rule : List Flag → List (List PatternStep) → Behind → ℕ → ℕ → Option ℕ
 number_by_rule flags rules behind rule step =
-    option_and_then (λ pattern. number_by_steps flags (λ j. number_behind rules behind (ByRule rule j)) (drop step pattern) step) (slice_get rules rule)
+    option_and_then
+    (λ pattern. number_by_steps flags (λ j. number_behind rules behind (ByRule rule j))
+    (drop step pattern) step) (slice_get rules rule)
 
 -- how few parts there are with this one before those
 abbrev pub number_with : Asked → List (List PatternStep) → Place → Part → Behind → Way → Option ℕ
 number_with a rules place part behind ByFlags =
     if stands_at a.lexicon part.d place then one_more (number_behind rules behind ByFlags) else None
 number_with a rules place part behind (ByRule rule step) =
-    if stands_in_rule a.lexicon part.d place then number_by_rule (entry_flags a.lexicon part.d) rules behind rule step else None
+    if stands_in_rule a.lexicon part.d place then number_by_rule
+    (entry_flags a.lexicon part.d) rules behind rule step else None
 
 -- the rest begins with the part, and its numbers are these
 pub record HasNumbers (a : Asked) (rules : List (List PatternStep)) (place : Place) (part : Part) (behind : Behind) (rest : FirstPart) : Type 0 where
@@ -160,7 +175,8 @@ abbrev pub HasNone : Asked → List (List PatternStep) → Place → Part → Be
 HasNone a rules place part behind = (way : Way) → number_with a rules place part behind way ≡ None
 
 -- the rest that was made has the numbers, or there are none
-abbrev pub IsMade : Asked → List (List PatternStep) → Place → Part → Behind → Option FirstPart → Type 0
+abbrev pub IsMade : Asked → List (List PatternStep) → Place → Part → Behind → Option FirstPart
+    → Type 0
 IsMade a rules place part behind None = HasNone a rules place part behind
 IsMade a rules place part behind (Some rest) = HasNumbers a rules place part behind rest
 
@@ -170,34 +186,44 @@ pub record IsAdded (a : Asked) (rules : List (List PatternStep)) (place : Place)
   pub is : IsMade a rules place part behind made
   pub added : now ≡ before ++ option_to_list made
 
+-- the same, or the part was there already
+pub data IsAddedOnce (a : Asked) (rules : List (List PatternStep)) (place : Place) (part : Part) (behind : Behind) (before now : List FirstPart) : Type 0 where
+  Known : HasPart part before → now ≡ before → IsAddedOnce a rules place part behind before now
+  New : IsAdded a rules place part behind before now → IsAddedOnce a rules place part behind before now
+
 -- a row to which rests of a text were added: it has what it had, and if that was right, all is
 pub record Grows (a : Asked) (rules : List (List PatternStep)) (here : Place) (text : List ℕ) (before now : List FirstPart) : Type 0 where
-  pub right : AllByRecursion (IsRight a rules here text) before → AllByRecursion (IsRight a rules here text) now
+  pub right : AllByRecursion (IsRight a rules here text) before
+      → AllByRecursion (IsRight a rules here text) now
   pub kept : (part : Part) → HasPart part before → HasPart part now
 
--- a part of the dictionary with this text
-pub record IsGivenAs (a : Asked) (text : List ℕ) (part : Part) : Type 0 where
-  pub given : IsGiven a part
-  pub writes : part.text ≡ text
+-- Where in a word a part is looked for: what is before it, what it writes, what follows, and the rests of the word there.
+pub record Piece : Type 0 where
+  pub before : List ℕ
+  pub front : List ℕ
+  pub following : List ℕ
+  pub rests : List FirstPart
 
--- all parts with a text
-pub record AreParts (a : Asked) (text : List ℕ) (parts : List Part) : Type 0 where
-  pub given : AllByRecursion (IsGivenAs a text) parts
-  pub all : (part : Part) → IsGivenAs a text part → OneOf (λ other. other ≡ part) parts
-
--- the row has each part from which others write a text, where it begins with so much of it
-pub record HasFirsts (a : Asked) (rules : List (List PatternStep)) (here : Place) (text front : List ℕ) (row : List FirstPart) : Type 0 where
-  pub has : (part : Part) (more : List Part) (way : Way) → part.text ≡ front → AreRest a text (part ∷ more) → holds a rules here way (part ∷ more) ≡ true → HasPart part row
+-- the row has each part from which others write a text, where it writes so much of it
+pub record HasFirsts (a : Asked) (rules : List (List PatternStep)) (here : Place) (text : List ℕ) (piece : Piece) (row : List FirstPart) : Type 0 where
+  pub has : (part : Part) (more : List Part) (way : Way)
+      → may_begin a.lexicon piece.before part ≡ true → EndsBefore a.lexicon piece.following piece.rests part
+      → stretch part ≡ piece.front → AreRest a text (part ∷ more)
+      → holds a rules here way (part ∷ more) ≡ true → HasPart part row
 
 -- the row has the first part of each list of two parts or more that writes the text
-abbrev pub HasInner : Asked → List (List PatternStep) → Place → List ℕ → List FirstPart → Type 0
-HasInner a rules here text row =
-    (part next : Part) (more : List Part) (way : Way) → AreRest a text (part ∷ next ∷ more) → holds a rules here way (part ∷ next ∷ more) ≡ true → HasPart part row
+abbrev pub HasInner : Asked → List (List PatternStep) → Place → List ℕ → List ℕ → List FirstPart
+    → Type 0
+HasInner a rules here before text row =
+    (part next : Part) (more : List Part) (way : Way) → may_begin a.lexicon before part ≡ true
+    → AreRest a text (part ∷ next ∷ more) → holds a rules here way (part ∷ next ∷ more) ≡ true
+    → HasPart part row
 
 -- the rules that are looked at match what all rules match
 pub record AreRulesOf (a : Asked) (rules : List (List PatternStep)) : Type 0 where
   pub same : (part : Part) (more : List Part) → IsGiven a part
-      → list_any (follow a First (part ∷ more)) rules ≡ list_any (follow a First (part ∷ more)) a.lexicon.affixes.patterns
+      → list_any (follows_rule a First (part ∷ more)) rules
+      ≡ list_any (follows_rule a First (part ∷ more)) a.lexicon.affixes.patterns
 
 -- whether there are few enough parts
 abbrev pub is_few : Asked → Option ℕ → Bool
@@ -205,4 +231,5 @@ is_few a number = option_map_or (are_few a) number false
 
 -- whether a rest has few enough parts in one of the ways
 abbrev pub has_few : Asked → FirstPart → Bool
-has_few a rest = is_few a rest.by_flags || list_any (λ own. is_few a (number_at own 0)) rest.by_rules
+has_few a rest =
+    is_few a rest.by_flags || list_any (λ own. is_few a (number_at own 0)) rest.by_rules

@@ -7,6 +7,7 @@ ghost use Rattle.compound_words.specs.Prepared.{AreCompoundsOf, AreAllRulesOf, h
 ghost use Rattle.compound_words.specs.Rests.{asked_by};
 
 mod counting;
+mod pieces;
 mod replacements;
 mod rests;
 mod rows;
@@ -94,7 +95,6 @@ impl Compounds {
     {
         if !self.has_first && self.rules.is_empty() {
             compounds_have_parts();
-            search.dictionary_is_sane();
             return Ok(false);
         }
         is_made_up(alloc, search, word)

@@ -8,7 +8,7 @@ ghost use Rattle.spell_types.specs.Replacements.{stands_anchored, replaced_at, v
 use affix_strip::Stems;
 use conversions::{stands_anchored, variant_at};
 use lists::NoMemory;
-use spell_types::Rep;
+use spell_types::{Case, Rep};
 use std::alloc::Global;
 
 /// Whether a word is a common misspelling of one that stands alone: the option CHECKCOMPOUNDREP of hunspell(5). No pair of REP
@@ -75,5 +75,5 @@ fn has_fault_at(
 fn is_alone(alloc: Global, stems: &Stems, word: &[char]) -> Result<bool, NoMemory>
     ensures { IfOk result (λ answer. answer ≡ is_derived is_alone stems.now word.now) }
 {
-    stems.is_alone(alloc, word, word)
+    stems.is_alone(alloc, Case::Same, word)
 }

@@ -1,14 +1,15 @@
 //! The rests of a word from each of its places, the last place first.
 
-ghost use Rattle.std.specs.Prelude.{◌≡◌, ◌≤◌, ◌<◌, ◌^◌, ◌-◌, ◌++◌, ℕ, List, drop, length, filter, IfOk, OnOk};
+ghost use Rattle.std.specs.Prelude.{◌≡◌, ◌≤◌, ◌<◌, ◌^◌, ◌-◌, ◌++◌, [], true, take, drop, length, filter, IfOk, OnOk};
 ghost use Rattle.std.specs.List.{list_any};
 ghost use Rattle.spell_types.specs.declared.parts.Place.{Place};
 ghost use Rattle.spell_types.specs.Compounds.{is_made_up};
-ghost use Rattle.spell_types.specs.Sanity.{AreSaneAffixes};
 ghost use Rattle.compound_words.specs.Counting.{number_at};
-ghost use Rattle.compound_words.specs.Rests.{asked_by, patterns_of, rests_at, may_precede, is_few, has_few, IsAdded, Grows, HasFirsts, HasInner, IsRow, AreRows, AreRulesOf};
+ghost use Rattle.compound_words.specs.Pieces.{AreFronts};
+ghost use Rattle.compound_words.specs.Rests.{asked_by, patterns_of, rests_at, may_precede, is_few, has_few, IsAdded, IsAddedOnce, Grows, HasFirsts, HasPart, HasInner, IsFrontOf, IsRow, AreRows, AreRulesOf};
 
 use crate::counting::number_at;
+use crate::pieces::{Piece, Start, parts_of};
 use crate::rests::{Behind, FirstPart, Numbers, Row, rest_with};
 use crate::search::Search;
 use lists::{Items, NoMemory};
@@ -23,10 +24,20 @@ pub(crate) fn is_made_up(alloc: Global, search: &Search, word: &[char]) -> Resul
     ensures { IfOk result (λ answer. answer ≡ is_made_up (asked_by search.now) word.now) }
 {
     compounds_have_parts();
-    search.dictionary_is_sane();
     let rows = rows_of(alloc, search, word)?;
     let mut firsts = Items::new(alloc);
-    add_before_rows(alloc, search, Place::First, word, 0, &rows, &mut firsts)?;
+    let lexicon = search.lexicon();
+    let start = Start::new(alloc, lexicon, &word[..0])?;
+    add_before_rows(
+        alloc,
+        search,
+        Place::First,
+        &start,
+        word,
+        0,
+        &rows,
+        &mut firsts,
+    )?;
     Ok(one_has_few(search, &firsts))
 }
 
@@ -58,55 +69,83 @@ fn rests_from(
     requires within { from < length word.now }
     requires fits { length word.now ≤ 2 ^ 64 - 1 }
     requires rows { AreRows (asked_by search.now) (patterns_of search.now) word.now from rows.now }
-    ensures { IfOk result (IsRow (asked_by search.now) (patterns_of search.now) (drop from word.now)) }
+    ensures { IfOk result (IsRow (asked_by search.now) (patterns_of search.now) (take from word.now) (drop from word.now)) }
 {
     let mut row = Items::new(alloc);
-    add_last(alloc, search, &word[from..], &mut row)?;
-    add_before_rows(alloc, search, Place::Middle, word, from, rows, &mut row)?;
+    let lexicon = search.lexicon();
+    let start = Start::new(alloc, lexicon, &word[..from])?;
+    add_last(alloc, search, &start, &word[from..], &mut row)?;
+    add_before_rows(
+        alloc,
+        search,
+        Place::Middle,
+        &start,
+        word,
+        from,
+        rows,
+        &mut row,
+    )?;
     Ok(row)
 }
 
 /// Adds the rests from a place whose first part is followed by others.
-fn add_before_rows(
+fn add_before_rows<'a>(
     alloc: Global,
     search: &Search,
     here: Place,
-    word: &[char],
+    start: &'a Start<'a>,
+    word: &'a [char],
     from: usize,
-    rows: &[Row],
+    rows: &'a [Row],
     row: &mut Items<FirstPart>,
 ) -> Result<(), NoMemory>
     requires rows { AreRows (asked_by search.now) (patterns_of search.now) word.now from rows.now }
     requires fits { length word.now ≤ 2 ^ 64 - 1 }
+    requires within { from ≤ length word.now }
+    requires front { IsFrontOf here (take from word.now) }
+    requires before { start.now.before.now ≡ take from word.now }
+    requires fronts { AreFronts search.now.stems.now start.now.before.now start.now.fronts.items }
     ensures grows { OnOk result (Grows (asked_by search.now) (patterns_of search.now) here (drop from word.now) row.old row.new) }
-    ensures all { OnOk result (HasInner (asked_by search.now) (patterns_of search.now) here (drop from word.now) row.new) }
+    ensures all { OnOk result (HasInner (asked_by search.now) (patterns_of search.now) here (take from word.now) (drop from word.now) row.new) }
 {
     patterns_match();
-    search.dictionary_is_sane();
     for behind in rows {
-        let text = &word[from..behind.place];
-        add_before(alloc, search, here, text, &behind.rests, row)?;
+        let piece = Piece {
+            start,
+            text: &word[from..behind.place],
+            following: &word[behind.place..],
+            rests: &behind.rests,
+        };
+        add_before(alloc, search, here, &piece, row)?;
     }
     Ok(())
 }
 
 /// Adds the rests of one part that writes this text, the end of the word.
-fn add_last(
+fn add_last<'a>(
     alloc: Global,
     search: &Search,
-    text: &[char],
+    start: &'a Start<'a>,
+    text: &'a [char],
     row: &mut Items<FirstPart>,
 ) -> Result<(), NoMemory>
+    requires { AreFronts search.now.stems.now start.now.before.now start.now.fronts.items }
     ensures grows { OnOk result (Grows (asked_by search.now) (patterns_of search.now) Place.Middle text.now row.old row.new) }
-    ensures has { OnOk result (HasFirsts (asked_by search.now) (patterns_of search.now) Place.Middle text.now text.now row.new) }
+    ensures has { OnOk result (HasFirsts (asked_by search.now) (patterns_of search.now) Place.Middle text.now
+        (record { before = start.now.before.now; front = text.now; following = []; rests = [] }) row.new) }
 {
     patterns_match();
-    search.dictionary_is_sane();
     let behind = Behind {
         is_end: true,
         rests: &[],
     };
-    let mut parts = search.parts_of(alloc, text)?;
+    let piece = Piece {
+        start,
+        text,
+        following: &[],
+        rests: &[],
+    };
+    let mut parts = parts_of(alloc, search, &piece)?;
     while let Some(part) = parts.pop() {
         if search.may_end(&part) {
             add(alloc, search, Place::Last, part, &behind, row)?;
@@ -120,22 +159,22 @@ fn add_before(
     alloc: Global,
     search: &Search,
     here: Place,
-    text: &[char],
-    rests: &[FirstPart],
+    piece: &Piece,
     row: &mut Items<FirstPart>,
 ) -> Result<(), NoMemory>
-    ensures grows { (behind : List ℕ) → IsRow (asked_by search.now) (patterns_of search.now) behind rests.now → 0 < length behind
-        → length (text.now ++ behind) ≤ 2 ^ 64 - 1
-        → OnOk result (Grows (asked_by search.now) (patterns_of search.now) here (text.now ++ behind) row.old row.new) }
-    ensures has { (behind : List ℕ) → IsRow (asked_by search.now) (patterns_of search.now) behind rests.now → 0 < length behind
-        → length (text.now ++ behind) ≤ 2 ^ 64 - 1
-        → OnOk result (HasFirsts (asked_by search.now) (patterns_of search.now) here (text.now ++ behind) text.now row.new) }
+    requires row { IsRow (asked_by search.now) (patterns_of search.now) (piece.now.start.now.before.now ++ piece.now.text.now) piece.now.following.now piece.now.rests.now }
+    requires some { 0 < length piece.now.following.now }
+    requires fits { length (piece.now.text.now ++ piece.now.following.now) ≤ 2 ^ 64 - 1 }
+    requires front { IsFrontOf here piece.now.start.now.before.now }
+    requires fronts { AreFronts search.now.stems.now piece.now.start.now.before.now piece.now.start.now.fronts.items }
+    ensures grows { OnOk result (Grows (asked_by search.now) (patterns_of search.now) here (piece.now.text.now ++ piece.now.following.now) row.old row.new) }
+    ensures has { OnOk result (HasFirsts (asked_by search.now) (patterns_of search.now) here (piece.now.text.now ++ piece.now.following.now)
+        (record { before = piece.now.start.now.before.now; front = piece.now.text.now; following = piece.now.following.now; rests = piece.now.rests.now }) row.new) }
 {
     patterns_match();
-    search.dictionary_is_sane();
-    let mut parts = search.parts_of(alloc, text)?;
+    let mut parts = parts_of(alloc, search, piece)?;
     while let Some(part) = parts.pop() {
-        let followers = followers(alloc, search, &part, rests)?;
+        let followers = followers(alloc, search, &part, piece.rests)?;
         let behind = Behind {
             is_end: false,
             rests: &followers,
@@ -145,8 +184,51 @@ fn add_before(
     Ok(())
 }
 
-/// Adds the rest that begins with a part, if there is one.
+/// Whether two parts are the same.
+#[tactic(auto, unfolding(spell_types::specs::Joints::is_same_joint))]
+fn is_same_part(part: &Part, other: &Part) -> bool
+    ensures { result ≡ true → part.now ≡ other.now }
+{
+    part.d == other.d
+        && part.off_begin == other.off_begin
+        && part.joint.off_end == other.joint.off_end
+        && part.joint.off_begin == other.joint.off_begin
+        && part.joint.put.as_slice() == other.joint.put.as_slice()
+        && part.text.as_slice() == other.text.as_slice()
+}
+
+/// Whether one of the rests begins with a part.
+fn has_part(rests: &[FirstPart], part: &Part) -> bool
+    ensures { result ≡ true → HasPart part.now rests.now }
+{
+    for rest in rests {
+        if is_same_part(&rest.part, part) {
+            return true;
+        }
+    }
+    false
+}
+
+/// Adds the rest that begins with a part, if there is one, and if that part is not there already: several rows of
+/// CHECKCOMPOUNDPATTERN may make it.
 fn add(
+    alloc: Global,
+    search: &Search,
+    place: Place,
+    part: Part,
+    behind: &Behind,
+    row: &mut Items<FirstPart>,
+) -> Result<(), NoMemory>
+    ensures { OnOk result (IsAddedOnce (asked_by search.now) (patterns_of search.now) place part behind.now row.old row.new) }
+{
+    if has_part(row, &part) {
+        return Ok(());
+    }
+    add_new(alloc, search, place, part, behind, row)
+}
+
+/// Adds the rest that begins with a part, if there is one.
+fn add_new(
     alloc: Global,
     search: &Search,
     place: Place,

@@ -1,15 +1,18 @@
 //! Of what compounds are asked, and the parts that there are.
 
-ghost use Rattle.std.specs.Prelude.{◌≡◌, IfOk, filter, map};
-ghost use Rattle.spell_types.specs.Compounds.{may_be_part, part_with, is_right_in_case, may_end};
-ghost use Rattle.spell_types.specs.Joints.{is_joint};
+ghost use Rattle.std.specs.Prelude.{◌≡◌, ◌<◌, ◌+◌, ◌++◌, ℕ, List, Some, true, nat_lt, length, IfOk, OnOk, filter, map};
+ghost use Rattle.spell_types.specs.declared.derivations.Derivation.{Derivation};
+ghost use Rattle.spell_types.specs.Derivations.{form_of};
+ghost use Rattle.affix_strip.specs.Found.{derivations_of};
+ghost use Rattle.spell_types.specs.Compounds.{are_joined, may_be_part, part_with, is_right_in_case, may_end};
+ghost use Rattle.spell_types.specs.Joints.{is_same_joint, plain_joint};
 ghost use Rattle.spell_types.specs.Sanity.{IsSane};
-ghost use Rattle.compound_words.specs.Rests.{asked_by, parts_of, AreParts};
+ghost use Rattle.compound_words.specs.Rests.{asked_by};
 
-use affix_strip::{Stems, derivations_are};
-use joint_checks::{is_long_enough, joint_ok};
-use lists::{Items, NoMemory};
-use spell_types::{Derivation, Lexicon, Part, Pattern, has_entry_with, sound};
+use affix_strip::Stems;
+use joint_checks::{is_long_enough, is_written_joint};
+use lists::{Copied, Items, NoMemory};
+use spell_types::{Derivation, Lexicon, Part, Pattern, WrittenJoint, has_entry_with, sound};
 use std::alloc::Global;
 
 /// Of what a compound is asked.
@@ -39,51 +42,20 @@ impl Search<'_> {
         self.lexicon();
     }
 
-    /// All parts whose text is this one.
-    pub(crate) fn parts_of(&self, alloc: Global, text: &[char]) -> Result<Vec<Part>, NoMemory>
-        ensures { IfOk result (λ found. AreParts (asked_by self.now) text.now found.items) }
-    {
-        derivations_are();
-        self.find_parts(alloc, text)
-    }
-
-    #[tactic(auto, unfolding(crate::specs::Rests::parts_of))]
-    fn find_parts(&self, alloc: Global, text: &[char]) -> Result<Vec<Part>, NoMemory>
-        ensures { IfOk result (λ found. found.items ≡ parts_of (asked_by self.now) text.now) }
-    {
-        if !is_long_enough(self.lexicon(), text) {
-            return Ok(Vec::new(alloc));
-        }
-        let derivations = self.stems.derivations(alloc, text)?;
-        self.parts_from(alloc, text, &derivations)
-    }
-
-    /// The parts with this text and one of these derivations.
-    fn parts_from(
+    /// Whether a compound may have a derivation with this text as a part, of which joints take so much off.
+    fn may_be_part(
         &self,
-        alloc: Global,
         text: &[char],
-        derivations: &[Derivation],
-    ) -> Result<Vec<Part>, NoMemory>
-        ensures { IfOk result (λ found. found.items ≡ filter (may_be_part (asked_by self.now)) (map (λ d. part_with d text.now) derivations.now)) }
+        d: &Derivation,
+        off_begin: usize,
+        joint: &WrittenJoint,
+    ) -> bool
+        ensures { result ≡ may_be_part (asked_by self.now) (part_with off_begin joint.now d.now text.now) }
     {
-        let mut found = Vec::new(alloc);
-        for d in derivations {
-            if self.may_be_part(text, d) {
-                found.push(Part {
-                    text: Items::from_vec(text.to_vec(alloc)?),
-                    d: *d,
-                })?;
-            }
-        }
-        Ok(found)
-    }
-
-    /// Whether a compound may have a derivation with this text as a part.
-    fn may_be_part(&self, text: &[char], d: &Derivation) -> bool
-        ensures { result ≡ may_be_part (asked_by self.now) (part_with d.now text.now) }
-    {
-        is_long_enough(self.lexicon(), text) && sound(self.lexicon(), d) && self.is_right_in_case(d)
+        is_long_enough(self.lexicon(), text)
+            && sound(self.lexicon(), d)
+            && self.is_right_in_case(d)
+            && keeps_some(text, off_begin, joint.off_end)
     }
 
     fn is_right_in_case(&self, d: &Derivation) -> bool
@@ -98,13 +70,84 @@ impl Search<'_> {
         ensures { result ≡ may_end (asked_by self.now) part.now }
     {
         let lexicon = self.lexicon();
-        self.capital || !has_entry_with(lexicon.affixes.signs.force_upper, lexicon, &part.d)
+        is_whole(&part.joint)
+            && (self.capital
+                || !has_entry_with(lexicon.affixes.signs.force_upper, lexicon, &part.d))
     }
 
-    /// Whether two parts may stand beside each other.
+    /// Whether two parts are written together by the joint behind the first.
     pub(crate) fn do_meet(&self, part: &Part, next: &Part) -> bool
-        ensures { result ≡ is_joint self.now.stems.now part.now.text part.now.d next.now.text next.now.d }
+        ensures { result ≡ are_joined (asked_by self.now) part.now next.now }
     {
-        joint_ok(self.lexicon(), &part.text, &part.d, &next.text, &next.d)
+        is_written_joint(
+            self.lexicon(),
+            &part.text,
+            &part.d,
+            &next.text,
+            &next.d,
+            &part.joint,
+        ) && next.off_begin == part.joint.off_begin
+    }
+
+    /// Whether a text of so many characters is longer than every form of the dictionary.
+    pub(crate) fn is_too_long(&self, count: usize) -> bool
+        ensures { result ≡ true → (d : Derivation) (text : List ℕ) → form_of self.now.stems.now d ≡ Some text → length text < count }
+    {
+        self.stems.is_too_long(count)
+    }
+
+    /// The derivations whose form is a text.
+    pub(crate) fn derivations(
+        &self,
+        alloc: Global,
+        text: &[char],
+    ) -> Result<Vec<Derivation>, NoMemory>
+        ensures { IfOk result (λ found. found.items ≡ derivations_of self.now.stems.now text.now) }
+    {
+        self.stems.derivations(alloc, text)
+    }
+
+    /// The parts with one of these derivations, all of which have this text.
+    pub(crate) fn add_derived(
+        &self,
+        alloc: Global,
+        text: &[char],
+        off_begin: usize,
+        joint: &WrittenJoint,
+        derivations: &[Derivation],
+        found: &mut Vec<Part>,
+    ) -> Result<(), NoMemory>
+        ensures { OnOk result (found.new.items ≡ found.old.items
+            ++ filter (may_be_part (asked_by self.now)) (map (λ d. part_with off_begin joint.now d text.now) derivations.now)) }
+    {
+        for d in derivations {
+            if self.may_be_part(text, d, off_begin, joint) {
+                found.push(Part {
+                    text: Items::from_vec(text.to_vec(alloc)?),
+                    d: *d,
+                    off_begin,
+                    joint: joint.copy(alloc)?,
+                })?;
+            }
+        }
+        Ok(())
+    }
+}
+
+/// Whether a joint takes nothing off and puts nothing.
+#[tactic(auto, unfolding(spell_types::specs::Joints::is_same_joint))]
+fn is_whole(joint: &WrittenJoint) -> bool
+    ensures { result ≡ is_same_joint joint.now plain_joint }
+{
+    joint.off_end == 0 && joint.put.as_slice() == [].as_slice() && joint.off_begin == 0
+}
+
+/// Whether a text keeps a character, if so many are taken off at both sides.
+fn keeps_some(text: &[char], off_begin: usize, off_end: usize) -> bool
+    ensures { result ≡ nat_lt (off_begin + off_end) (length text.now) }
+{
+    match text.len().checked_sub(off_begin) {
+        None => false,
+        Some(left) => off_end < left,
     }
 }

@@ -1,17 +1,17 @@
 //! Which parts of a compound may stand beside each other.
 
 ghost use Rattle.std.specs.Prelude.{◌≡◌};
-ghost use Rattle.std.specs.List.{list_any};
 ghost use Rattle.std.specs.Option.{option_copied};
-ghost use Rattle.spell_types.specs.Joints.{first_of, last_of, is_capital, is_dash, is_capital_inside, is_tripled, has_entry_as_given, ends_as, fits_joint, is_joint_of, is_joint};
+ghost use Rattle.spell_types.specs.Joints.{first_of, last_of, is_capital, is_dash, is_capital_inside, is_tripled, has_entry_as_given, ends_as, fits_joint, has_fitting, is_case, is_dup, is_joint_of, is_joint, is_triple};
 
 use letter_case::is_upper;
 use spell_types::{
     Derivation, Flag, JointPattern, Lexicon, Options, has_entry_with, is_entry_word,
 };
 
-/// Whether two parts, the forms of these derivations, may stand beside each other: by the options CHECKCOMPOUNDDUP,
-/// CHECKCOMPOUNDCASE, CHECKCOMPOUNDTRIPLE and CHECKCOMPOUNDPATTERN of hunspell(5).
+/// Whether two parts, the forms of these derivations, may stand beside each other as they are: by
+/// the options CHECKCOMPOUNDDUP, CHECKCOMPOUNDCASE, CHECKCOMPOUNDTRIPLE and CHECKCOMPOUNDPATTERN of
+/// hunspell(5).
 #[tactic(auto, unfolding(spell_types::specs::Joints::is_joint))]
 pub fn joint_ok(lexicon: &Lexicon, x: &[char], d: &Derivation, y: &[char], e: &Derivation) -> bool
     ensures { result ≡ is_joint lexicon.now x.now d.now y.now e.now }
@@ -20,8 +20,14 @@ pub fn joint_ok(lexicon: &Lexicon, x: &[char], d: &Derivation, y: &[char], e: &D
 }
 
 /// Whether a row of CHECKCOMPOUNDPATTERN fits two parts.
-fn one_fits(lexicon: &Lexicon, x: &[char], d: &Derivation, y: &[char], e: &Derivation) -> bool
-    ensures { result ≡ list_any (fits_joint lexicon.now x.now d.now y.now e.now) lexicon.now.affixes.joints }
+pub(crate) fn one_fits(
+    lexicon: &Lexicon,
+    x: &[char],
+    d: &Derivation,
+    y: &[char],
+    e: &Derivation,
+) -> bool
+    ensures { result ≡ has_fitting lexicon.now x.now d.now y.now e.now }
 {
     lexicon
         .affixes
@@ -33,7 +39,7 @@ fn one_fits(lexicon: &Lexicon, x: &[char], d: &Derivation, y: &[char], e: &Deriv
 /// Whether a row of CHECKCOMPOUNDPATTERN fits two parts: the first ends and the second begins as it says, and their entries have
 /// its flags.
 #[tactic(auto, unfolding(spell_types::specs::Joints::fits_joint))]
-fn fits_joint(
+pub(crate) fn fits_joint(
     lexicon: &Lexicon,
     x: &[char],
     d: &Derivation,
@@ -72,12 +78,31 @@ fn has_entry_as_given(flag: Option<Flag>, lexicon: &Lexicon, d: &Derivation) -> 
 
 /// Whether none of the switches that are set forbids that two words meet.
 #[tactic(auto, unfolding(spell_types::specs::Joints::is_joint_of))]
-fn is_joint_of(options: &Options, x: &[char], y: &[char]) -> bool
+pub(crate) fn is_joint_of(options: &Options, x: &[char], y: &[char]) -> bool
     ensures { result ≡ is_joint_of options.now x.now y.now }
 {
-    !(options.check_dup && x == y)
-        && !(options.check_case && is_capital_inside(x, y))
-        && !(options.check_triple && is_tripled(x, y))
+    !is_dup(options, x, y) && !is_case(options, x, y) && !is_triple(options, x, y)
+}
+
+/// Whether CHECKCOMPOUNDDUP forbids that two words meet.
+pub(crate) fn is_dup(options: &Options, x: &[char], y: &[char]) -> bool
+    ensures { result ≡ is_dup options.now x.now y.now }
+{
+    options.check_dup && x == y
+}
+
+/// Whether CHECKCOMPOUNDCASE does.
+pub(crate) fn is_case(options: &Options, x: &[char], y: &[char]) -> bool
+    ensures { result ≡ is_case options.now x.now y.now }
+{
+    options.check_case && is_capital_inside(x, y)
+}
+
+/// Whether CHECKCOMPOUNDTRIPLE does.
+pub(crate) fn is_triple(options: &Options, x: &[char], y: &[char]) -> bool
+    ensures { result ≡ is_triple options.now x.now y.now }
+{
+    options.check_triple && is_tripled(x, y)
 }
 
 /// Whether a capital stands beside the place where two words meet, and no dash.

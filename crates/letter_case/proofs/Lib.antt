@@ -1,3 +1,4 @@
 pub mod Repeats
 pub mod Rule
 pub mod Ascii
+pub mod SharpLemmas

@@ -1,11 +1,14 @@
 //! Upper and lower case, and the spellings that a written word stands for.
 #![tactic(auto)]
 
-ghost use Rattle.std.specs.Prelude.{◌≡◌, ℕ, ◌↔◌, List, IsTrue, slice_get, Some, AllPairs, ◌≢◌, fold, IfOk, OnOk};
-ghost use Rattle.spell_types.specs.Cases.{is_upper, is_lower, low, begins_upper, has_lower, first_lowered, all_lowered, rest_lowered, is_among, spellings_of_capital, spellings_of_capitals, covered_by, Covers};
+ghost use Rattle.std.specs.Prelude.{◌≡◌, ℕ, ◌↔◌, Bool, List, IsTrue, slice_get, Some, AllPairs, ◌≢◌, fold, IfOk, OnOk};
+ghost use Rattle.spell_types.specs.Cases.{is_upper, is_lower, low, begins_upper, has_lower, first_lowered, all_lowered, rest_lowered, is_among, spellings_of_capital, spellings_of_capitals, spellings_of_sharps, covered_by, Covers};
 ghost use Rattle.letter_case.specs.Found.{with_word};
 
+mod sharps;
+
 use lists::{Items, NoMemory};
+use sharps::{sharp_kept, sharp_lowered};
 use smallvec::SmallVec;
 use spell_types::Chars;
 use std::alloc::Global;
@@ -61,24 +64,27 @@ pub fn has_lower(word: &[char]) -> bool
     word.iter().any(|c| is_lower(*c))
 }
 
-/// The words that a written word covers: the written one first, and none twice.
-pub fn covered(alloc: Global, word: &[char]) -> Result<SmallVec<Chars, 4>, NoMemory>
-    ensures { IfOk result (λ found. found.items ≡ covered_by word.now) }
+/// The words that a written word covers: the written one first, and none twice. `sharps` says that SS may stand for ß: the
+/// option CHECKSHARPS of hunspell(5). At most the first five pairs SS are looked at, which is this project's own rule, so that
+/// there are at most 66 words.
+pub fn covered(alloc: Global, word: &[char], sharps: bool) -> Result<SmallVec<Chars, 4>, NoMemory>
+    ensures { IfOk result (λ found. found.items ≡ covered_by sharps word.now) }
 {
     let mut found = SmallVec::new(alloc);
     add(&mut found, copy_of(alloc, word)?)?;
     add_of_capital(alloc, word, &mut found)?;
     add_of_capitals(alloc, word, &mut found)?;
+    add_of_sharps(alloc, word, sharps, &mut found)?;
     Ok(found)
 }
 
 /// The words that a written word covers are those that the rule names, the written one first, and no two of
 /// them are the same.
 pub fn covered_words_are()
-    ensures members { (written word : List ℕ) →
-        IsTrue (is_among (covered_by written) word) ↔ Covers written word }
-    ensures first { (written : List ℕ) → slice_get (covered_by written) 0 ≡ Some written }
-    ensures once { (written : List ℕ) → AllPairs (λ one other. one ≢ other) (covered_by written) }
+    ensures members { (sharps : Bool) (written word : List ℕ) →
+        IsTrue (is_among (covered_by sharps written) word) ↔ Covers sharps written word }
+    ensures first { (sharps : Bool) (written : List ℕ) → slice_get (covered_by sharps written) 0 ≡ Some written }
+    ensures once { (sharps : Bool) (written : List ℕ) → AllPairs (λ one other. one ≢ other) (covered_by sharps written) }
 {}
 
 /// Adds what a word that begins in upper case stands for.
@@ -112,8 +118,35 @@ fn add_of_capitals(
     Ok(())
 }
 
+/// Adds what a word without lower-case characters stands for where SS may stand for ß.
+fn add_of_sharps(
+    alloc: Global,
+    word: &[char],
+    sharps: bool,
+    found: &mut SmallVec<Chars, 4>,
+) -> Result<(), NoMemory>
+    ensures { OnOk result (found.new.items
+        ≡ fold with_word found.old.items (spellings_of_sharps sharps word.now)) }
+{
+    if sharps && !has_lower(word) {
+        add_all(sharp_lowered(alloc, word)?, found)?;
+        add_all(sharp_kept(alloc, word)?, found)?;
+    }
+    Ok(())
+}
+
+/// Adds words at the end, each unless it is there already.
+fn add_all(words: Vec<Chars>, found: &mut SmallVec<Chars, 4>) -> Result<(), NoMemory>
+    ensures { OnOk result (found.new.items ≡ fold with_word found.old.items words.items) }
+{
+    for word in words {
+        add(found, word)?;
+    }
+    Ok(())
+}
+
 /// Adds a word at the end, unless it is there already.
-fn add(found: &mut SmallVec<Chars, 4>, word: Chars) -> Result<(), NoMemory>
+pub(crate) fn add(found: &mut SmallVec<Chars, 4>, word: Chars) -> Result<(), NoMemory>
     ensures { OnOk result (found.new.items ≡ with_word found.old.items word) }
 {
     if !is_among(found, &word) {

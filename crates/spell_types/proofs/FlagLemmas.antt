@@ -25,32 +25,40 @@ rising-head : (x : Flag) (xs : List Flag) → IsRising (x ∷ xs) → All (Below
 rising-head x xs rising = λ k d within. rising 0 (suc k) d (omega arith) (omega arith)
 
 rising-tail : (x : Flag) (xs : List Flag) → IsRising (x ∷ xs) → IsRising xs
-rising-tail x xs rising = λ i j d before within. rising (suc i) (suc j) d (omega arith) (omega arith)
+rising-tail x xs rising =
+    λ i j d before within. rising (suc i) (suc j) d (omega arith) (omega arith)
 
 pub rising-nil : IsRising []
 rising-nil i j d before within = absurd (omega arith)
 
 -- ---- what `put` gives of a list with a first flag
 three : {P : Type 0} (a b : ℕ) → (a < b → P) → (a ≡ b → P) → (b < a → P) → P
-three a b low same high = ⊎_elim low (λ above. ⊎_elim high (λ below. same (omega arith)) (cases_lt b a)) (cases_lt a b)
+three a b low same high =
+    ⊎_elim low (λ above. ⊎_elim high (λ below. same (omega arith)) (cases_lt b a)) (cases_lt a b)
 
-put-low : (flag first : Flag) (more : List Flag) → flag.0 < first.0 → put flag (first ∷ more) ≡ flag ∷ first ∷ more
+put-low : (flag first : Flag) (more : List Flag) → flag.0 < first.0
+    → put flag (first ∷ more) ≡ flag ∷ first ∷ more
 put-low flag first more low = grind (arith, nat_tests)
 
-put-same : (flag first : Flag) (more : List Flag) → flag.0 ≡ first.0 → put flag (first ∷ more) ≡ first ∷ more
+put-same : (flag first : Flag) (more : List Flag) → flag.0 ≡ first.0
+    → put flag (first ∷ more) ≡ first ∷ more
 put-same flag first more same = grind (arith, nat_tests)
 
-put-high : (flag first : Flag) (more : List Flag) → first.0 < flag.0 → put flag (first ∷ more) ≡ first ∷ put flag more
+put-high : (flag first : Flag) (more : List Flag) → first.0 < flag.0
+    → put flag (first ∷ more) ≡ first ∷ put flag more
 put-high flag first more high = grind (arith, nat_tests)
 
-put-All : (x flag : Flag) (xs : List Flag) → Below x flag → All (Below x) xs → All (Below x) (put flag xs)
+put-All : (x flag : Flag) (xs : List Flag) → Below x flag → All (Below x) xs
+    → All (Below x) (put flag xs)
 put-All x flag [] one all = All-cons (Below x) flag [] one all
 put-All x flag (first ∷ more) one all =
     three flag.0 first.0
-    (λ low. subst (All (Below x)) (sym (put-low flag first more low)) (All-cons (Below x) flag (first ∷ more) one all))
+    (λ low. subst (All (Below x)) (sym (put-low flag first more low))
+    (All-cons (Below x) flag (first ∷ more) one all))
     (λ same. subst (All (Below x)) (sym (put-same flag first more same)) all)
     (λ high. subst (All (Below x)) (sym (put-high flag first more high))
-    (All-cons (Below x) first (put flag more) (All-head (Below x) first more all) (put-All x flag more one (All-tail (Below x) first more all))))
+    (All-cons (Below x) first (put flag more) (All-head (Below x) first more all)
+    (put-All x flag more one (All-tail (Below x) first more all))))
 
 -- a rising list still rises
 pub put-IsRising : (flag : Flag) (xs : List Flag) → IsRising xs → IsRising (put flag xs)
@@ -59,7 +67,9 @@ put-IsRising flag (first ∷ more) rising =
     three flag.0 first.0
     (λ low. subst IsRising (sym (put-low flag first more low))
     (rising-cons flag (first ∷ more)
-    (All-cons (Below flag) first more low (All-weaker (Below first) (Below flag) (λ x above. omega arith) more (rising-head first more rising)))
+    (All-cons (Below flag) first more low
+    (All-weaker (Below first) (Below flag) (λ x above. omega arith) more
+    (rising-head first more rising)))
     rising))
     (λ same. subst IsRising (sym (put-same flag first more same)) rising)
     (λ high. subst IsRising (sym (put-high flag first more high))
@@ -69,51 +79,67 @@ put-IsRising flag (first ∷ more) rising =
 
 pub put_all-IsRising : (set flags : List Flag) → IsRising set → IsRising (put_all set flags)
 put_all-IsRising set [] rising = rising
-put_all-IsRising set (flag ∷ more) rising = put_all-IsRising (put flag set) more (put-IsRising flag set rising)
+put_all-IsRising set (flag ∷ more) rising =
+    put_all-IsRising (put flag set) more (put-IsRising flag set rising)
 
 -- ---- where a flag stands or is missing
 abbrev pub Missing : Flag → List Flag → ℕ → Type 0
 Missing flag = IsPartitionPoint (λ held. held.0 < flag.0) (λ held. flag.0 < held.0)
 
-pub put_held : (flag : Flag) (xs : List Flag) (place : ℕ) → IsRising xs → slice_get xs place ≡ Some flag → put flag xs ≡ xs
+pub put_held : (flag : Flag) (xs : List Flag) (place : ℕ) → IsRising xs
+    → slice_get xs place ≡ Some flag → put flag xs ≡ xs
 put_held flag [] place rising at = absurd (cc)
-put_held flag (first ∷ more) zero rising at = put-same flag first more (ap (λ o. (unwrap_or o flag).0) (sym at))
+put_held flag (first ∷ more) zero rising at =
+    put-same flag first more (ap (λ o. (unwrap_or o flag).0) (sym at))
 put_held flag (first ∷ more) (suc place) rising at =
     let within : place < length more = slice_get_within more place flag at in
-    let above : first.0 < (get_or more place flag).0 = rising-head first more rising place flag within in
+    let above : first.0 < (get_or more place flag).0 =
+    rising-head first more rising place flag within in
     let is : get_or more place flag ≡ flag = get_or_from_slice_get more place flag flag at in
-    put-high flag first more (subst (λ x. first.0 < x.0) is above) ∙ ap (λ rest. first ∷ rest) (put_held flag more place (rising-tail first more rising) at)
+    put-high flag first more (subst (λ x. first.0 < x.0) is above)
+    ∙ ap (λ rest. first ∷ rest) (put_held flag more place (rising-tail first more rising) at)
 
-pub put_missing : (flag : Flag) (xs : List Flag) (place : ℕ) → place ≤ length xs → Missing flag xs place → put flag xs ≡ insert xs place flag
+pub put_missing : (flag : Flag) (xs : List Flag) (place : ℕ) → place ≤ length xs
+    → Missing flag xs place → put flag xs ≡ insert xs place flag
 put_missing flag [] zero within parts = refl
 put_missing flag [] (suc place) within parts = absurd (omega arith)
-put_missing flag (first ∷ more) zero within parts = put-low flag first more (parts.1 0 first (omega arith) (omega arith))
+put_missing flag (first ∷ more) zero within parts =
+    put-low flag first more (parts.1 0 first (omega arith) (omega arith))
 put_missing flag (first ∷ more) (suc place) within parts =
     put-high flag first more (parts.0 0 first (omega arith) (omega arith))
-    ∙ ap (λ rest. first ∷ rest) (put_missing flag more place (omega arith)
-    (λ k d from to. parts.0 (suc k) d (omega arith) (omega arith), λ k d from to. parts.1 (suc k) d (omega arith) (omega arith)))
+    ∙ ap (λ rest. first ∷ rest) (put_missing flag more place (omega arith) (
+      λ k d from to. parts.0 (suc k) d (omega arith) (omega arith),
+      λ k d from to. parts.1 (suc k) d
+          (omega arith) (omega arith),
+    ))
 
-pub has_held : (flag : Flag) (xs : List Flag) (place : ℕ) → slice_get xs place ≡ Some flag → true ≡ has xs (Some flag)
+pub has_held : (flag : Flag) (xs : List Flag) (place : ℕ) → slice_get xs place ≡ Some flag
+    → true ≡ has xs (Some flag)
 has_held flag xs place at =
     sym (list_any_at (λ held. held.0 == flag.0) xs place flag (slice_get_within xs place flag at)
-    (subst (λ x. (x.0 == flag.0) ≡ true) (sym (get_or_from_slice_get xs place flag flag at)) (eq-eqb flag.0 flag.0 refl)))
+    (subst (λ x. (x.0 == flag.0) ≡ true) (sym (get_or_from_slice_get xs place flag flag at))
+    (eq-eqb flag.0 flag.0 refl)))
 
-pub has_missing : (flag : Flag) (xs : List Flag) (place : ℕ) → Missing flag xs place → false ≡ has xs (Some flag)
+pub has_missing : (flag : Flag) (xs : List Flag) (place : ℕ) → Missing flag xs place
+    → false ≡ has xs (Some flag)
 has_missing flag xs place parts =
     sym (list_any_none (λ held. held.0 == flag.0) xs (λ k d within.
-    ⊎_elim (λ low. apart _ _ (inl (parts.0 k d (omega arith) low))) (λ high. apart _ _ (inr (parts.1 k d high within))) (cases_lt k place)))
+    ⊎_elim (λ low. apart _ _ (inl (parts.0 k d (omega arith) low)))
+    (λ high. apart _ _ (inr (parts.1 k d high within))) (cases_lt k place)))
   where
     apart : (a b : ℕ) → (a < b) ⊎ (b < a) → (a == b) ≡ false
     apart a b (inl low) = grind (arith, nat_tests)
     apart a b (inr high) = grind (arith, nat_tests)
 
 pub has_searched : (flag : Flag) (xs : List Flag) (r : Result ℕ ℕ)
-    → IfOk r (λ place. slice_get xs place ≡ Some flag) → IfErr r (Missing flag xs) → is_ok r ≡ has xs (Some flag)
+    → IfOk r (λ place. slice_get xs place ≡ Some flag) → IfErr r (Missing flag xs)
+    → is_ok r ≡ has xs (Some flag)
 has_searched flag xs (Ok place) found missing = has_held flag xs place found
 has_searched flag xs (Err place) found missing = has_missing flag xs place missing
 
 -- what `binary_search` says of a rising list
-pub searched_missing : (flag : Flag) (xs : List Flag) (r : Result ℕ ℕ) → IsBinarySearchResult (λ y. nat_cmp y.0 flag.0) xs r → IsRising xs → IfErr r (Missing flag xs)
+pub searched_missing : (flag : Flag) (xs : List Flag) (r : Result ℕ ℕ)
+    → IsBinarySearchResult (λ y. nat_cmp y.0 flag.0) xs r → IsRising xs → IfErr r (Missing flag xs)
 searched_missing flag xs (Ok place) is rising = tt
 searched_missing flag xs (Err place) is rising =
     let parts = is (λ i j d up within. higher _ _ (level i j d up within) flag.0) in
@@ -122,9 +148,11 @@ searched_missing flag xs (Err place) is rising =
     level : (i j : ℕ) (d : Flag) → i ≤ j → j < length xs → (get_or xs i d).0 ≤ (get_or xs j d).0
     level i j d up within =
         ⊎_elim (λ before. omega (arith, rising i j d before within))
-        (λ after. let same : i ≡ j = omega arith in omega (arith, ap (λ k. (get_or xs k d).0) same)) (cases_lt i j)
+        (λ after. let same : i ≡ j = omega arith in omega (arith, ap (λ k. (get_or xs k d).0) same))
+        (cases_lt i j)
 
-    higher : (a b : ℕ) → a ≤ b → (x : ℕ) → ordering_index (nat_cmp a x) ≤ ordering_index (nat_cmp b x)
+    higher : (a b : ℕ) → a ≤ b → (x : ℕ)
+        → ordering_index (nat_cmp a x) ≤ ordering_index (nat_cmp b x)
     higher a b le x = grind (arith, tests)
 
     low : (a b : ℕ) → nat_cmp a b ≡ Less → a < b
@@ -134,17 +162,21 @@ searched_missing flag xs (Err place) is rising =
     high a b is = grind (arith, nat_tests)
 
 -- ---- which flags a set has
-pub put-has : (flag : Flag) (xs : List Flag) (asked : Flag) → has (put flag xs) (Some asked) ≡ (flag.0 == asked.0) || has xs (Some asked)
+pub put-has : (flag : Flag) (xs : List Flag) (asked : Flag)
+    → has (put flag xs) (Some asked) ≡ (flag.0 == asked.0) || has xs (Some asked)
 put-has flag [] asked = refl
 put-has flag (first ∷ more) asked =
     three flag.0 first.0
     (λ low. ap (λ xs. has xs (Some asked)) (put-low flag first more low))
     (λ same. ap (λ xs. has xs (Some asked)) (put-same flag first more same) ∙ twice _ _ _ _ same)
-    (λ high. ap (λ xs. has xs (Some asked)) (put-high flag first more high) ∙ ap (λ b. (first.0 == asked.0) || b) (put-has flag more asked)
+    (λ high. ap (λ xs. has xs (Some asked)) (put-high flag first more high)
+    ∙ ap (λ b. (first.0 == asked.0) || b) (put-has flag more asked)
     ∙ swapped (first.0 == asked.0) (flag.0 == asked.0) (has more (Some asked)))
   where
     twice : (a b x : ℕ) (rest : Bool) → a ≡ b → (b == x) || rest ≡ (a == x) || ((b == x) || rest)
-    twice a b x rest same = subst (λ c. (b == x) || rest ≡ (c == x) || ((b == x) || rest)) (sym same) (once (b == x) rest)
+    twice a b x rest same =
+        subst (λ c. (b == x) || rest ≡ (c == x) || ((b == x) || rest)) (sym same)
+        (once (b == x) rest)
       where
         once : (p q : Bool) → p || q ≡ p || (p || q)
         once true q = refl
@@ -165,7 +197,8 @@ or-assoc : (p q r : Bool) → (p || q) || r ≡ p || (q || r)
 or-assoc true q r = refl
 or-assoc false q r = refl
 
-pub put_all-has : (set flags : List Flag) (asked : Flag) → has (put_all set flags) (Some asked) ≡ has flags (Some asked) || has set (Some asked)
+pub put_all-has : (set flags : List Flag) (asked : Flag)
+    → has (put_all set flags) (Some asked) ≡ has flags (Some asked) || has set (Some asked)
 put_all-has set [] asked = refl
 put_all-has set (flag ∷ more) asked =
     put_all-has (put flag set) more asked
@@ -184,12 +217,19 @@ has-Contains xs flag is = found (Any-from_list_any (λ held. held.0 == flag.0) x
 
 pub Contains-has : (xs : List Flag) (flag : Flag) → Contains xs flag → has xs (Some flag) ≡ true
 Contains-has xs flag (k, within, at) =
-    list_any_at (λ held. held.0 == flag.0) xs k flag within (subst (λ x. (x.0 == flag.0) ≡ true) (sym at) (eq-eqb flag.0 flag.0 refl))
+    list_any_at (λ held. held.0 == flag.0) xs k flag within
+    (subst (λ x. (x.0 == flag.0) ≡ true) (sym at) (eq-eqb flag.0 flag.0 refl))
 
-pub put_all-Contains : (flags : List Flag) (flag : Flag) → Contains (put_all [] flags) flag → Contains flags flag
+pub put_all-Contains : (flags : List Flag) (flag : Flag) → Contains (put_all [] flags) flag
+    → Contains flags flag
 put_all-Contains flags flag holds =
-    has-Contains flags flag (sym (or-none (has flags (Some flag)) false) ∙ sym (put_all-has [] flags flag) ∙ Contains-has (put_all [] flags) flag holds)
+    has-Contains flags flag
+    (sym (or-none (has flags (Some flag)) false) ∙ sym (put_all-has [] flags flag)
+    ∙ Contains-has (put_all [] flags) flag holds)
 
-pub Contains-put_all : (flags : List Flag) (flag : Flag) → Contains flags flag → Contains (put_all [] flags) flag
+pub Contains-put_all : (flags : List Flag) (flag : Flag) → Contains flags flag
+    → Contains (put_all [] flags) flag
 Contains-put_all flags flag holds =
-    has-Contains (put_all [] flags) flag (put_all-has [] flags flag ∙ or-none (has flags (Some flag)) false ∙ Contains-has flags flag holds)
+    has-Contains (put_all [] flags) flag
+    (put_all-has [] flags flag ∙ or-none (has flags (Some flag)) false
+    ∙ Contains-has flags flag holds)

@@ -14,11 +14,14 @@ use Rattle.spell_types.specs.Patterns.{may_be, fits_step, stands_for, matches, i
 
 -- ---- tests
 -- two tests that hold together are the same
-all-each : {X : Type 0} (test : X → Bool) (xs : List X) → list_all test xs ≡ true → AllByRecursion (λ x. test x ≡ true) xs
+all-each : {X : Type 0} (test : X → Bool) (xs : List X) → list_all test xs ≡ true
+    → AllByRecursion (λ x. test x ≡ true) xs
 all-each test [] all = tt
-all-each test (x ∷ xs) all = let parts = and_parts (test x) (list_all test xs) all in (parts.0, all-each test xs parts.1)
+all-each test (x ∷ xs) all =
+    let parts = and_parts (test x) (list_all test xs) all in (parts.0, all-each test xs parts.1)
 
-each-all : {X : Type 0} (test : X → Bool) (xs : List X) → AllByRecursion (λ x. test x ≡ true) xs → list_all test xs ≡ true
+each-all : {X : Type 0} (test : X → Bool) (xs : List X) → AllByRecursion (λ x. test x ≡ true) xs
+    → list_all test xs ≡ true
 each-all test [] each = refl
 each-all test (x ∷ xs) each = and_from (test x) (list_all test xs) each.0 (each-all test xs each.1)
 
@@ -37,10 +40,14 @@ module _ (step : PatternStep) (more : List PatternStep) where
   abbrev begins_at : List (List Flag) → ℕ → Bool
   begins_at sets count = stands_for step (take count sets) && matches more (drop count sets)
 
-  begins-at : (sets : List (List Flag)) (count : ℕ) → begins_at sets count ≡ true → Begins step more sets
+  begins-at : (sets : List (List Flag)) (count : ℕ) → begins_at sets count ≡ true
+      → Begins step more sets
   begins-at sets count both =
-      let halves = and_parts (stands_for step (take count sets)) (matches more (drop count sets)) both in
-      let parts = and_parts (may_be step.times (length (take count sets))) (list_all (fits_step step) (take count sets)) halves.0 in
+      let halves =
+      and_parts (stands_for step (take count sets)) (matches more (drop count sets)) both in
+      let parts =
+      and_parts (may_be step.times (length (take count sets)))
+      (list_all (fits_step step) (take count sets)) halves.0 in
       record {
         own = take count sets;
         rest = drop count sets;
@@ -50,28 +57,39 @@ module _ (step : PatternStep) (more : List PatternStep) where
         others = halves.1;
       }
 
-  matches-begins : (sets : List (List Flag)) → matches (step ∷ more) sets ≡ true → Begins step more sets
-  matches-begins sets holds = found (Any-from_list_any (begins_at sets) (range_with_len 0 (length sets + 1)) holds)
+  matches-begins : (sets : List (List Flag)) → matches (step ∷ more) sets ≡ true
+      → Begins step more sets
+  matches-begins sets holds =
+      found (Any-from_list_any (begins_at sets) (range_with_len 0 (length sets + 1)) holds)
     where
-      found : Any (λ count. begins_at sets count ≡ true) (range_with_len 0 (length sets + 1)) → Begins step more sets
+      found : Any (λ count. begins_at sets count ≡ true) (range_with_len 0 (length sets + 1))
+          → Begins step more sets
       found (k, count, within, at, both) = begins-at sets count both
 
-  begins-matches : (sets : List (List Flag)) → Begins step more sets → matches (step ∷ more) sets ≡ true
+  begins-matches : (sets : List (List Flag)) → Begins step more sets
+      → matches (step ∷ more) sets ≡ true
   begins-matches sets begins =
       let count = length begins.own in
-      let below : count < length sets + 1 = omega (arith, ap length begins.whole, length-append begins.own begins.rest) in
-      let front : take count sets ≡ begins.own = ap (take count) begins.whole ∙ take_at begins.own begins.rest count refl in
-      let behind : drop count sets ≡ begins.rest = ap (drop count) begins.whole ∙ drop_at begins.own begins.rest count refl in
+      let below : count < length sets + 1 =
+      omega (arith, ap length begins.whole, length-append begins.own begins.rest) in
+      let front : take count sets ≡ begins.own =
+      ap (take count) begins.whole ∙ take_at begins.own begins.rest count refl in
+      let behind : drop count sets ≡ begins.rest =
+      ap (drop count) begins.whole ∙ drop_at begins.own begins.rest count refl in
       list_any_at (begins_at sets) (range_with_len 0 (length sets + 1)) count count
       (subst (λ long. count < long) (sym (length-range_with_len 0 (length sets + 1))) below)
-      (ap (begins_at sets) (get_or-range_with_len 0 (length sets + 1) count count below ∙ zero-add count)
+      (ap (begins_at sets)
+      (get_or-range_with_len 0 (length sets + 1) count count below ∙ zero-add count)
       ∙ and_from (stands_for step (take count sets)) (matches more (drop count sets))
       (ap (stands_for step) front
-      ∙ and_from (may_be step.times (length begins.own)) (list_all (fits_step step) begins.own) begins.count (each-all (fits_step step) begins.own begins.fit))
+      ∙ and_from (may_be step.times (length begins.own))
+      (list_all (fits_step step) begins.own) begins.count
+      (each-all (fits_step step) begins.own begins.fit))
       (ap (matches more) behind ∙ begins.others))
 
   -- the first step stands for nothing
-  left-out : (sets : List (List Flag)) → (is_left_out step && matches more sets) ≡ true → Begins step more sets
+  left-out : (sets : List (List Flag)) → (is_left_out step && matches more sets) ≡ true
+      → Begins step more sets
   left-out sets both =
       let parts = and_parts (is_left_out step) (matches more sets) both in
       record { own = []; rest = sets; whole = refl; count = parts.0; fit = tt; others = parts.1 }
@@ -82,20 +100,43 @@ module _ (step : PatternStep) (more : List PatternStep) where
       both_ways (matches (step ∷ more) []) (is_left_out step && matches more [])
       (λ holds. there (matches-begins [] holds)) (λ both. begins-matches [] (left-out [] both))
     where
-      by : (own rest : List (List Flag)) → [] ≡ own ++ rest → may_be step.times (length own) ≡ true → matches more rest ≡ true → (is_left_out step && matches more []) ≡ true
-      by [] rest whole count others = and_from (is_left_out step) (matches more []) count (ap (matches more) whole ∙ others)
+      by : (own rest : List (List Flag)) → [] ≡ own ++ rest → may_be step.times (length own) ≡ true
+          → matches more rest ≡ true → (is_left_out step && matches more []) ≡ true
+      by [] rest whole count others =
+          and_from (is_left_out step) (matches more []) count (ap (matches more) whole ∙ others)
       by (set ∷ own) rest whole count others = absurd (cc)
 
       there : Begins step more [] → (is_left_out step && matches more []) ≡ true
       there begins = by begins.own begins.rest begins.whole begins.count begins.others
 
   -- the first step stands for the first set
-  first-fits : (set : List Flag) (sets : List (List Flag)) → fits_step step set ≡ true → matches (steps_after step more) sets ≡ true → Begins step more (set ∷ sets)
+  first-fits : (set : List Flag) (sets : List (List Flag)) → fits_step step set ≡ true
+      → matches (steps_after step more) sets ≡ true → Begins step more (set ∷ sets)
   first-fits set sets fits holds = by step.times refl holds
     where
-      by : (times : Times) → step.times ≡ times → matches (if is_many times then step ∷ more else more) sets ≡ true → Begins step more (set ∷ sets)
-      by Once is others = record { own = set ∷ []; rest = sets; whole = refl; count = ap (λ times. may_be times 1) is; fit = (fits, tt); others = others }
-      by Maybe is others = record { own = set ∷ []; rest = sets; whole = refl; count = ap (λ times. may_be times 1) is; fit = (fits, tt); others = others }
+      by : (times : Times) → step.times ≡ times
+          → matches (if is_many times then step ∷ more else more) sets ≡ true
+          → Begins step more (set ∷ sets)
+      by Once is others =
+          record {
+            own = set ∷ [];
+            rest = sets;
+            whole = refl;
+            count = ap
+                (λ times. may_be times 1) is;
+            fit = (fits, tt);
+            others = others;
+          }
+      by Maybe is others =
+          record {
+            own = set ∷ [];
+            rest = sets;
+            whole = refl;
+            count = ap
+                (λ times. may_be times 1) is;
+            fit = (fits, tt);
+            others = others;
+          }
       by Many is others =
           let begins = matches-begins sets others in
           record {
@@ -108,18 +149,42 @@ module _ (step : PatternStep) (more : List PatternStep) where
           }
 
   -- the sets behind the first one that the first step stands for
-  after-first : (sets own rest : List (List Flag)) → sets ≡ own ++ rest → may_be step.times (suc (length own)) ≡ true → AllByRecursion (λ set. fits_step step set ≡ true) own → matches more rest ≡ true
+  after-first : (sets own rest : List (List Flag)) → sets ≡ own ++ rest
+      → may_be step.times (suc (length own)) ≡ true
+      → AllByRecursion (λ set. fits_step step set ≡ true) own → matches more rest ≡ true
       → matches (steps_after step more) sets ≡ true
   after-first sets own rest whole count fit others = by step.times refl
     where
       alone : length own ≡ 0 → matches more sets ≡ true
-      alone none = ap (matches more) (whole ∙ ap (λ front. front ++ rest) (nil_from_length own none)) ∙ others
+      alone none =
+          ap (matches more) (whole ∙ ap (λ front. front ++ rest) (nil_from_length own none))
+          ∙ others
 
-      by : (times : Times) → step.times ≡ times → matches (if is_many times then step ∷ more else more) sets ≡ true
-      by Once is = alone (omega (arith, eqb-true (suc (length own)) 1 (subst (λ times. may_be times (suc (length own)) ≡ true) is count)))
-      by Maybe is = alone (omega (arith, leb-true (suc (length own)) 1 (subst (λ times. may_be times (suc (length own)) ≡ true) is count)))
+      by : (times : Times) → step.times ≡ times
+          → matches (if is_many times then step ∷ more else more) sets ≡ true
+      by Once is =
+          alone (omega (
+            arith,
+            eqb-true (suc (length own)) 1
+                (subst (λ times. may_be times (suc (length own)) ≡ true) is count),
+          ))
+      by Maybe is =
+          alone (omega (
+            arith,
+            leb-true (suc (length own)) 1
+                (subst (λ times. may_be times (suc (length own)) ≡ true) is count),
+          ))
       by Many is =
-          begins-matches sets (record { own = own; rest = rest; whole = whole; count = ap (λ times. may_be times (length own)) is; fit = fit; others = others })
+          begins-matches sets
+          (record {
+            own = own;
+            rest = rest;
+            whole = whole;
+            count = ap
+                (λ times. may_be times (length own)) is;
+            fit = fit;
+            others = others;
+          })
 
   -- one set after another
   abbrev out : List (List Flag) → Bool
@@ -128,16 +193,22 @@ module _ (step : PatternStep) (more : List PatternStep) where
   abbrev fits : List Flag → List (List Flag) → Bool
   fits set sets = fits_step step set && matches (steps_after step more) sets
 
-  matches-next : (set : List Flag) (sets : List (List Flag)) → matches (step ∷ more) (set ∷ sets) ≡ (out (set ∷ sets) || fits set sets)
+  matches-next : (set : List Flag) (sets : List (List Flag))
+      → matches (step ∷ more) (set ∷ sets) ≡ (out (set ∷ sets) || fits set sets)
   matches-next set sets =
       both_ways (matches (step ∷ more) (set ∷ sets)) (out (set ∷ sets) || fits set sets)
       (λ holds. there (matches-begins (set ∷ sets) holds))
-      (λ either. begins-matches (set ∷ sets) (back (or_cases (out (set ∷ sets)) (fits set sets) either)))
+      (λ either. begins-matches (set ∷ sets)
+      (back (or_cases (out (set ∷ sets)) (fits set sets) either)))
     where
-      by : (own rest : List (List Flag)) → set ∷ sets ≡ own ++ rest → may_be step.times (length own) ≡ true → AllByRecursion (λ set. fits_step step set ≡ true) own → matches more rest ≡ true
+      by : (own rest : List (List Flag)) → set ∷ sets ≡ own ++ rest
+          → may_be step.times (length own) ≡ true
+          → AllByRecursion (λ set. fits_step step set ≡ true) own → matches more rest ≡ true
           → (out (set ∷ sets) || fits set sets) ≡ true
       by [] rest whole count fit others =
-          or_left (out (set ∷ sets)) (fits set sets) (and_from (is_left_out step) (matches more (set ∷ sets)) count (ap (matches more) whole ∙ others))
+          or_left (out (set ∷ sets)) (fits set sets)
+          (and_from (is_left_out step) (matches more (set ∷ sets)) count
+          (ap (matches more) whole ∙ others))
       by (first ∷ own) rest whole count fit others =
           let same : set ≡ first = cc in
           let behind : sets ≡ own ++ rest = cc in
@@ -158,14 +229,18 @@ pub matches-one_by_one : MatchesOneByOne
 matches-one_by_one = record { none = matches-none; next = matches-next }
 
 -- ---- as a relation
-pub matches-relation : (pattern : List PatternStep) (sets : List (List Flag)) → matches pattern sets ≡ true → MatchesPattern pattern sets
-matches-relation [] sets none = subst (MatchesPattern []) (sym (nil_from_length sets (eqb-true (length sets) 0 none))) done
+pub matches-relation : (pattern : List PatternStep) (sets : List (List Flag))
+    → matches pattern sets ≡ true → MatchesPattern pattern sets
+matches-relation [] sets none =
+    subst (MatchesPattern []) (sym (nil_from_length sets (eqb-true (length sets) 0 none))) done
 matches-relation (step ∷ more) sets holds =
     let begins = matches-begins step more sets holds in
     subst (MatchesPattern (step ∷ more)) (sym begins.whole)
-    (goes_on step more begins.own begins.rest begins.count begins.fit (matches-relation more begins.rest begins.others))
+    (goes_on step more begins.own begins.rest begins.count begins.fit
+    (matches-relation more begins.rest begins.others))
 
-pub relation-matches : (pattern : List PatternStep) (sets : List (List Flag)) → MatchesPattern pattern sets → matches pattern sets ≡ true
+pub relation-matches : (pattern : List PatternStep) (sets : List (List Flag))
+    → MatchesPattern pattern sets → matches pattern sets ≡ true
 relation-matches pattern sets done = refl
 relation-matches pattern sets (goes_on step more own rest count fit others) =
     begins-matches step more (own ++ rest)

@@ -43,11 +43,13 @@ module _ (from : Anchored) (word : List ℕ) (place : ℕ) where
 
   anchored-at : stands_anchored from word place ≡ true → StandsAt from word place
   anchored-at stands =
-      let one = and_parts (starts_with nat_eq (drop place word) from.text) (at_front && at_back) stands in
+      let one =
+      and_parts (starts_with nat_eq (drop place word) from.text) (at_front && at_back) stands in
       let two = and_parts at_front at_back one.1 in
       record {
         there =
-            (starts_is Decides-eqb (drop place word) from.text (starts_with nat_eq (drop place word) from.text) refl).0 one.0
+            (starts_is Decides-eqb (drop place word) from.text
+            (starts_with nat_eq (drop place word) from.text) refl).0 one.0
             ∙ ap (λ behind. from.text ++ behind) behind-text;
         front = asked-then from.front place 0 two.0;
         back = asked-then from.back (place + length from.text) (length word) two.1;
@@ -56,15 +58,20 @@ module _ (from : Anchored) (word : List ℕ) (place : ℕ) where
   at-anchored : StandsAt from word place → stands_anchored from word place ≡ true
   at-anchored stands =
       and_from (starts_with nat_eq (drop place word) from.text) (at_front && at_back)
-      ((starts_is Decides-eqb (drop place word) from.text (starts_with nat_eq (drop place word) from.text) refl).1 (drop (place + length from.text) word) stands.there)
-      (and_from at_front at_back (then-asked from.front place 0 stands.front) (then-asked from.back (place + length from.text) (length word) stands.back))
+      ((starts_is Decides-eqb (drop place word) from.text
+      (starts_with nat_eq (drop place word) from.text) refl).1 (drop
+      (place + length from.text) word) stands.there)
+      (and_from at_front at_back (then-asked from.front place 0 stands.front)
+      (then-asked from.back (place + length from.text) (length word) stands.back))
 
 -- ---- faults
 abbrev IsAlone : Lexicon → List ℕ → Type 0
 IsAlone lexicon word = is_derived is_alone lexicon word ≡ true
 
 -- a pair at a place that gives a word which stands alone
-place-fault : (lexicon : Lexicon) (word : List ℕ) (rep : Rep) → Contains lexicon.affixes.reps rep → (place : ℕ) → stands_anchored rep.from word place ≡ true → IsAlone lexicon (replaced_at rep word place) → HasRepFault lexicon word
+place-fault : (lexicon : Lexicon) (word : List ℕ) (rep : Rep) → Contains lexicon.affixes.reps rep
+    → (place : ℕ) → stands_anchored rep.from word place ≡ true
+    → IsAlone lexicon (replaced_at rep word place) → HasRepFault lexicon word
 place-fault lexicon word rep among place stands alone =
     let at = anchored-at rep.from word place stands in
     record {
@@ -74,7 +81,9 @@ place-fault lexicon word rep among place stands alone =
       among = among;
       whole = sym (take-append-drop place word) ∙ ap (λ behind. take place word ++ behind) at.there;
       at_front = λ is. ap (λ here. length (take here word)) (at.front is);
-      at_end = λ is. length-drop (place + length rep.from.text) word ∙ (let all : place + length rep.from.text ≡ length word = at.back is in omega arith);
+      at_end =
+          λ is. length-drop (place + length rep.from.text) word
+          ∙ (let all : place + length rep.from.text ≡ length word = at.back is in omega arith);
       alone = alone;
     }
 
@@ -87,31 +96,42 @@ abbrev places_of : Anchored → List ℕ → List ℕ
 places_of from word = filter (stands_anchored from word) (range_with_len 0 (length word))
 
 -- a fault is told by each word that a pair makes, and so by each that some pair makes
-tells-by : (lexicon : Lexicon) (word : List ℕ) (rep : Rep) → Contains lexicon.affixes.reps rep → AllByRecursion (Tells lexicon word) (variants_by word rep)
+tells-by : (lexicon : Lexicon) (word : List ℕ) (rep : Rep) → Contains lexicon.affixes.reps rep
+    → AllByRecursion (Tells lexicon word) (variants_by word rep)
 tells-by lexicon word rep among =
     each-map (Tells lexicon word) (replaced_at rep word) (places_of rep.from word)
-    (each-weaker (λ place. stands_anchored rep.from word place ≡ true) (λ place. Tells lexicon word (replaced_at rep word place)) (place-fault lexicon word rep among)
+    (each-weaker (λ place. stands_anchored rep.from word place ≡ true)
+    (λ place. Tells lexicon word (replaced_at rep word place)) (place-fault lexicon word rep among)
     (places_of rep.from word)
-    (recursion_from_All (λ place. stands_anchored rep.from word place ≡ true) (places_of rep.from word)
+    (recursion_from_All (λ place. stands_anchored rep.from word place ≡ true)
+    (places_of rep.from word)
     (filter_passes (stands_anchored rep.from word) (range_with_len 0 (length word)))))
 
-tells-some : (lexicon : Lexicon) (word : List ℕ) → AllByRecursion (Tells lexicon word) (rep_variants lexicon.affixes.reps word)
+tells-some : (lexicon : Lexicon) (word : List ℕ)
+    → AllByRecursion (Tells lexicon word) (rep_variants lexicon.affixes.reps word)
 unfolding rep_variants
 tells-some lexicon word =
     let reps = lexicon.affixes.reps in
     each-flat_map (Tells lexicon word) (variants_by word) reps
-    (each-weaker (Contains reps) (λ rep. AllByRecursion (Tells lexicon word) (variants_by word rep)) (tells-by lexicon word) reps
+    (each-weaker (Contains reps) (λ rep. AllByRecursion (Tells lexicon word) (variants_by word rep))
+    (tells-by lexicon word) reps
     (recursion_from_All (Contains reps) reps (All-contains_itself reps)))
 
-has-fault : (lexicon : Lexicon) (word : List ℕ) → has_rep_fault lexicon word ≡ true → HasRepFault lexicon word
+has-fault : (lexicon : Lexicon) (word : List ℕ) → has_rep_fault lexicon word ≡ true
+    → HasRepFault lexicon word
 unfolding has_rep_fault
-has-fault lexicon word has = found (Any-from_list_any (is_derived is_alone lexicon) (rep_variants lexicon.affixes.reps word) has)
+has-fault lexicon word has =
+    found (Any-from_list_any (is_derived is_alone lexicon)
+    (rep_variants lexicon.affixes.reps word) has)
   where
-    found : Any (IsAlone lexicon) (rep_variants lexicon.affixes.reps word) → HasRepFault lexicon word
+    found : Any (IsAlone lexicon) (rep_variants lexicon.affixes.reps word)
+        → HasRepFault lexicon word
     found (k, variant, within, at, alone) =
-        All-from_recursion (Tells lexicon word) (rep_variants lexicon.affixes.reps word) (tells-some lexicon word) k variant within (subst (IsAlone lexicon) (sym at) alone)
+        All-from_recursion (Tells lexicon word) (rep_variants lexicon.affixes.reps word)
+        (tells-some lexicon word) k variant within (subst (IsAlone lexicon) (sym at) alone)
 
-fault-has : (lexicon : Lexicon) (word : List ℕ) → AreSaneAffixes lexicon.affixes → HasRepFault lexicon word → has_rep_fault lexicon word ≡ true
+fault-has : (lexicon : Lexicon) (word : List ℕ) → AreSaneAffixes lexicon.affixes
+    → HasRepFault lexicon word → has_rep_fault lexicon word ≡ true
 unfolding has_rep_fault rep_variants
 fault-has lexicon word sane fault = tried among
   where
@@ -131,10 +151,12 @@ fault-has lexicon word sane fault = tried among
         ∙ ap (λ n. place + n) (length-append rep.from.text fault.rest)
 
     before : take place word ≡ fault.front
-    before = ap (take place) fault.whole ∙ take_at fault.front (rep.from.text ++ fault.rest) place refl
+    before =
+        ap (take place) fault.whole ∙ take_at fault.front (rep.from.text ++ fault.rest) place refl
 
     here : drop place word ≡ rep.from.text ++ fault.rest
-    here = ap (drop place) fault.whole ∙ drop_at fault.front (rep.from.text ++ fault.rest) place refl
+    here =
+        ap (drop place) fault.whole ∙ drop_at fault.front (rep.from.text ++ fault.rest) place refl
 
     behind : drop (place + length rep.from.text) word ≡ fault.rest
     behind =
@@ -153,19 +175,31 @@ fault-has lexicon word sane fault = tried among
     variant = replaced_at rep word place
 
     alone : IsAlone lexicon variant
-    alone = subst (λ front. IsAlone lexicon (front ++ (rep.to ++ drop (place + length rep.from.text) word))) (sym before)
-        (subst (λ after. IsAlone lexicon (fault.front ++ (rep.to ++ after))) (sym behind) fault.alone)
+    alone =
+        subst (λ front. IsAlone lexicon
+        (front ++ (rep.to ++ drop (place + length rep.from.text) word))) (sym before)
+        (subst (λ after. IsAlone lexicon (fault.front ++ (rep.to ++ after)))
+        (sym behind) fault.alone)
 
     among : Contains (rep_variants reps word) variant
     among =
         contains-flat_map (variants_by word) reps rep variant fault.among
         (contains-map (replaced_at rep word) (places_of rep.from word) place
         (contains-filter (stands_anchored rep.from word) (range_with_len 0 (length word)) place
-        (contains-range (length word) place (omega (arith, long, All-contains (λ (rep : Rep). 0 < length rep.from.text) reps rep sane.reps fault.among)))
+        (contains-range (length word) place
+        (omega (
+          arith,
+          long,
+          All-contains
+              (λ (rep : Rep). 0 < length rep.from.text) reps rep sane.reps fault.among,
+        )))
         (at-anchored rep.from word place stands)))
 
     tried : Contains (rep_variants reps word) variant → has_rep_fault lexicon word ≡ true
-    tried (k, within, at) = list_any_at (is_derived is_alone lexicon) (rep_variants reps word) k variant within (ap (is_derived is_alone lexicon) at ∙ alone)
+    tried (k, within, at) =
+        list_any_at (is_derived is_alone lexicon) (rep_variants reps word) k variant within
+        (ap (is_derived is_alone lexicon) at ∙ alone)
 
-pub fault-relation : (lexicon : Lexicon) (word : List ℕ) → AreSaneAffixes lexicon.affixes → (has_rep_fault lexicon word ≡ true) ↔ HasRepFault lexicon word
+pub fault-relation : (lexicon : Lexicon) (word : List ℕ) → AreSaneAffixes lexicon.affixes
+    → (has_rep_fault lexicon word ≡ true) ↔ HasRepFault lexicon word
 fault-relation lexicon word sane = (has-fault lexicon word, fault-has lexicon word sane)

@@ -53,10 +53,16 @@ is_broken base barred breaks word = is_broken_within base barred breaks (length 
 -- The same as a relation, the least one: a finite tree of breaks.
 pub data IsBroken (base barred : List ℕ → Bool) (breaks : List Anchored) : List ℕ → Type 0 where
   whole : (word : List ℕ) → base word ≡ true → IsBroken base barred breaks word
-  between : (word front rest : List ℕ) (b : Anchored) → barred word ≡ false → Contains breaks b → b.front ≡ false → b.back ≡ false
+  between : (word front rest : List ℕ) (b : Anchored) → barred word ≡ false → Contains breaks b
+      → b.front ≡ false → b.back ≡ false
       → word ≡ front ++ b.text ++ rest → 0 < length front → 0 < length rest
-      → IsBroken base barred breaks front → IsBroken base barred breaks rest → IsBroken base barred breaks word
-  behind : (word rest : List ℕ) (b : Anchored) → barred word ≡ false → Contains breaks b → b.front ≡ true → b.back ≡ false
-      → word ≡ b.text ++ rest → 0 < length rest → IsBroken base barred breaks rest → IsBroken base barred breaks word
-  before : (word front : List ℕ) (b : Anchored) → barred word ≡ false → Contains breaks b → b.front ≡ false → b.back ≡ true
-      → word ≡ front ++ b.text → 0 < length front → IsBroken base barred breaks front → IsBroken base barred breaks word
+      → IsBroken base barred breaks front → IsBroken base barred breaks rest
+      → IsBroken base barred breaks word
+  behind : (word rest : List ℕ) (b : Anchored) → barred word ≡ false → Contains breaks b
+      → b.front ≡ true → b.back ≡ false
+      → word ≡ b.text ++ rest → 0 < length rest → IsBroken base barred breaks rest
+      → IsBroken base barred breaks word
+  before : (word front : List ℕ) (b : Anchored) → barred word ≡ false → Contains breaks b
+      → b.front ≡ false → b.back ≡ true
+      → word ≡ front ++ b.text → 0 < length front → IsBroken base barred breaks front
+      → IsBroken base barred breaks word

@@ -1,11 +1,12 @@
--- Which parts of compounds may stand beside each other.
-use Rattle.std.specs.Prelude.{ℕ, ◌-◌, ◌==◌, Bool, true, false, not, ◌&&◌, ◌||◌, List, [], ◌∷◌, length, nat_eq, slice_get, Option, None, Some, IsTrue, if◌then◌else◌}
-use Rattle.std.specs.List.{list_any, starts_with, ends_with}
-use Rattle.std.specs.Option.{option_map_or}
+-- Which parts of compounds may stand beside each other, and how they are written together.
+use Rattle.std.specs.Prelude.{◌≡◌, ℕ, ◌-◌, ◌==◌, Bool, true, false, not, ◌&&◌, ◌||◌, List, [], ◌∷◌, length, nat_eq, slice_get, Contains, Option, None, Some, IsTrue, if◌then◌else◌}
+use Rattle.std.specs.List.{filter, filter_map, list_any, starts_with, ends_with}
+use Rattle.std.specs.Option.{option_map, option_map_or}
 use Rattle.spell_types.specs.declared.Lexicon.{Lexicon}
 use Rattle.spell_types.specs.declared.derivations.Derivation.{Derivation}
 use Rattle.spell_types.specs.declared.flags.Flag.{Flag}
 use Rattle.spell_types.specs.declared.joints.JointPattern.{JointPattern}
+use Rattle.spell_types.specs.declared.joints.WrittenJoint.{WrittenJoint}
 use Rattle.spell_types.specs.declared.signs.Options.{Options}
 use Rattle.spell_types.specs.Cases.{is_upper, is_same_word}
 use Rattle.spell_types.specs.EntriesOf.{is_entry_word}
@@ -50,21 +51,105 @@ abbrev pub ends_as : JointPattern → Lexicon → List ℕ → Derivation → Bo
 ends_as row lexicon x d = if row.unmodified then is_entry_word lexicon x d else ends_with nat_eq x row.end
 
 -- whether a row of the table fits two parts
-unfoldable pub fits_joint : Lexicon → List ℕ → Derivation → List ℕ → Derivation → JointPattern → Bool
+unfoldable pub fits_joint : Lexicon → List ℕ → Derivation → List ℕ → Derivation → JointPattern
+    → Bool
 fits_joint lexicon x d y e row =
     ends_as row lexicon x d
     && (starts_with nat_eq y row.begin && (has_entry_as_given row.end_flag lexicon d && has_entry_as_given row.begin_flag lexicon e))
 
--- whether one of the options that are set forbids that two such words meet, whatever they are derived from
-unfoldable pub is_joint_of : Options → List ℕ → List ℕ → Bool
-is_joint_of options x y =
-    not (options.check_dup && is_doubled x y)
-    && (not (options.check_case && is_capital_inside x y) && not (options.check_triple && is_tripled x y))
+-- the points of the options that are set, whatever the two words are derived from
+abbrev pub is_dup : Options → List ℕ → List ℕ → Bool
+is_dup options x y = options.check_dup && is_doubled x y
 
--- whether two parts, the forms of these derivations, may stand beside each other
+abbrev pub is_case : Options → List ℕ → List ℕ → Bool
+is_case options x y = options.check_case && is_capital_inside x y
+
+abbrev pub is_triple : Options → List ℕ → List ℕ → Bool
+is_triple options x y = options.check_triple && is_tripled x y
+
+-- whether no option that is set forbids that two such words meet, whatever they are derived from
+unfoldable pub is_joint_of : Options → List ℕ → List ℕ → Bool
+is_joint_of options x y = not (is_dup options x y) && (not (is_case options x y) && not (is_triple options x y))
+
+-- whether a row of the table fits two parts
+abbrev pub has_fitting : Lexicon → List ℕ → Derivation → List ℕ → Derivation → Bool
+has_fitting lexicon x d y e = list_any (fits_joint lexicon x d y e) lexicon.affixes.joints
+
+-- whether two parts, the forms of these derivations, may stand beside each other as they are
 unfoldable pub is_joint : Lexicon → List ℕ → Derivation → List ℕ → Derivation → Bool
-is_joint lexicon x d y e =
-    is_joint_of lexicon.affixes.options x y && not (list_any (fits_joint lexicon x d y e) lexicon.affixes.joints)
+is_joint lexicon x d y e = is_joint_of lexicon.affixes.options x y && not (has_fitting lexicon x d y e)
 
 abbrev pub IsJoint : Lexicon → List ℕ → Derivation → List ℕ → Derivation → Type 0
 IsJoint lexicon x d y e = IsTrue (is_joint lexicon x d y e)
+
+-- whether they may stand beside each other with one character left out of three: SIMPLIFIEDTRIPLE is set, and nothing but the
+-- three characters forbids that they meet
+unfoldable pub is_simplified : Lexicon → List ℕ → Derivation → List ℕ → Derivation → Bool
+is_simplified lexicon x d y e =
+    lexicon.affixes.options.simplified
+    && (is_triple lexicon.affixes.options x y
+    && (not (is_dup lexicon.affixes.options x y)
+    && (not (is_case lexicon.affixes.options x y) && not (has_fitting lexicon x d y e))))
+
+-- ---- written joints
+-- two parts as they are
+abbrev pub plain_joint : WrittenJoint
+plain_joint = record { off_end = 0; put = []; off_begin = 0 }
+
+-- one character is left out of three
+abbrev pub simplified_joint : WrittenJoint
+simplified_joint = record { off_end = 1; put = []; off_begin = 0 }
+
+-- this text in place of what the row names on both sides; a row that names a whole word there takes nothing off it
+abbrev pub replaced_joint : JointPattern → List ℕ → WrittenJoint
+replaced_joint row put = record {
+  off_end = if row.unmodified then 0 else length row.end;
+  put = put;
+  off_begin = length row.begin;
+}
+
+-- the joint of a row, if it has a replacement
+abbrev pub joint_of_row : JointPattern → Option WrittenJoint
+joint_of_row row = option_map (replaced_joint row) row.replacement
+
+-- all joints that the parts of a dictionary can have, in their order
+abbrev pub all_joints : Lexicon → List WrittenJoint
+all_joints lexicon = plain_joint ∷ simplified_joint ∷ filter_map joint_of_row lexicon.affixes.joints
+
+unfoldable pub is_same_joint : WrittenJoint → WrittenJoint → Bool
+is_same_joint joint other =
+    (joint.off_end == other.off_end) && (is_same_word joint.put other.put && (joint.off_begin == other.off_begin))
+
+-- whether the row fits two parts, and the joint is the row's
+abbrev pub is_replaced_by : Lexicon → List ℕ → Derivation → List ℕ → Derivation → WrittenJoint
+    → JointPattern → Bool
+is_replaced_by lexicon x d y e joint row =
+    fits_joint lexicon x d y e row && option_map_or (is_same_joint joint) (joint_of_row row) false
+
+-- whether two parts, the forms of these derivations, are written together so
+unfoldable pub is_written_joint : Lexicon → List ℕ → Derivation → List ℕ → Derivation → WrittenJoint
+    → Bool
+is_written_joint lexicon x d y e joint =
+    (is_same_joint joint plain_joint && is_joint lexicon x d y e)
+    || ((is_same_joint joint simplified_joint && is_simplified lexicon x d y e)
+    || (is_joint_of lexicon.affixes.options x y && list_any (is_replaced_by lexicon x d y e joint) lexicon.affixes.joints))
+
+-- each of these once, where it comes first
+abbrev pub each_once : List WrittenJoint → List WrittenJoint
+each_once [] = []
+each_once (joint ∷ more) = joint ∷ filter (λ other. not (is_same_joint other joint)) (each_once more)
+
+-- all written joints of two parts: the plain one, the simplified one, and those of the rows, each once
+unfoldable pub joints_of : Lexicon → List ℕ → Derivation → List ℕ → Derivation → List WrittenJoint
+joints_of lexicon x d y e = filter (is_written_joint lexicon x d y e) (each_once (all_joints lexicon))
+
+-- The same as a relation.
+pub data IsWrittenJoint (lexicon : Lexicon) (x : List ℕ) (d : Derivation) (y : List ℕ) (e : Derivation) (joint : WrittenJoint) : Type 0 where
+  Plain : joint ≡ plain_joint → is_joint lexicon x d y e ≡ true
+      → IsWrittenJoint lexicon x d y e joint
+  Simplified : joint ≡ simplified_joint → is_simplified lexicon x d y e ≡ true
+      → IsWrittenJoint lexicon x d y e joint
+  Replaced : (row : JointPattern) (put : List ℕ) → Contains lexicon.affixes.joints row
+      → row.replacement ≡ Some put
+      → joint ≡ replaced_joint row put → fits_joint lexicon x d y e row ≡ true
+      → is_joint_of lexicon.affixes.options x y ≡ true → IsWrittenJoint lexicon x d y e joint

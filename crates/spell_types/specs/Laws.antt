@@ -26,14 +26,16 @@ InRange count None = Unit {0}
 InRange count (Some place) = place < count
 
 -- it is then one of the choices
-pub contains-choice : (count : ℕ) (named : Option ℕ) → InRange count named → Contains (choices count) named
+pub contains-choice : (count : ℕ) (named : Option ℕ) → InRange count named
+    → Contains (choices count) named
 contains-choice count None inside = contains-head None (map (λ place. Some place) (range_with_len 0 count))
 contains-choice count (Some place) inside =
     contains-tail None (Some place) (map (λ place. Some place) (range_with_len 0 count))
     (contains-map (λ place. Some place) (range_with_len 0 count) place (contains-range count place inside))
 
 -- a place that names a rule of a side is one of the rules
-pub right-within : (rules : List Rule) (side : Side) (named : Option ℕ) → is_right rules side named ≡ true
+pub right-within : (rules : List Rule) (side : Side) (named : Option ℕ)
+    → is_right rules side named ≡ true
     → InRange (length rules) named
 right-within rules side None right = tt
 right-within rules side (Some place) right = at (slice_get rules place) refl right

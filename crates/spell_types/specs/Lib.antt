@@ -2,12 +2,14 @@ pub mod Attaching
 pub mod Bases
 pub mod Breaks
 pub mod Cases
+pub mod CompoundLaws
 pub mod Compounds
 pub mod Conditions
 pub mod Conversions
 pub mod Derivations
 pub mod EntriesOf
 pub mod Flags
+pub mod JointLaws
 pub mod Joints
 pub mod Laws
 pub mod Licences

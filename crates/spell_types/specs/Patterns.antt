@@ -30,8 +30,10 @@ matches (step ∷ more) sets =
 -- The same as a relation.
 pub data MatchesPattern : List PatternStep → List (List Flag) → Type 0 where
   done : MatchesPattern [] []
-  goes_on : (step : PatternStep) (more : List PatternStep) (own rest : List (List Flag)) → may_be step.times (length own) ≡ true
-      → AllByRecursion (λ set. fits_step step set ≡ true) own → MatchesPattern more rest → MatchesPattern (step ∷ more) (own ++ rest)
+  goes_on : (step : PatternStep) (more : List PatternStep) (own rest : List (List Flag))
+      → may_be step.times (length own) ≡ true
+      → AllByRecursion (λ set. fits_step step set ≡ true) own → MatchesPattern more rest
+      → MatchesPattern (step ∷ more) (own ++ rest)
 
 -- whether a step may stand for nothing
 abbrev pub is_left_out : PatternStep → Bool
@@ -49,7 +51,8 @@ steps_after step more = if is_many step.times then step ∷ more else more
 -- How a rule matches one set after another: where no set is left all steps are left out; and the first set is that of the
 -- first step, or that step is left out.
 pub record MatchesOneByOne : Type 0 where
-  pub none : (step : PatternStep) (more : List PatternStep) → matches (step ∷ more) [] ≡ (is_left_out step && matches more [])
+  pub none : (step : PatternStep) (more : List PatternStep)
+      → matches (step ∷ more) [] ≡ (is_left_out step && matches more [])
   pub next : (step : PatternStep) (more : List PatternStep) (set : List Flag) (sets : List (List Flag))
       → matches (step ∷ more) (set ∷ sets)
       ≡ ((is_left_out step && matches more (set ∷ sets)) || (fits_step step set && matches (steps_after step more) sets))

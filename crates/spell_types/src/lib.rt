@@ -22,9 +22,9 @@ pub use breaks::Anchored;
 pub use conversions::{Conversion, Rep};
 pub use derivations::{Derivation, form};
 pub use flags::{Flag, FlagKind, FlagSet, has, sets_have_their_flags};
-pub use joints::JointPattern;
+pub use joints::{JointPattern, WrittenJoint, joints_are_written};
 pub use licences::{
-    alone, alone_in_case, entry_flags, forbidden, has_affix_with, has_entry_with,
+    Case, alone, alone_in_case, entry_flags, forbidden, has_affix_with, has_entry_with,
     has_prefix_without, has_some_with, has_suffix_without, is_entry_word, licensed, sound,
 };
 use lists::{Copied, Items, NoMemory};
@@ -71,7 +71,7 @@ pub struct Affixes {
     pub reps: Items<Rep>,
     /// Where words may be broken: the option BREAK of hunspell(5).
     pub breaks: Items<Anchored>,
-    /// The parts of compounds that may not meet: the option CHECKCOMPOUNDPATTERN of hunspell(5).
+    /// The parts of compounds that may not meet as they are: the option CHECKCOMPOUNDPATTERN of hunspell(5).
     pub joints: Items<JointPattern>,
     /// The compound rules: the option COMPOUNDRULE of hunspell(5).
     pub patterns: Items<Pattern>,

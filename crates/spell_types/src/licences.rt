@@ -2,7 +2,7 @@
 
 ghost use Rattle.std.specs.Prelude.{◌≡◌, []};
 ghost use Rattle.std.specs.Option.{option_map, option_map_or};
-ghost use Rattle.spell_types.specs.Bases.{is_alone_in_case};
+ghost use Rattle.spell_types.specs.Bases.{allows_case, has_sharp_entry, holds_character, is_alone_in_case, keeps_case};
 ghost use Rattle.spell_types.specs.EntriesOf.{entry_flags, is_entry_word};
 ghost use Rattle.spell_types.specs.Flags.{has};
 ghost use Rattle.spell_types.specs.Licences.{has_some_with, has_prefix_without, has_suffix_without, carried_by, allows, crosses, is_affix_without, has_affix, meets_need, meets_circumfix, some_affix_carries, some_carry, has_entry_with, has_affix_with, is_first_allowed, is_second_allowed, is_prefix_allowed, is_crossing_right, is_allowed, meets_signs, may_stand_alone, is_licensed, is_sound, is_alone, is_forbidden};
@@ -44,14 +44,57 @@ pub fn alone(lexicon: &Lexicon, d: &Derivation) -> bool
     }
 }
 
-/// Whether a derivation stands as a word for a word that is written so, where `spelling` is its form: the option KEEPCASE
-/// of hunspell(5).
+/// The case of a written word, seen from a spelling that it stands for.
+#[derive(Clone, Copy, Debug, PartialEq, Eq)]
+pub enum Case {
+    /// The written word is spelled so itself.
+    Same,
+    /// Another case, which is right for words that hold ß by the option CHECKSHARPS of hunspell(5).
+    Sharp,
+    /// Another case.
+    Other,
+}
+
+/// Whether a derivation stands as a word for a word that is written in this case: the options KEEPCASE and CHECKSHARPS of
+/// hunspell(5).
 #[tactic(auto, unfolding(crate::specs::Bases::is_alone_in_case))]
-pub fn alone_in_case(written: &[char], spelling: &[char], lexicon: &Lexicon, d: &Derivation) -> bool
-    ensures { result ≡ is_alone_in_case written.now spelling.now lexicon.now d.now }
+pub fn alone_in_case(case: Case, lexicon: &Lexicon, d: &Derivation) -> bool
+    ensures { result ≡ is_alone_in_case case lexicon.now d.now }
 {
-    alone(lexicon, d)
-        && (spelling == written || !has_entry_with(lexicon.affixes.signs.keep_case, lexicon, d))
+    alone(lexicon, d) && allows_case(case, lexicon, d)
+}
+
+/// Whether a derivation may stand for a word that is written in this case.
+fn allows_case(case: Case, lexicon: &Lexicon, d: &Derivation) -> bool
+    ensures { result ≡ allows_case case lexicon.now d.now }
+{
+    match case {
+        Case::Same => true,
+        Case::Sharp => !keeps_case(lexicon, d) || has_sharp_entry(lexicon, d),
+        Case::Other => !keeps_case(lexicon, d),
+    }
+}
+
+fn keeps_case(lexicon: &Lexicon, d: &Derivation) -> bool
+    ensures { result ≡ keeps_case lexicon.now d.now }
+{
+    has_entry_with(lexicon.affixes.signs.keep_case, lexicon, d)
+}
+
+/// Whether the word of a derivation's entry holds ß.
+fn has_sharp_entry(lexicon: &Lexicon, d: &Derivation) -> bool
+    ensures { result ≡ has_sharp_entry lexicon.now d.now }
+{
+    match lexicon.entries.get(d.entry as usize) {
+        None => false,
+        Some(entry) => holds_sharp(&entry.word),
+    }
+}
+
+fn holds_sharp(word: &[char]) -> bool
+    ensures { result ≡ holds_character 223 word.now }
+{
+    word.iter().any(|c| *c == 'ß')
 }
 
 /// Whether a derivation's entry has the flag, if it is given.

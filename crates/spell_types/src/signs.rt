@@ -48,6 +48,10 @@ pub struct Options {
     pub check_case: bool,
     /// CHECKCOMPOUNDTRIPLE: no character stands three times in a row where two parts meet.
     pub check_triple: bool,
+    /// SIMPLIFIEDTRIPLE: parts that CHECKCOMPOUNDTRIPLE refuses meet where one of the three is left out.
+    pub simplified: bool,
+    /// CHECKSHARPS: SS may stand for ß, and a word with KEEPCASE that holds ß may begin with a capital, or be in capitals with SS.
+    pub sharps: bool,
     /// CHECKCOMPOUNDREP: no compound is a common misspelling of a word.
     pub check_rep: bool,
     /// COMPOUNDMIN: how many characters a part of a compound has at least.

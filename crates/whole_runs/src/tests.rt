@@ -38,6 +38,7 @@ fn joints(rt: HostRuntime) -> Result<(), Fail> {
         rows::checkcompoundtriple::ROWS,
         rows::joints_together::ROWS,
         rows::rep::ROWS,
+        rows::simplifiedtriple::ROWS,
     ] {
         run_rows(&rt, rt.alloc(), rows)?;
     }
@@ -71,6 +72,7 @@ fn spellings(rt: HostRuntime) -> Result<(), Fail> {
         rows::ignore::ROWS,
         rows::keepcase::ROWS,
         rows::cases::ROWS,
+        rows::checksharps::ROWS,
         rows::long_words::ROWS,
         rows::numbers::ROWS,
         rows::warn::ROWS,

@@ -32,7 +32,7 @@ barred-by false false word = refl
 barred-no_base : (lexicon : Lexicon) (word : List ℕ) → is_barred lexicon word ≡ true → is_base lexicon word ≡ false
 unfolding is_base
 barred-no_base lexicon word barred =
-    ap (λ b. not b && list_any (is_right_spelling lexicon word) (covered_by word)) barred
+    ap (λ b. not b && list_any (is_right_spelling lexicon word) (covered_by lexicon.affixes.options.sharps word)) barred
 
 pub broken_as_judged : (lexicon : Lexicon) (breaks : List Anchored) (word : List ℕ) → BreakAlike breaks lexicon.affixes.breaks
     → is_broken (is_base_by (judged lexicon)) (is_barred_by (judged lexicon)) breaks word ≡ is_broken_by lexicon word

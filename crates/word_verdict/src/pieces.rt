@@ -3,17 +3,17 @@
 ghost use Rattle.std.specs.Prelude.{◌≡◌, ◌||◌, not, true, IfOk};
 ghost use Rattle.std.specs.List.{list_any};
 ghost use Rattle.compound_words.specs.Prepared.{AreCompoundsOf};
-ghost use Rattle.spell_types.specs.Bases.{asked_for, is_right_spelling};
-ghost use Rattle.spell_types.specs.Cases.{begins_upper, has_lower};
+ghost use Rattle.spell_types.specs.Bases.{asked_for, case_of, holds_character, is_right_spelling, is_sharp_case};
+ghost use Rattle.spell_types.specs.Cases.{begins_upper, first_lowered, has_lower, is_same_word};
 ghost use Rattle.spell_types.specs.Compounds.{is_compound};
 ghost use Rattle.word_verdict.specs.Judging.{judged, is_alone_or_compound, covers_right_spelling};
 
 use affix_strip::Stems;
 use break_points::Judged;
 use compound_words::Compounds;
-use letter_case::{begins_upper, covered, has_lower};
+use letter_case::{begins_upper, covered, has_lower, low};
 use lists::NoMemory;
-use spell_types::Chars;
+use spell_types::{Case, Chars};
 use std::alloc::Global;
 
 /// A dictionary, and what was prepared of it for its compounds.
@@ -59,7 +59,8 @@ fn covers_right_spelling(
     if !may_cover_others(word) {
         return Ok(false);
     }
-    let spellings = covered(alloc, word)?;
+    let sharps = dictionary.stems.lexicon().affixes.options.sharps;
+    let spellings = covered(alloc, word, sharps)?;
     match spellings.as_slice() {
         [_, others @ ..] => one_is_right(alloc, dictionary, word, others),
         [] => Ok(false),
@@ -122,10 +123,54 @@ fn is_alone_or_compound(
     ensures { IfOk result (λ answer.
         answer ≡ is_alone_or_compound dictionary.now.stems.now written.now spelling.now) }
 {
-    if dictionary.stems.is_alone(alloc, written, spelling)? {
+    let sharps = dictionary.stems.lexicon().affixes.options.sharps;
+    let case = case_of(sharps, written, spelling);
+    if dictionary.stems.is_alone(alloc, case, spelling)? {
         return Ok(true);
     }
     is_compound(alloc, dictionary, written, spelling)
+}
+
+/// The case of a written word, seen from a spelling.
+#[tactic(auto, unfolding(spell_types::specs::Bases::case_of))]
+fn case_of(sharps: bool, written: &[char], spelling: &[char]) -> Case
+    ensures { result ≡ case_of sharps written.now spelling.now }
+{
+    if spelling == written {
+        Case::Same
+    } else if sharps && is_sharp_case(written, spelling) {
+        Case::Sharp
+    } else {
+        Case::Other
+    }
+}
+
+/// Whether a word is written as words with ß may be.
+fn is_sharp_case(written: &[char], spelling: &[char]) -> bool
+    ensures { result ≡ is_sharp_case written.now spelling.now }
+{
+    if has_lower(written) {
+        is_first_lowered(written, spelling)
+    } else {
+        !holds_capital_sharp(written)
+    }
+}
+
+fn holds_capital_sharp(word: &[char]) -> bool
+    ensures { result ≡ holds_character 7838 word.now }
+{
+    word.iter().any(|c| *c == 'ẞ')
+}
+
+/// Whether a spelling is the written word with its first character lowered.
+fn is_first_lowered(written: &[char], spelling: &[char]) -> bool
+    ensures { result ≡ is_same_word spelling.now (first_lowered written.now) }
+{
+    match (written, spelling) {
+        ([], []) => true,
+        ([first, rest @ ..], [other, more @ ..]) => *other == low(*first) && more == rest,
+        _ => false,
+    }
 }
 
 /// Whether a spelling is a compound where a word is written so.

@@ -4,7 +4,7 @@ use super::dictionaries::stems_of;
 use affix_strip::Stems;
 use break_points::{Judged, broken};
 use lists::NoMemory;
-use spell_types::chars_of;
+use spell_types::{Case, chars_of};
 use std::alloc::Global;
 use std::process::Abort;
 use std::test::Fail;
@@ -36,7 +36,7 @@ fn judged(alloc: Global, stems: &Stems, piece: &[char]) -> Result<Judged, NoMemo
     if stems.is_barred(alloc, piece)? {
         return Ok(Judged::Barred);
     }
-    if stems.is_alone(alloc, piece, piece)? {
+    if stems.is_alone(alloc, Case::Same, piece)? {
         return Ok(Judged::Base);
     }
     Ok(Judged::Other)

@@ -1,4 +1,4 @@
-/// CHECKCOMPOUNDPATTERN: parts that may not meet, by their texts and their flags.
+/// CHECKCOMPOUNDPATTERN: parts that may not meet, by their texts and flags, and what stands in place of these texts.
 pub const ROWS: &str = "
 # Parts that may not meet, by their texts.
 aff COMPOUNDFLAG X|CHECKCOMPOUNDPATTERN 1|REP 1|CHECKCOMPOUNDPATTERN oo ba|REP a b
@@ -119,6 +119,150 @@ text foobar barfoo
 dic 3|foo/X|bar/X|fo/XS
 0 0 of 2
 
+# A third text stands in place of what the row names on both sides.
+aff COMPOUNDFLAG X|CHECKCOMPOUNDPATTERN 1|CHECKCOMPOUNDPATTERN a/A u/B o
+dic 2|surya/XA|udaya/XB
+text suryodaya suryaudaya udayasurya
+1 1 10 20 suryaudaya|1 of 3
+# One that begins with `#` is none, and what stands behind it is not looked at.
+aff COMPOUNDFLAG X|CHECKCOMPOUNDPATTERN 1|CHECKCOMPOUNDPATTERN a/A u/B #o
+1 1 0 9 suryodaya|1 10 20 suryaudaya|2 of 3
+aff COMPOUNDFLAG X|CHECKCOMPOUNDPATTERN 1|CHECKCOMPOUNDPATTERN a/A u/B # o
+1 1 0 9 suryodaya|1 10 20 suryaudaya|2 of 3
+aff COMPOUNDFLAG X|CHECKCOMPOUNDPATTERN 1|CHECKCOMPOUNDPATTERN a/A u/B
+1 1 0 9 suryodaya|1 10 20 suryaudaya|2 of 3
+aff COMPOUNDFLAG X|CHECKCOMPOUNDPATTERN 1|CHECKCOMPOUNDPATTERN a/A u/B o # more
+1 1 10 20 suryaudaya|1 of 3
+# The text is put only where the row fits, with both flags.
+aff COMPOUNDFLAG X|CHECKCOMPOUNDPATTERN 1|CHECKCOMPOUNDPATTERN a/A u/B o
+dic 4|surya/XA|udaya/XB|tara/X|uda/X
+text suryauda suryoda taraudaya tarodaya
+1 1 9 16 suryoda|1 27 35 tarodaya|2 of 4
+# It is literal: a slash, a zero and a `#` inside are characters of it.
+aff WORDCHARS /0#|COMPOUNDFLAG X|CHECKCOMPOUNDPATTERN 2|CHECKCOMPOUNDPATTERN a/A u/B o/B|CHECKCOMPOUNDPATTERN a e 0
+dic 3|surya/XA|udaya/XB|eda/X
+text suryo/Bdaya suryodaya sury0da suryda
+1 1 12 21 suryodaya|1 30 36 suryda|2 of 4
+aff WORDCHARS /0#|COMPOUNDFLAG X|CHECKCOMPOUNDPATTERN 1|CHECKCOMPOUNDPATTERN a u o#
+text suryo#daya
+0 0 of 1
+# No character of it is ignored, so that no written word has it.
+aff IGNORE x|COMPOUNDFLAG X|CHECKCOMPOUNDPATTERN 1|CHECKCOMPOUNDPATTERN o b x
+dic 2|foo/X|bar/X
+text foxar foar
+1 1 0 5 foxar|1 6 10 foar|2 of 2
+
+# Longer than both ends, and the same as both: `fo`, `ob` and `ar`, where `foo` and `bar` do not meet as they are.
+aff COMPOUNDFLAG X|CHECKCOMPOUNDPATTERN 1|CHECKCOMPOUNDPATTERN o b xyz
+dic 2|foo/X|bar/X
+text foxyzar foobar barfoo fooxyzbar
+1 1 8 14 foobar|1 22 31 fooxyzbar|2 of 4
+aff COMPOUNDFLAG X|CHECKCOMPOUNDPATTERN 1|CHECKCOMPOUNDPATTERN o b ob
+text foobar
+0 0 of 1
+# Of two rows that fit each has its text, and a row without one forbids the parts as they are alone.
+aff COMPOUNDFLAG X|CHECKCOMPOUNDPATTERN 2|CHECKCOMPOUNDPATTERN o b x|CHECKCOMPOUNDPATTERN oo ba y
+text foxar fyr foobar
+1 1 10 16 foobar|1 of 3
+aff COMPOUNDFLAG X|CHECKCOMPOUNDPATTERN 2|CHECKCOMPOUNDPATTERN oo ba|CHECKCOMPOUNDPATTERN o b x
+1 1 6 9 fyr|1 10 16 foobar|2 of 3
+
+# A left part that is its entry's word stays whole: `foo`, `zz` and the `r` of `bar`. `foos` is none.
+aff COMPOUNDFLAG X|COMPOUNDPERMITFLAG P|SFX S Y 1|SFX S 0 s/P|CHECKCOMPOUNDPATTERN 1|CHECKCOMPOUNDPATTERN 0 ba zz
+dic 2|foo/XS|bar/X
+text foozzr foobar foosbar fooszzr barfoo barzzr
+1 1 7 13 foobar|1 22 29 fooszzr|2 of 6
+# Both parts stay whole where the right text is empty too.
+aff COMPOUNDFLAG X|CHECKCOMPOUNDPATTERN 1|CHECKCOMPOUNDPATTERN 0/A /B s
+dic 3|foo/XA|bar/XB|qux/X
+text foosbar foobar fooqux foosqux quxbar
+1 1 8 14 foobar|1 22 29 foosqux|2 of 5
+# What is taken off is of the affixed word.
+aff COMPOUNDFLAG X|COMPOUNDPERMITFLAG P|SFX S Y 1|SFX S 0 s/P|CHECKCOMPOUNDPATTERN 1|CHECKCOMPOUNDPATTERN s b x
+dic 2|foo/XS|bar/X
+text fooxar foosbar foobar
+1 1 7 14 foosbar|1 of 3
+
+# A part keeps a character: between two joints `bco` has its `c` left, and `bo` nothing. At either end of a word `bo` keeps
+# one.
+aff COMPOUNDFLAG X|COMPOUNDMIN 2|CHECKCOMPOUNDPATTERN 1|CHECKCOMPOUNDPATTERN o b x
+dic 4|foo/X|bo/X|bco/X|bar/X
+text foxxar foxcxar foxo bxar
+1 1 0 6 foxxar|1 of 4
+# Of the three characters of `obo` one joint takes the first two and the other the last two.
+aff COMPOUNDFLAG X|CHECKCOMPOUNDPATTERN 1|CHECKCOMPOUNDPATTERN bo ob y
+dic 3|abo/X|obo/X|oba/X
+text ayo oya ayya ayoya
+1 1 8 12 ayya|1 13 18 ayoya|2 of 4
+
+# COMPOUNDMIN counts the characters of the whole part, and none of the text that is put.
+aff COMPOUNDFLAG X|CHECKCOMPOUNDPATTERN 1|CHECKCOMPOUNDPATTERN o b xyz
+dic 3|foo/X|bar/X|ba/X
+text foxyzar foxyza
+1 1 8 14 foxyza|1 of 2
+aff COMPOUNDFLAG X|COMPOUNDMIN 2|CHECKCOMPOUNDPATTERN 1|CHECKCOMPOUNDPATTERN o b xyz
+0 0 of 2
+aff COMPOUNDFLAG X|COMPOUNDMIN 4|CHECKCOMPOUNDPATTERN 1|CHECKCOMPOUNDPATTERN o b xyz
+1 1 0 7 foxyzar|1 8 14 foxyza|2 of 2
+# COMPOUNDWORDMAX counts parts.
+aff COMPOUNDFLAG X|COMPOUNDWORDMAX 2|CHECKCOMPOUNDPATTERN 1|CHECKCOMPOUNDPATTERN o b x
+dic 3|foo/X|bco/X|bar/X
+text foxar foxcxar
+1 1 6 13 foxcxar|1 of 2
+aff COMPOUNDFLAG X|COMPOUNDWORDMAX 3|CHECKCOMPOUNDPATTERN 1|CHECKCOMPOUNDPATTERN o b x
+0 0 of 2
+# The parts of a rule are written together so too, and the rule matches them as before.
+aff COMPOUNDRULE 1|COMPOUNDRULE ab*c|CHECKCOMPOUNDPATTERN 1|CHECKCOMPOUNDPATTERN o b x
+dic 3|foo/a|bco/b|bar/c
+text foxar foxcxar foxcxcxar foobar barfoo foxco
+1 1 24 30 foobar|1 31 37 barfoo|1 38 43 foxco|3 of 6
+
+# A common misspelling is told of the word as the parts write it.
+aff COMPOUNDFLAG X|CHECKCOMPOUNDREP|REP 1|REP xa ka|CHECKCOMPOUNDPATTERN 1|CHECKCOMPOUNDPATTERN o b x
+dic 3|foo/X|bar/X|fokar
+text foxar
+1 1 0 5 foxar|1 of 1
+aff COMPOUNDFLAG X|CHECKCOMPOUNDREP|REP 1|REP oob ok|CHECKCOMPOUNDPATTERN 1|CHECKCOMPOUNDPATTERN o b x
+0 0 of 1
+
+# In another case: an entry that keeps its case is no part, and a last one may ask for a capital at the front.
+aff COMPOUNDFLAG X|KEEPCASE K|CHECKCOMPOUNDPATTERN 1|CHECKCOMPOUNDPATTERN o b x
+dic 3|foo/XK|boo/X|bar/X
+text foxar Foxar FOXAR boxar Boxar BOXAR
+1 1 6 11 Foxar|1 12 17 FOXAR|2 of 6
+aff COMPOUNDFLAG X|FORCEUCASE U|CHECKCOMPOUNDPATTERN 1|CHECKCOMPOUNDPATTERN o b x
+dic 2|foo/X|bar/XU
+text foxar Foxar FOXAR
+1 1 0 5 foxar|1 of 3
+dic 2|Foo/X|bar/X
+1 1 0 5 foxar|1 of 3
+
+# What a switch forbids of the parts forbids that they are written so: CHECKCOMPOUNDDUP those that are the same.
+aff COMPOUNDFLAG X|CHECKCOMPOUNDDUP|CHECKCOMPOUNDPATTERN 1|CHECKCOMPOUNDPATTERN o o x
+dic 2|oto/X|ono/X
+text otxto otxno
+1 1 0 5 otxto|1 of 2
+aff COMPOUNDFLAG X|CHECKCOMPOUNDPATTERN 1|CHECKCOMPOUNDPATTERN o o x
+0 0 of 2
+# CHECKCOMPOUNDCASE a capital of theirs, and none of the text that is put.
+aff COMPOUNDFLAG X|CHECKCOMPOUNDCASE|CHECKCOMPOUNDPATTERN 1|CHECKCOMPOUNDPATTERN o B x
+dic 2|foo/X|Bar/X
+text foxar
+1 1 0 5 foxar|1 of 1
+aff COMPOUNDFLAG X|CHECKCOMPOUNDPATTERN 1|CHECKCOMPOUNDPATTERN o B x
+0 0 of 1
+aff COMPOUNDFLAG X|CHECKCOMPOUNDCASE|CHECKCOMPOUNDPATTERN 1|CHECKCOMPOUNDPATTERN o b X
+dic 2|foo/X|bar/X
+text foXar foxar FOXAR
+1 1 6 11 foxar|1 12 17 FOXAR|2 of 3
+# CHECKCOMPOUNDTRIPLE three equal characters, and then SIMPLIFIEDTRIPLE leaves out none, since the row fits.
+aff COMPOUNDFLAG X|CHECKCOMPOUNDTRIPLE|SIMPLIFIEDTRIPLE|CHECKCOMPOUNDPATTERN 1|CHECKCOMPOUNDPATTERN oo o y
+dic 2|foo/X|oxa/X
+text fyxa fooxa foooxa
+1 1 0 4 fyxa|1 5 10 fooxa|1 11 17 foooxa|3 of 3
+aff COMPOUNDFLAG X|SIMPLIFIEDTRIPLE|CHECKCOMPOUNDPATTERN 1|CHECKCOMPOUNDPATTERN oo o y
+1 1 5 10 fooxa|1 11 17 foooxa|2 of 3
+
 # Two texts, each with exactly one flag behind its first slash, if it has a slash.
 fault aff 1 MissingField: CHECKCOMPOUNDPATTERN
 fault aff 1 BadNumber: CHECKCOMPOUNDPATTERN x
@@ -139,13 +283,15 @@ fault aff 4 BadFlag: CHECKCOMPOUNDPATTERN 3|CHECKCOMPOUNDPATTERN oo/A ba|CHECKCO
 fault aff 3 BadFlag: FLAG num|CHECKCOMPOUNDPATTERN 1|CHECKCOMPOUNDPATTERN a/65001 b
 fault aff 3 BadFlag: FLAG long|CHECKCOMPOUNDPATTERN 1|CHECKCOMPOUNDPATTERN a/Aa b/A
 fault aff 4 BadFlag: AF 1|AF AB|CHECKCOMPOUNDPATTERN 1|CHECKCOMPOUNDPATTERN a/12 b
-# A third text, which goes before what is wrong with the others, and is none in the header or past the rows.
-fault aff 2 LeftOut: CHECKCOMPOUNDPATTERN 1|CHECKCOMPOUNDPATTERN oo ba oba
-fault aff 2 LeftOut: CHECKCOMPOUNDPATTERN 1|CHECKCOMPOUNDPATTERN oo/ab ba #
+# A third text mends nothing of the others, has no flag, and is none in the header or past the rows.
+fault aff 2 BadFlag: CHECKCOMPOUNDPATTERN 1|CHECKCOMPOUNDPATTERN oo/ab ba oba
+fault aff 2 BadFlag: CHECKCOMPOUNDPATTERN 1|CHECKCOMPOUNDPATTERN oo/ab ba #
+fault aff 3 MissingField: CHECKCOMPOUNDPATTERN 1|CHECKCOMPOUNDPATTERN oo ba oba/ab|WARN
+fault aff 3 MissingField: CHECKCOMPOUNDPATTERN 1|CHECKCOMPOUNDPATTERN oo ba /|WARN
 fault aff 2 MissingField: CHECKCOMPOUNDPATTERN 1 a b|CHECKCOMPOUNDPATTERN oo
 fault aff 3 Twice: CHECKCOMPOUNDPATTERN 1|CHECKCOMPOUNDPATTERN oo ba|CHECKCOMPOUNDPATTERN oo ba oba
 fault aff 2 Twice: CHECKCOMPOUNDPATTERN 0|CHECKCOMPOUNDPATTERN oo/ab
 # The lower line.
 fault aff 2 BadFlag: CHECKCOMPOUNDPATTERN 2|CHECKCOMPOUNDPATTERN oo/ab ba|CHECKCOMPOUNDPATTERN oo ba oba
-fault aff 3 LeftOut: CHECKCOMPOUNDPATTERN 2|CHECKCOMPOUNDPATTERN oo ba|CHECKCOMPOUNDPATTERN oo ba oba|WARN
+fault aff 4 MissingField: CHECKCOMPOUNDPATTERN 2|CHECKCOMPOUNDPATTERN oo ba|CHECKCOMPOUNDPATTERN oo ba oba|WARN
 ";

@@ -40,7 +40,7 @@ file c
 
 # An .aff file with a fault, and nothing else.
 words check a b c
-file a SIMPLIFIEDTRIPLE|
+file a COMPLEXPREFIXES|
 3 aff 1 LeftOut
 
 # No .dic file.

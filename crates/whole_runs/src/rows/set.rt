@@ -37,7 +37,7 @@ fault aff 1 NotUtf8: @xff@|SET latin1
 # A line that is no text goes before the faults of later passes.
 dic 2|hello|2nd|
 fault aff 2 NotUtf8: # x|@xff@|SFX A Y 0|
-fault aff 2 NotUtf8: CHECKSHARPS|@xff@|
+fault aff 2 NotUtf8: COMPLEXPREFIXES|@xff@|
 # A slash in two bytes, half of a surrogate pair, and what is past the last character.
 fault aff 1 NotUtf8: @xc0af@|
 fault aff 3 NotUtf8: #||x@xeda080@y|

@@ -7,4 +7,6 @@ use Rattle.compound_words.proofs.replacements.has_fault_by.Given as goal
 
 abbrev pub invariant-loop-place : goal.invariant-loop-place
 invariant-loop-place l =
-    list_any (is_derived is_alone l.stems) (map (replaced_at l.rep l.word) (filter (stands_anchored l.rep.from l.word) (range_with_len 0 l.place))) ≡ false
+    list_any (is_derived is_alone l.stems)
+    (map (replaced_at l.rep l.word)
+    (filter (stands_anchored l.rep.from l.word) (range_with_len 0 l.place))) ≡ false

@@ -6,4 +6,6 @@ use Rattle.spell_types.specs.Replacements.{variants_by}
 use Rattle.compound_words.proofs.replacements.has_fault_by_one.Given as goal
 
 abbrev pub invariant-loop-rep : goal.invariant-loop-rep
-invariant-loop-rep l = list_any (is_derived is_alone l.stems) (flat_map (variants_by l.word) (take l.rep-index l.reps)) ≡ false
+invariant-loop-rep l =
+    list_any (is_derived is_alone l.stems)
+    (flat_map (variants_by l.word) (take l.rep-index l.reps)) ≡ false

@@ -6,4 +6,7 @@ use Rattle.compound_words.proofs.rests.fewest_by_flags.Goals as goal
 
 pub loop-rest-preserved : goal.loop-rest-preserved
 loop-rest-preserved c =
-    c.least-found.ensures ∙ fewest-turn (λ rest. count_of rest ByFlags) c.args.rests.now c.loop-rest.rest-index c.rest-item.result c.loop-rest.found c.loop-rest-test.true c.rest-item.is c.loop-rest.invariant
+    c.least-found.ensures
+    ∙ fewest-turn
+    (λ rest. count_of rest ByFlags)
+    c.args.rests.now c.loop-rest.rest-index c.rest-item.result c.loop-rest.found c.loop-rest-test.true c.rest-item.is c.loop-rest.invariant

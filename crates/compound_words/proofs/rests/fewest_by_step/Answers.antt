@@ -8,4 +8,6 @@ use Rattle.compound_words.proofs.rests.fewest_by_step.Goals as goal
 pub loop-rest-preserved : goal.loop-rest-preserved
 loop-rest-preserved c =
     c.least-found.ensures ∙ ap (least c.loop-rest.found) c.by_step.ensures
-    ∙ fewest-turn (λ rest. count_of rest (ByRule c.args.rule c.args.step)) c.args.rests.now c.loop-rest.rest-index c.rest-item.result c.loop-rest.found c.loop-rest-test.true c.rest-item.is c.loop-rest.invariant
+    ∙ fewest-turn
+    (λ rest. count_of rest (ByRule c.args.rule c.args.step))
+    c.args.rests.now c.loop-rest.rest-index c.rest-item.result c.loop-rest.found c.loop-rest-test.true c.rest-item.is c.loop-rest.invariant

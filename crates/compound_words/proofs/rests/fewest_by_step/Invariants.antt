@@ -5,4 +5,6 @@ use Rattle.compound_words.specs.Rests.{count_of, rests_at, ByRule}
 use Rattle.compound_words.proofs.rests.fewest_by_step.Given as goal
 
 abbrev pub invariant-loop-rest : goal.invariant-loop-rest
-invariant-loop-rest l = l.found ≡ fewest (map (λ rest. count_of rest (ByRule l.rule l.step)) (rests_at (take l.rest-index l.rests)))
+invariant-loop-rest l =
+    l.found ≡ fewest
+    (map (λ rest. count_of rest (ByRule l.rule l.step)) (rests_at (take l.rest-index l.rests)))

@@ -12,7 +12,8 @@ invariant-loop-place l = record {
   long : length l.numbers ≡ length l.steps;
   nothing : l.matches_nothing ≡ matches (drop l.place l.steps) [];
   numbers : (rules : List (List PatternStep)) → slice_get rules l.fn.rule ≡ Some l.steps
-      → Are l.numbers l.fn.flags (λ j. number_behind rules l.fn.behind (ByRule l.fn.rule j)) l.steps l.place;
+      → Are l.numbers l.fn.flags
+      (λ j. number_behind rules l.fn.behind (ByRule l.fn.rule j)) l.steps l.place;
 }
 
 abbrev pub decreases-loop-place : goal.decreases-loop-place

@@ -9,4 +9,5 @@ pub returns-then-stands_at : goal.returns-then-stands_at
 returns-then-stands_at c rules =
     c.one_more.ensures ∙ ap one_more (c.by_flags.ensures rules)
     ∙ sym (ap (λ b. cond b (one_more (number_behind rules c.args.behind.now ByFlags)) None)
-    (ap (λ l. stands_at l c.args.part.now.d c.args.place) (sym c.lexicon.ensures.dictionary) ∙ sym c.stands_at.ensures ∙ c.if-stands_at.true))
+    (ap (λ l. stands_at l c.args.part.now.d c.args.place) (sym c.lexicon.ensures.dictionary)
+    ∙ sym c.stands_at.ensures ∙ c.if-stands_at.true))

@@ -13,7 +13,9 @@ returns-in-None c rule step =
     let d = c.args.part.now.d in
     let rules = patterns_of c.args.search.now in
     let stands = stands_in_rule lexicon d c.args.place in
-    let no_flags : entry_flags lexicon d ≡ [] = ap (λ l. entry_flags l d) (sym c.lexicon-lexicon.ensures.dictionary) ∙ sym c.in-None.ensures in
+    let no_flags : entry_flags lexicon d ≡ [] =
+    ap (λ l. entry_flags l d) (sym c.lexicon-lexicon.ensures.dictionary)
+    ∙ sym c.in-None.ensures in
     ap (λ n. numbers_at n rule step) c.new-in-None.ensures
     ∙ sym (ap (λ f. cond stands (number_by_rule f rules c.args.behind.now rule step) None) no_flags
     ∙ ap (λ n. cond stands n None) (by-no-flags rules c.args.behind.now rule step) ∙ if-none stands)

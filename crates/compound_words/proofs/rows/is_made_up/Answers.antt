@@ -11,7 +11,10 @@ returns c =
     let a = asked_by c.args.search.now in
     let rules = patterns_of c.args.search.now in
     let row = c.in_ok-add_before_rows.ensures in
-    let start = subst (AllByRecursion (IsRight a rules First c.args.word.now)) (sym c.new-firsts.ensures) tt in
+    let start =
+    subst (AllByRecursion (IsRight a rules First c.args.word.now))
+    (sym c.new-firsts.ensures) tt in
     c.one_has_few.ensures ∙ ap (list_any (has_few a)) c.deref-2.ensures
-    ∙ firsts-answer a rules c.args.word.now c.add_before_rows.new.row c.requires (row.grows.right start) row.all
-    (c.compounds_have_parts.ensures.made_up a c.args.word.now c.dictionary_is_sane.ensures.affixes)
+    ∙ firsts-answer a rules c.args.word.now c.add_before_rows.new.row c.requires
+    (row.grows.right start) row.all
+    (c.compounds_have_parts.ensures.made_up a c.args.word.now)

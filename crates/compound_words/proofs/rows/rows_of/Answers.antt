@@ -10,9 +10,16 @@ loop-from-preserved-in-Continue-branch-2 c =
     record {
       within = omega (arith, c.loop-from.invariant.within);
       fits = c.loop-from.invariant.fits;
-      rows = subst (AreRows (asked_by c.args.search.now) (patterns_of c.args.search.now) c.args.word.now (from - 1)) (sym c.in_ok-push.ensures.items)
-          (rows-more (asked_by c.args.search.now) (patterns_of c.args.search.now) c.args.word.now from c.loop-from.rows.items c.in_ok-rests.rests c.loop-from.invariant.rows
-          (omega (arith, c.loop-from-test.true)) (omega (arith, c.loop-from-test.true, c.loop-from.invariant.within)) c.in_ok-rests.ensures);
+      rows =
+          subst (AreRows (asked_by c.args.search.now)
+          (patterns_of c.args.search.now) c.args.word.now
+          (from - 1)) (sym c.in_ok-push.ensures.items)
+          (rows-more (asked_by c.args.search.now)
+          (patterns_of c.args.search.now)
+          c.args.word.now from c.loop-from.rows.items c.in_ok-rests.rests c.loop-from.invariant.rows
+          (omega (arith, c.loop-from-test.true))
+          (omega (arith, c.loop-from-test.true, c.loop-from.invariant.within))
+          c.in_ok-rests.ensures);
     }
 
 pub loop-from-preserved : goal.loop-from-preserved
@@ -21,6 +28,10 @@ loop-from-preserved c =
     record {
       within = omega (arith, c.loop-from.invariant.within);
       fits = c.loop-from.invariant.fits;
-      rows = rows-none (asked_by c.args.search.now) (patterns_of c.args.search.now) c.args.word.now from c.loop-from.rows.items c.in_ok-rests.rests c.loop-from.invariant.rows
-          c.in_ok-rests.ensures (empty-none c.in_ok-rests.rests (sym c.is_empty.ensures ∙ c.if-not-is_empty.false));
+      rows =
+          rows-none (asked_by c.args.search.now)
+          (patterns_of c.args.search.now)
+          c.args.word.now from c.loop-from.rows.items c.in_ok-rests.rests c.loop-from.invariant.rows
+          c.in_ok-rests.ensures
+          (empty-none c.in_ok-rests.rests (sym c.is_empty.ensures ∙ c.if-not-is_empty.false));
     }

@@ -4,4 +4,5 @@ use Rattle.compound_words.specs.Prepared.{has_step_in}
 use Rattle.compound_words.proofs.rules.rules_with.Given as goal
 
 abbrev pub invariant-loop-pattern : goal.invariant-loop-pattern
-invariant-loop-pattern l = l.rules ≡ filter (has_step_in l.numbers) (take l.pattern-index l.patterns)
+invariant-loop-pattern l =
+    l.rules ≡ filter (has_step_in l.numbers) (take l.pattern-index l.patterns)

@@ -4,4 +4,5 @@ use Rattle.spell_types.specs.Conditions.{accepts_each}
 use Rattle.spell_types.proofs.attaching.accepts_each.Given as goal
 
 abbrev pub invariant-loop-place : goal.invariant-loop-place
-invariant-loop-place l = accepts_each l.pieces l.text ≡ accepts_each (drop l.place l.pieces) (drop l.place l.text)
+invariant-loop-place l =
+    accepts_each l.pieces l.text ≡ accepts_each (drop l.place l.pieces) (drop l.place l.text)

@@ -6,4 +6,5 @@ pub returns-clause-one_by_one : goal.returns-clause-one_by_one
 returns-clause-one_by_one c = matches-one_by_one
 
 pub returns-clause-related : goal.returns-clause-related
-returns-clause-related c = λ pattern sets. (matches-relation pattern sets, relation-matches pattern sets)
+returns-clause-related c =
+    λ pattern sets. (matches-relation pattern sets, relation-matches pattern sets)

@@ -9,4 +9,5 @@ returns c = record {
   seconds = search rules;
   has_seconds = search rules;
   barring = search rules;
+  longest = search rules;
 }

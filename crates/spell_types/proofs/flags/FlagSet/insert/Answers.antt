@@ -8,12 +8,14 @@ pub returns-in-Ok-clause-ok : goal.returns-in-Ok-clause-ok
 returns-in-Ok-clause-ok c =
     sym (subst (λ xs. put c.args.flag xs ≡ xs) c.self.view_is
     (put_held c.args.flag c.self.inside.kept.items c.in-Ok.field-0 c.self.invariant
-    (subst (λ xs. slice_get xs c.in-Ok.field-0 ≡ Some c.args.flag) c.deref.ensures.value c.in-Ok.ensures.found)))
+    (subst (λ xs. slice_get xs c.in-Ok.field-0 ≡ Some c.args.flag)
+    c.deref.ensures.value c.in-Ok.ensures.found)))
 
 pub returns-in_ok-insert-in-Err-clause-ok : goal.returns-in_ok-insert-in-Err-clause-ok
 returns-in_ok-insert-in-Err-clause-ok c =
     c.in_ok-insert-in-Err.ensures.items
     ∙ sym (put_missing c.args.flag c.self.inside.kept.items c.in-Err.place
     (subst (λ xs. c.in-Err.place ≤ length xs) c.deref.ensures.value c.in-Err.ensures.within)
-    (subst (λ xs. Missing c.args.flag xs c.in-Err.place) c.deref.ensures.value c.in-Err.ensures.missing))
+    (subst (λ xs. Missing c.args.flag xs c.in-Err.place)
+    c.deref.ensures.value c.in-Err.ensures.missing))
     ∙ ap (put c.args.flag) c.self.view_is
