@@ -3,12 +3,12 @@
 # are written as one word. Prints how many each refuses, which words only one of the two refuses, and the processor seconds and
 # the most memory of both. The dictionary is a package of Debian, which is fetched and unpacked, and not installed; it is converted
 # to UTF-8, and both read the same files. The arguments are the package, the name of the dictionary, and what sed makes of the
-# .aff file before, as leaving a line out that is not read: German, if there are none. Needs hunspell.
+# .aff file before, as leaving a line out that is not read: German, and nothing, if there are none. Needs hunspell.
 set -euo pipefail
 top=$(cd "$(dirname "$0")/.." && pwd)
 package=${1:-hunspell-de-de}
 name=${2:-de_DE}
-mend=${3-/^CHECKSHARPS/d}
+mend=${3-}
 work=$(mktemp -d)
 trap 'rm -rf "$work"' EXIT
 cd "$work"

@@ -48,13 +48,10 @@ convert() {
 mend() {
     case $1 in
         da_DK) sed -i '/^"/d; /^ /d' "$2.dic" ;;
-        de_*) sed -i '/^CHECKSHARPS/d' "$2.aff" ;;
         gl_ES) sed -i '/^ /d' "$2.dic" ;;
         hy_AM) sed -i 's,http://start.ubuntu.com/9.04/,,' "$2.aff" ;;
-        nb_NO) sed -i '/^SIMPLIFIEDTRIPLE/d' "$2.aff" ;;
         ne_NP) sed -i '/^SFX/s,\([0-9]\)X,\1,g' "$2.aff" ;;
-        nl) sed -i 's/^\(CHECKCOMPOUNDPATTERN [^#]*\)#.*/\1/' "$2.aff" ;;
-        sv_*) sed -i '/^SIMPLIFIEDTRIPLE/d; /^COMPOUNDRULE )k/d; s/^COMPOUNDRULE 12/COMPOUNDRULE 11/' "$2.aff" ;;
+        sv_*) sed -i '/^COMPOUNDRULE )k/d; s/^COMPOUNDRULE 12/COMPOUNDRULE 11/' "$2.aff" ;;
         tr_TR)
             sed -i 's/^SFX 0 /SFX 60000 /' "$2.aff"
             sed -i -E 's#(/|,)0(,|$|[[:space:]])#\160000\2#' "$2.dic"

@@ -194,6 +194,7 @@ for pair in "${names[@]}"; do
     take_option one-derivation hunspell '/^COMPOUNDRULE/d'
     take_option affix-flag hunspell '/^COMPOUND\(END\|LAST\)/d'
     grep -q '^COMPOUND' "$base.aff" && take_option prefix-inside here '/^PFX/d'
+    take_option shortened-part hunspell 's/^COMPOUNDMIN .*/COMPOUNDMIN 1/'
     cat left.here left.hunspell > taken
     take unexplained
     sed "s/$/ $name/" kinds >> all
