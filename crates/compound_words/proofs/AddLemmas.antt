@@ -19,7 +19,7 @@ use Rattle.lists.specs.Laws.{each-append, each-front}
 use Rattle.compound_words.specs.declared.rests.Behind.{Behind}
 use Rattle.compound_words.specs.declared.rests.FirstPart.{FirstPart}
 use Rattle.compound_words.specs.Counting.{fewest, IsFewest, OneOf}
-use Rattle.compound_words.specs.Rests.{is_enough, stand_from, Way, ByFlags, ByRule, matches_from, holds, AreRest, Leads, Follows, count_of, IsRight, HasPart, IsRow, IsMade, IsAdded, IsAddedOnce, Known, New, Grows, HasFirsts, IsFrontOf, Piece, rests_at, may_precede, number_behind, number_at_end, number_with}
+use Rattle.compound_words.specs.Rests.{is_enough, stand_from, Way, ByFlags, ByRule, matches_from, holds, AreRest, Leads, Follows, count_of, IsRight, HasPart, IsRow, IsMade, IsAdded, IsAddedOnce, Known, New, Grows, HasFirsts, IsFrontOf, Piece, rests_at, may_precede, number_before, number_behind, number_at_end, number_with}
 use Rattle.compound_words.specs.Pieces.{AreParts, EndsBefore, IsGivenAs, is_cut_by, may_begin}
 use Rattle.compound_words.proofs.PieceLemmas.{joined-begins}
 use Rattle.compound_words.proofs.CountLemmas.{fewest-same, fewest-list}
@@ -368,7 +368,9 @@ pub inner-before : (a : Asked) (rules : List (List PatternStep)) (here : Place) 
     → IsFrontOf here piece.before
     → IsRow a rules (piece.before ++ piece.front) piece.following rests → 0 < length piece.following
     → length (piece.front ++ piece.following) ≤ 2 ^ 64 - 1
-    → behind.is_end ≡ false → rests_at behind.rests.now ≡ filter (may_precede a part) rests
+    → behind.is_end ≡ false
+    → ((way : Way) → fewest (map (λ rest. count_of rest way) (rests_at behind.rests.now))
+    ≡ number_before a part way rests)
     → IsBefore a rules here here (piece.front ++ piece.following) part behind
 inner-before a rules here piece part behind rests given first row some fits end are = record {
   stands =
@@ -402,7 +404,7 @@ inner-before a rules here piece part behind rests given first row some fits end 
     number way =
         ap (λ b. cond b (number_at_end rules way)
         (fewest (map (λ rest. count_of rest way) (rests_at behind.rests.now)))) end
-        ∙ ap (λ rs. fewest (map (λ rest. count_of rest way) rs)) are
+        ∙ are way
 
     fewest-of : (way : Way) → IsFewest (Follows a (front ++ text) (holds a rules Middle way) part)
         (fewest (map (λ rest. count_of rest way) (filter (may_precede a part) rests)))

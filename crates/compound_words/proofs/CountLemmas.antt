@@ -8,11 +8,11 @@ use Rattle.compound_words.specs.Counting.{least, fewest, IsFewest, OneOf}
 use Rattle.compound_words.specs.Rests.{rests_at}
 use Rattle.compound_words.specs.declared.rests.FirstPart.{FirstPart}
 
-least-none : (a : Option ℕ) → least a None ≡ a
+pub least-none : (a : Option ℕ) → least a None ≡ a
 least-none None = refl
 least-none (Some n) = refl
 
-least-assoc : (a b c : Option ℕ) → least a (least b c) ≡ least (least a b) c
+pub least-assoc : (a b c : Option ℕ) → least a (least b c) ≡ least (least a b) c
 least-assoc None b c = refl
 least-assoc (Some n) None c = refl
 least-assoc (Some n) (Some m) None = ap (λ z. z) (least-both n m)

@@ -5,6 +5,7 @@ pub mod NumberLemmas
 pub mod RestLemmas
 pub mod LeadLemmas
 pub mod AddLemmas
+pub mod HeadLemmas
 pub mod RowLemmas
 pub mod MadeLemmas
 pub mod ReplacementLemmas

@@ -19,7 +19,7 @@ use Rattle.spell_types.specs.Patterns.{matches, fits_step, is_left_out, is_many,
 use Rattle.compound_words.specs.declared.rests.FirstPart.{FirstPart}
 use Rattle.compound_words.specs.declared.rests.Row.{Row}
 use Rattle.compound_words.specs.Counting.{OneOf}
-use Rattle.compound_words.specs.Rests.{Way, ByFlags, ByRule, matches_from, is_enough, stand_from, holds, AreRest, IsRight, HasPart, IsRow, IsRowAt, AreRows, Grows, HasFirsts, HasInner, Piece}
+use Rattle.compound_words.specs.Rests.{Way, ByFlags, ByRule, matches_from, is_enough, stand_from, holds, AreRest, IsRight, HasPart, IsRow, IsRowAt, AreRows, AreHeads, Grows, HasFirsts, HasInner, Piece}
 use Rattle.compound_words.specs.Pieces.{EndsBefore, Whole, may_begin}
 use Rattle.compound_words.proofs.PieceLemmas.{joined-begins, joined-ends, last-whole}
 use Rattle.lists.specs.Laws.{each-append, each-weaker}
@@ -176,7 +176,7 @@ stands-behind law a rules here (ByRule rule step) part next more so =
 rows-weaker : (a : Asked) (rules : List (List PatternStep)) (word : List ℕ) (from : ℕ) (row : Row)
     → IsRowAt a rules word from row → IsRowAt a rules word (from - 1) row
 rows-weaker a rules word from row is =
-    record { after = omega (arith, is.after); inside = is.inside; is = is.is }
+    record { after = omega (arith, is.after); inside = is.inside; is = is.is; enough = is.enough }
 
 -- there is no rest from a place
 pub rows-none : (a : Asked) (rules : List (List PatternStep)) (word : List ℕ) (from : ℕ)
@@ -206,16 +206,23 @@ rows-none a rules word from rows rests are is none = record {
 
 -- there are some
 pub rows-more : (a : Asked) (rules : List (List PatternStep)) (word : List ℕ) (from : ℕ)
-    (rows : List Row) (rests : List FirstPart) → AreRows a rules word from rows → 0 < from
-    → from < length word → IsRow a rules (take from word) (drop from word) rests
-    → AreRows a rules word (from - 1) (rows ++ record { place = from; rests = rests } ∷ [])
-rows-more a rules word from rows rests are some inside is = record {
+    (rows : List Row) (row : Row) → row.place ≡ from → AreRows a rules word from rows → 0 < from
+    → from < length word → IsRow a rules (take from word) (drop from word) row.rests
+    → AreHeads row.rests row.heads → AreRows a rules word (from - 1) (rows ++ row ∷ [])
+rows-more a rules word from rows row at are some inside is enough = record {
   right =
       each-append (IsRowAt a rules word (from - 1)) rows
-      (record { place = from; rests = rests } ∷ [])
+      (row ∷ [])
       (each-weaker (IsRowAt a rules word from) (IsRowAt a rules word (from - 1))
-      (rows-weaker a rules word from) rows are.right)
-      (record { after = omega (arith, some); inside = inside; is = is }, tt);
+      (rows-weaker a rules word from) rows are.right) (
+        record {
+          after = omega (arith, some, at);
+          inside = omega (arith, inside, at);
+          is = subst (λ place. IsRow a rules (take place word) (drop place word) row.rests) (sym at) is;
+          enough = enough;
+        },
+        tt,
+      );
   all =
       λ place part more way after within begins rest so. by place part more way after within begins rest so (cases_lt from place);
 }
@@ -224,13 +231,13 @@ rows-more a rules word from rows rests are some inside is = record {
         → place < length word → may_begin a.lexicon (take place word) part ≡ true
         → AreRest a (drop place word) (part ∷ more) → holds a rules Middle way (part ∷ more) ≡ true
         → (from < place) ⊎ (place ≤ from) → OneOf (λ row. row.place ≡ place)
-        (rows ++ record { place = from; rests = rests } ∷ [])
+        (rows ++ row ∷ [])
     by place part more way above within begins rest so (inl after) =
-        one-left (λ row. row.place ≡ place) rows (record { place = from; rests = rests } ∷ [])
+        one-left (λ row. row.place ≡ place) rows (row ∷ [])
         (are.all place part more way after within begins rest so)
     by place part more way above within begins rest so (inr before) =
-        one-right (λ row. row.place ≡ place) rows (record { place = from; rests = rests } ∷ [])
-        (inl (omega (arith, before, above)))
+        one-right (λ row. row.place ≡ place) rows (row ∷ [])
+        (inl (omega (arith, before, above, at)))
 
 -- ---- a row that is gone over
 pub row-at : (a : Asked) (rules : List (List PatternStep)) (word : List ℕ) (from : ℕ)

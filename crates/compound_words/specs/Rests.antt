@@ -1,7 +1,7 @@
 -- Lists of parts that make up the rest of a word, and how few parts they may have.
 use Rattle.std.specs.Prelude.{◌≡◌, ℕ, ◌+◌, ◌<◌, Bool, true, false, nat_lt, ◌&&◌, ◌||◌, List, [], ◌∷◌, ◌++◌, length, map, take, drop, slice_get, Option, None, Some, option_and_then, if◌then◌else◌}
 use Rattle.std.specs.Borrow.{Bor}
-use Rattle.std.specs.List.{AllByRecursion, list_any}
+use Rattle.std.specs.List.{AllByRecursion, filter, flat_map, list_any}
 use Rattle.std.specs.Option.{option_map_or, option_to_list}
 use Rattle.spell_types.specs.declared.derivations.Derivation.{Derivation}
 use Rattle.spell_types.specs.declared.flags.Flag.{Flag}
@@ -96,6 +96,10 @@ abbrev pub IsRight : Asked → List (List PatternStep) → Place → List ℕ �
 IsRight a rules here text rest =
     (way : Way) → IsFewest (Leads a text (holds a rules here way) rest.part) (count_of rest way)
 
+-- whether the part may stand before the first part of a rest
+abbrev pub may_precede : Asked → Part → FirstPart → Bool
+may_precede a part rest = are_joined a part rest.part
+
 -- the part stands first in one of them
 abbrev pub HasPart : Part → List FirstPart → Type 0
 HasPart part rests = OneOf (λ rest. rest.part ≡ part) rests
@@ -107,11 +111,31 @@ pub record IsRow (a : Asked) (rules : List (List PatternStep)) (before text : Li
       → AreRest a text (part ∷ more) → holds a rules Middle way (part ∷ more) ≡ true
       → HasPart part rests
 
+-- the rests at these places
+abbrev pub picked : List FirstPart → List ℕ → List FirstPart
+picked rests places = flat_map (λ place. option_to_list (slice_get rests place)) places
+
+-- how few parts there are with the rests that the part may stand before
+abbrev pub number_before : Asked → Part → Way → List FirstPart → Option ℕ
+number_before a part way rests =
+    fewest (map (λ rest. count_of rest way) (filter (may_precede a part) rests))
+
+-- the rests at these places are enough: before no part have all of them fewer parts than these
+pub record AreHeads (rests : List FirstPart) (places : List ℕ) : Type 0 where
+  pub same : (a : Asked) (part : Part) (way : Way)
+      → number_before a part way (picked rests places) ≡ number_before a part way rests
+
+-- the rest may follow wherever the other may, with no more parts
+pub record Covers (rest other : FirstPart) : Type 0 where
+  pub same : (a : Asked) (part : Part) → may_precede a part rest ≡ may_precede a part other
+  pub less : (way : Way) → least (count_of rest way) (count_of other way) ≡ count_of rest way
+
 -- a row of places behind this one
 pub record IsRowAt (a : Asked) (rules : List (List PatternStep)) (word : List ℕ) (from : ℕ) (row : Row) : Type 0 where
   pub after : from < row.place
   pub inside : row.place < length word
   pub is : IsRow a rules (take row.place word) (drop row.place word) row.rests
+  pub enough : AreHeads row.rests row.heads
 
 -- there is a row for each place behind this one from which parts write the rest of the word
 pub record AreRows (a : Asked) (rules : List (List PatternStep)) (word : List ℕ) (from : ℕ) (rows : List Row) : Type 0 where
@@ -125,10 +149,6 @@ pub record AreRows (a : Asked) (rules : List (List PatternStep)) (word : List �
 -- the rests that references lead to
 abbrev pub rests_at : List (Bor FirstPart) → List FirstPart
 rests_at rests = map (λ rest. rest.now) rests
-
--- whether the part may stand before the first part of a rest
-abbrev pub may_precede : Asked → Part → FirstPart → Bool
-may_precede a part rest = are_joined a part rest.part
 
 -- how few parts may stand behind the last part: none, unless the steps of a rule do not match nothing
 abbrev pub number_at_end : List (List PatternStep) → Way → Option ℕ

@@ -1,6 +1,6 @@
 //! The least of numbers, where they are there.
 
-ghost use Rattle.std.specs.Prelude.{◌≡◌};
+ghost use Rattle.std.specs.Prelude.{◌≡◌, true};
 ghost use Rattle.compound_words.specs.Counting.{least, one_more, number_at};
 
 /// The lesser of two numbers, or the one that is there.
@@ -11,6 +11,17 @@ pub(crate) fn least(number: Option<usize>, other: Option<usize>) -> Option<usize
         (Some(a), Some(b)) => { if a <= b { Some(a) } else { Some(b) } }
         (Some(a), None) => Some(a),
         (None, _) => other,
+    }
+}
+
+/// Whether a number is no more than the other, where that is there.
+pub(crate) fn is_at_most(number: Option<usize>, other: Option<usize>) -> bool
+    ensures { result ≡ true → least number other ≡ number }
+{
+    match (number, other) {
+        (_, None) => true,
+        (None, Some(_)) => false,
+        (Some(a), Some(b)) => a <= b,
     }
 }
 

@@ -7,6 +7,7 @@ ghost use Rattle.compound_words.specs.Prepared.{AreCompoundsOf, AreAllRulesOf, h
 ghost use Rattle.compound_words.specs.Rests.{asked_by};
 
 mod counting;
+mod heads;
 mod pieces;
 mod replacements;
 mod rests;

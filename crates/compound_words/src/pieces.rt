@@ -80,6 +80,8 @@ pub(crate) struct Piece<'a> {
     pub(crate) following: &'a [char],
     /// The rests of the word that may follow.
     pub(crate) rests: &'a [FirstPart],
+    /// The places of those that are enough to be looked at.
+    pub(crate) heads: &'a [usize],
 }
 
 /// How a part ends: what it keeps, what the joint behind it takes off, and that joint.

@@ -32,6 +32,9 @@ pub(crate) struct FirstPart {
 pub(crate) struct Row {
     pub(crate) place: usize,
     pub(crate) rests: Items<FirstPart>,
+    /// The places of the rests that are enough to be looked at: each other one has the first part of one of these, but for the
+    /// joint behind it, and no fewer parts.
+    pub(crate) heads: Items<usize>,
 }
 
 /// What stands behind a part: nothing, where the word ends, or one of some rests.
@@ -244,7 +247,7 @@ fn step_after(step: &PatternStep, place: usize) -> usize
 }
 
 /// Whether there is a number for a rule.
-fn has_number(numbers: &[Numbers]) -> bool
+pub(crate) fn has_number(numbers: &[Numbers]) -> bool
     ensures { result ≡ list_any (list_any is_some) numbers.now }
 {
     numbers.iter().any(|own| has_some(own))

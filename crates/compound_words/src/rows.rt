@@ -6,9 +6,10 @@ ghost use Rattle.spell_types.specs.declared.parts.Place.{Place};
 ghost use Rattle.spell_types.specs.Compounds.{is_made_up};
 ghost use Rattle.compound_words.specs.Counting.{number_at};
 ghost use Rattle.compound_words.specs.Pieces.{AreFronts};
-ghost use Rattle.compound_words.specs.Rests.{asked_by, patterns_of, rests_at, may_precede, is_few, has_few, IsAdded, IsAddedOnce, Grows, HasFirsts, HasPart, HasInner, IsFrontOf, IsRow, AreRows, AreRulesOf};
+ghost use Rattle.compound_words.specs.Rests.{asked_by, patterns_of, rests_at, may_precede, picked, AreHeads, is_few, has_few, IsAdded, IsAddedOnce, Grows, HasFirsts, HasPart, HasInner, IsFrontOf, IsRow, AreRows, AreRulesOf};
 
 use crate::counting::number_at;
+use crate::heads::{heads_of, rest_at};
 use crate::pieces::{Piece, Start, parts_of};
 use crate::rests::{Behind, FirstPart, Numbers, Row, rest_with};
 use crate::search::Search;
@@ -52,7 +53,12 @@ fn rows_of(alloc: Global, search: &Search, word: &[char]) -> Result<Vec<Row>, No
         from -= 1;
         let rests = rests_from(alloc, search, word, from, &rows)?;
         if !rests.is_empty() {
-            rows.push(Row { place: from, rests })?;
+            let heads = heads_of(alloc, &rests)?;
+            rows.push(Row {
+                place: from,
+                rests,
+                heads,
+            })?;
         }
     }
     Ok(rows)
@@ -115,6 +121,7 @@ fn add_before_rows<'a>(
             text: &word[from..behind.place],
             following: &word[behind.place..],
             rests: &behind.rests,
+            heads: &behind.heads,
         };
         add_before(alloc, search, here, &piece, row)?;
     }
@@ -144,11 +151,13 @@ fn add_last<'a>(
         text,
         following: &[],
         rests: &[],
+        heads: &[],
     };
     let mut parts = parts_of(alloc, search, &piece)?;
+    let known = row.len();
     while let Some(part) = parts.pop() {
         if search.may_end(&part) {
-            add(alloc, search, Place::Last, part, &behind, row)?;
+            add(alloc, search, Place::Last, part, &behind, known, row)?;
         }
     }
     Ok(())
@@ -163,6 +172,7 @@ fn add_before(
     row: &mut Items<FirstPart>,
 ) -> Result<(), NoMemory>
     requires row { IsRow (asked_by search.now) (patterns_of search.now) (piece.now.start.now.before.now ++ piece.now.text.now) piece.now.following.now piece.now.rests.now }
+    requires enough { AreHeads piece.now.rests.now piece.now.heads.now }
     requires some { 0 < length piece.now.following.now }
     requires fits { length (piece.now.text.now ++ piece.now.following.now) ≤ 2 ^ 64 - 1 }
     requires front { IsFrontOf here piece.now.start.now.before.now }
@@ -173,13 +183,14 @@ fn add_before(
 {
     patterns_match();
     let mut parts = parts_of(alloc, search, piece)?;
+    let known = row.len();
     while let Some(part) = parts.pop() {
-        let followers = followers(alloc, search, &part, piece.rests)?;
+        let followers = followers(alloc, search, &part, piece)?;
         let behind = Behind {
             is_end: false,
             rests: &followers,
         };
-        add(alloc, search, here, part, &behind, row)?;
+        add(alloc, search, here, part, &behind, known, row)?;
     }
     Ok(())
 }
@@ -197,31 +208,34 @@ fn is_same_part(part: &Part, other: &Part) -> bool
         && part.text.as_slice() == other.text.as_slice()
 }
 
-/// Whether one of the rests begins with a part.
-fn has_part(rests: &[FirstPart], part: &Part) -> bool
+/// Whether one of the rests from a place on begins with a part.
+fn has_part(rests: &[FirstPart], from: usize, part: &Part) -> bool
     ensures { result ≡ true → HasPart part.now rests.now }
 {
-    for rest in rests {
-        if is_same_part(&rest.part, part) {
+    let mut place = from;
+    while place < rests.len() {
+        if is_same_part(&rests[place].part, part) {
             return true;
         }
+        place += 1;
     }
     false
 }
 
 /// Adds the rest that begins with a part, if there is one, and if that part is not there already: several rows of
-/// CHECKCOMPOUNDPATTERN may make it.
+/// CHECKCOMPOUNDPATTERN may make it. It is looked for behind so many rests, which are of other pieces.
 fn add(
     alloc: Global,
     search: &Search,
     place: Place,
     part: Part,
     behind: &Behind,
+    known: usize,
     row: &mut Items<FirstPart>,
 ) -> Result<(), NoMemory>
     ensures { OnOk result (IsAddedOnce (asked_by search.now) (patterns_of search.now) place part behind.now row.old row.new) }
 {
-    if has_part(row, &part) {
+    if has_part(row, known, &part) {
         return Ok(());
     }
     add_new(alloc, search, place, part, behind, row)
@@ -244,19 +258,22 @@ fn add_new(
     Ok(())
 }
 
-/// The rests that a part may stand before.
+/// The rests that a part may stand before, of those that are enough to be looked at.
 fn followers<'a>(
     alloc: Global,
     search: &Search,
     part: &Part,
-    rests: &'a [FirstPart],
+    piece: &Piece<'a>,
 ) -> Result<Vec<&'a FirstPart>, NoMemory>
-    ensures { IfOk result (λ found. rests_at found.items ≡ filter (may_precede (asked_by search.now) part.now) rests.now) }
+    ensures { IfOk result (λ found. rests_at found.items
+        ≡ filter (may_precede (asked_by search.now) part.now) (picked piece.now.rests.now piece.now.heads.now)) }
 {
     let mut found = Vec::new(alloc);
-    for rest in rests {
-        if search.do_meet(part, &rest.part) {
-            found.push(rest)?;
+    for place in piece.heads {
+        if let Some(rest) = rest_at(piece.rests, *place) {
+            if search.do_meet(part, &rest.part) {
+                found.push(rest)?;
+            }
         }
     }
     Ok(found)

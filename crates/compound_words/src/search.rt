@@ -79,14 +79,15 @@ impl Search<'_> {
     pub(crate) fn do_meet(&self, part: &Part, next: &Part) -> bool
         ensures { result ≡ are_joined (asked_by self.now) part.now next.now }
     {
-        is_written_joint(
-            self.lexicon(),
-            &part.text,
-            &part.d,
-            &next.text,
-            &next.d,
-            &part.joint,
-        ) && next.off_begin == part.joint.off_begin
+        next.off_begin == part.joint.off_begin
+            && is_written_joint(
+                self.lexicon(),
+                &part.text,
+                &part.d,
+                &next.text,
+                &next.d,
+                &part.joint,
+            )
     }
 
     /// Whether a text of so many characters is longer than every form of the dictionary.

@@ -1,7 +1,8 @@
 -- Each part is looked at with the rests that it may stand before.
-use Rattle.std.proofs.Common.{◌≡◌, ◌∙◌, ◌++◌, ◌<◌, true, false, true≢false, sym, ap, subst, refl, List, [], ◌∷◌, length, arith}
+use Rattle.std.proofs.Common.{◌≡◌, ◌∙◌, ◌++◌, ◌<◌, true, false, true≢false, sym, ap, subst, refl, List, [], ◌∷◌, length, map, arith}
 use Rattle.spell_types.specs.declared.parts.Part.{Part}
-use Rattle.compound_words.specs.Rests.{Piece, asked_by, patterns_of, rests_at}
+use Rattle.compound_words.specs.Counting.{fewest}
+use Rattle.compound_words.specs.Rests.{Piece, asked_by, count_of, patterns_of, rests_at}
 use Rattle.compound_words.proofs.AddLemmas.{AreLeft, left-all, left-none, left-turn, left-given, inner-before, once-grown}
 use Rattle.compound_words.proofs.rows.add_before.Goals as goal
 
@@ -29,7 +30,9 @@ loop-part-preserved c =
     let given = left-given a piece.before piece.front c.pop.new.self.items part left.given in
     left-turn a rules here text piece c.pop.new.self.items part c.args.row.now c.loop-part.row c.add.new.row left
     (once-grown c.patterns_match.ensures.one_by_one a rules here here text part _ c.loop-part.row c.add.new.row
-    (inner-before a rules here piece part _ at.rests.now given c.requires.front c.requires.row c.requires.some c.requires.fits refl (ap rests_at c.deref.ensures.value ∙ c.in_ok-followers.ensures)) c.in_ok-add.ensures)
+    (inner-before a rules here piece part _ at.rests.now given c.requires.front c.requires.row c.requires.some c.requires.fits refl
+    (λ way. ap (λ rests. fewest (map (λ rest. count_of rest way) rests)) (ap rests_at c.deref.ensures.value ∙ c.in_ok-followers.ensures)
+    ∙ c.requires.enough.same a part way)) c.in_ok-add.ensures)
 
 -- none is left
 nothing : (parts : List Part) → (0 < length parts → false ≡ true) → parts ≡ []
