@@ -4,7 +4,8 @@
 # `a` and `aa`: 1,000 words of 30, 50 and 100 characters that are none, which could be cut in the most ways. By 20,000 entries and
 # 65,000 compound rules: none has a flag of an entry; and by rules that all have one. By 100 rows of CHECKCOMPOUNDPATTERN with a
 # replacement: 1,000 words of 100 characters of which none has a replacement, where all rows fit all parts; 1,000 words of syllables
-# in which one of four replacements ends most pieces; and one word of 100 characters in which every row may have written each piece.
+# in which one of four replacements ends most pieces; and one word of 100 characters in which every row may have written each piece,
+# by `a` and `aa`, and by 22 entries of `a` alone.
 # With CHECKSHARPS: 1,000 words in capitals of which each covers the most spellings, 66, and 1,000 of as many letters that cover four.
 # Prints seconds and the most memory that was used. Ends with status 1 if a number of marks is another one than is known here.
 set -euo pipefail
@@ -38,6 +39,7 @@ rows 'made = ""; for (i = 0; i < 100; i++) print "a a", (made = made "a")' every
 awk 'BEGIN { print 10000; for (i = 0; i < 10000; i++) print substr("bcdfgklmnp", i % 10 + 1, 1) substr("aeiouwxyzr", int(i / 10) % 10 + 1, 1) substr("bcdfgklmnp", int(i / 100) % 10 + 1, 1) substr("aeiouwxyzr", int(i / 1000) + 1, 1) "/X" }' > syllables.dic
 awk 'BEGIN { srand(5); for (k = 0; k < 1000; k++) { word = "vvvv"; while (length(word) < 100) word = word substr("bcdfg", int(rand() * 5) + 1, 1) substr("aeiou", int(rand() * 5) + 1, 1) substr("bcdfgx", int(rand() * 6) + 1, 1) substr("aeioxyzw", int(rand() * 8) + 1, 1); print word } }' > syllables.text
 head -n 1 short-100.text > one.text
+awk 'BEGIN { print 22; made = ""; for (i = 0; i < 22; i++) print (made = made "a") "/X" }' > many.dic
 
 program=$top/out/affedit
 measure() {
@@ -63,5 +65,6 @@ measure '1,000 words of 100, 100 replacements of none' '1000 of 1000' apart.aff 
 measure '1,000 words of 100 of syllables, no row' '1000 of 1000' short.aff syllables.dic syllables.text
 measure 'the same, 100 replacements in them' '1000 of 1000' syllables.aff syllables.dic syllables.text
 measure 'a word of 100, 100 replacements everywhere' '1 of 1' everywhere.aff short.dic one.text
+measure 'the same by 22 entries' '1 of 1' everywhere.aff many.dic one.text
 measure '1,000 words in capitals of four spellings' '1000 of 1000' sharps.aff flags.dic no-pairs.text
 measure 'the same of 66' '1000 of 1000' sharps.aff flags.dic pairs.text
