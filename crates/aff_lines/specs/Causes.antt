@@ -1,5 +1,6 @@
 -- What is wrong with one line.
-use Rattle.std.specs.Prelude.{ℕ, ◌^◌, Bool, true, ◌&&◌, nat_lt, List, map, is_some, slice_get, Option, None, Some, option_and_then, codes, if◌then◌else◌}
+use Rattle.std.specs.Prelude.{ℕ, ◌^◌, Bool, true, ◌&&◌, nat_lt, List, map, is_some, slice_get}
+use Rattle.std.specs.Prelude.{Option, None, Some, option_and_then, codes, if◌then◌else◌}
 use Rattle.std.specs.Char.{to_ascii_lowercase}
 use Rattle.std.specs.Str.{bytes_eq}
 use Rattle.text_lines.specs.Fields.{decimal_of}
@@ -8,7 +9,8 @@ use Rattle.spell_types.specs.declared.flags.FlagKind.{FlagKind}
 use Rattle.spell_types.specs.declared.flags.FlagKind.TheVariants.{Utf8, Long, Num}
 use Rattle.flag_sets.specs.FlagTexts.{listed_flags, one_flag}
 use Rattle.aff_lines.specs.declared.faults.AffWhy.{AffWhy}
-use Rattle.aff_lines.specs.declared.faults.AffWhy.TheVariants.{OtherEncoding, MissingField, BadNumber, OtherFlag, BadFlag}
+use Rattle.aff_lines.specs.declared.faults.AffWhy.TheVariants.{OtherEncoding, MissingField}
+use Rattle.aff_lines.specs.declared.faults.AffWhy.TheVariants.{BadNumber, OtherFlag, BadFlag}
 use Rattle.aff_lines.specs.declared.names.Form.{Form}
 use Rattle.aff_lines.specs.declared.names.Row.{Row}
 use Rattle.aff_lines.specs.declared.rows.DirectiveLine.{DirectiveLine}
@@ -32,7 +34,9 @@ kind_named text =
 
 -- the number that a text writes, if it is below 2^32
 abbrev pub number_in : List ℕ → Option ℕ
-number_in text = option_and_then (λ number. if nat_lt number (2 ^ 32) then Some number else None) (decimal_of text)
+number_in text =
+    option_and_then (λ number. if nat_lt number (2 ^ 32) then Some number else None)
+    (decimal_of text)
 
 -- whether a value is right for a directive that has one
 abbrev pub fits : FlagKind → Form → List ℕ → Bool
@@ -72,7 +76,8 @@ has_two_texts line = is_some (slice_get (fields line.text) 2)
 
 -- what is wrong with two texts that may have flags
 abbrev pub flagged_why : FlagKind → Option (List ℕ) → Option (List ℕ) → Option AffWhy
-flagged_why kind (Some first) (Some second) = unless (is_flagged kind first && is_flagged kind second) BadFlag
+flagged_why kind (Some first) (Some second) =
+    unless (is_flagged kind first && is_flagged kind second) BadFlag
 flagged_why kind _ _ = Some MissingField
 
 -- what is wrong with a row of two texts that may have flags, with any text behind them

@@ -4,7 +4,11 @@ use Rattle.line_faults.specs.Faults as order
 use Rattle.line_faults.specs.Faults.{IsFault, fault_at}
 use Rattle.line_faults.specs.declared.Fault.{Fault as LineFault}
 use Rattle.aff_lines.specs.declared.faults.AffWhy.{AffWhy}
-use Rattle.aff_lines.specs.declared.faults.AffWhy.TheVariants.{NotUtf8, OtherEncoding, LeftOut, MissingField, Twice, BadNumber, TooMany, TableShort, OtherFlag, BadCross, BadFlag, BadAlias, BadCondition, BadPattern}
+use Rattle.aff_lines.specs.declared.faults.AffWhy.TheVariants.{NotUtf8, OtherEncoding, LeftOut}
+use Rattle.aff_lines.specs.declared.faults.AffWhy.TheVariants.{MissingField, Twice, BadNumber}
+use Rattle.aff_lines.specs.declared.faults.AffWhy.TheVariants.{TooMany, TableShort, OtherFlag}
+use Rattle.aff_lines.specs.declared.faults.AffWhy.TheVariants.{BadCross, BadFlag, BadAlias}
+use Rattle.aff_lines.specs.declared.faults.AffWhy.TheVariants.{BadCondition, BadPattern}
 use Rattle.aff_lines.specs.declared.faults.AffFault.{AffFault}
 use Rattle.aff_lines.specs.declared.faults.AffFault.TheVariants.{At, NoMemory}
 

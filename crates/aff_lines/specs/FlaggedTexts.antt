@@ -1,5 +1,6 @@
 -- Texts that may have a flag: `text` or `text/flag`.
-use Rattle.std.specs.Prelude.{ℕ, Bool, true, List, is_some, Option, None, Some, option_and_then, if◌then◌else◌}
+use Rattle.std.specs.Prelude.{ℕ, Bool, true, List, is_some, Option, None, Some, option_and_then}
+use Rattle.std.specs.Prelude.{if◌then◌else◌}
 use Rattle.std.specs.List.{before_first, after_first, list_any}
 use Rattle.std.specs.Option.{option_map_or}
 use Rattle.spell_types.specs.declared.flags.Flag.{Flag}

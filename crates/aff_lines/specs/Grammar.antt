@@ -1,5 +1,6 @@
 -- The faults of the lines of one directive.
-use Rattle.std.specs.Prelude.{ℕ, ◌==◌, nat_le, List, [], ◌∷◌, ◌++◌, take, drop, length, Option, None, Some, if◌then◌else◌}
+use Rattle.std.specs.Prelude.{ℕ, ◌==◌, nat_le, List, [], ◌∷◌, ◌++◌, take, drop, length, Option}
+use Rattle.std.specs.Prelude.{None, Some, if◌then◌else◌}
 use Rattle.std.specs.List.{flat_map}
 use Rattle.spell_types.specs.declared.flags.FlagKind.{FlagKind}
 use Rattle.line_faults.specs.Faults.{fault_at}
@@ -25,10 +26,11 @@ later_faults kind form line = at Twice line ∷ faults_at (line_why kind form li
 
 abbrev pub once_faults : FlagKind → Form → List DirectiveLine → List Fault
 once_faults kind form [] = []
-once_faults kind form (first ∷ later) = faults_at (line_why kind form first) first ++ flat_map (later_faults kind form) later
+once_faults kind form (first ∷ later) =
+    faults_at (line_why kind form first) first ++ flat_map (later_faults kind form) later
 
--- A table: its first line is the header, so many lines as that says are its rows, and every line past them is
--- one too many.
+-- A table: its first line is the header, so many lines as that says are its rows, and every line
+-- past them is one too many.
 
 abbrev pub row_faults : FlagKind → Row → DirectiveLine → List Fault
 row_faults kind row line = faults_at (row_why kind row line) line
@@ -37,22 +39,26 @@ abbrev pub past_faults : DirectiveLine → List Fault
 past_faults line = at Twice line ∷ []
 
 abbrev pub rows_faults : FlagKind → Row → ℕ → List DirectiveLine → List Fault
-rows_faults kind row count lines = flat_map (row_faults kind row) (take count lines) ++ flat_map past_faults (drop count lines)
+rows_faults kind row count lines =
+    flat_map (row_faults kind row) (take count lines) ++ flat_map past_faults (drop count lines)
 
 -- the faults of a line behind a header where so many rows are still wanted
 abbrev pub place_faults : FlagKind → Row → ℕ → DirectiveLine → List Fault
 place_faults kind row left line = if left == 0 then past_faults line else row_faults kind row line
 
-abbrev pub counted_faults : FlagKind → Row → DirectiveLine → List DirectiveLine → Option ℕ → List Fault
+abbrev pub counted_faults : FlagKind → Row → DirectiveLine → List DirectiveLine → Option ℕ
+    → List Fault
 counted_faults kind row header later None = []
 counted_faults kind row header later (Some count) =
     faults_at (unless (nat_le count 65000) TooMany) header
-    ++ (faults_at (unless (nat_le count (length later)) TableShort) header ++ rows_faults kind row count later)
+    ++ (faults_at (unless (nat_le count (length later)) TableShort) header
+    ++ rows_faults kind row count later)
 
 abbrev pub table_faults : FlagKind → Row → List DirectiveLine → List Fault
 table_faults kind row [] = []
 table_faults kind row (header ∷ later) =
-    faults_at (line_why kind Form.Number header) header ++ counted_faults kind row header later (number_at header)
+    faults_at (line_why kind Form.Number header) header ++ counted_faults kind row header later
+    (number_at header)
 
 -- A directive that is not built: each line of it is a fault.
 

@@ -1,5 +1,6 @@
 -- The options of .aff files: one row of a table for each.
-use Rattle.std.specs.Prelude.{Bool, false, ◌||◌, List, [], ◌∷◌, ℕ, codes, Option, None, Some, filter, find, flat_map}
+use Rattle.std.specs.Prelude.{Bool, false, ◌||◌, List, [], ◌∷◌, ℕ, codes, Option, None, Some}
+use Rattle.std.specs.Prelude.{filter, find, flat_map}
 use Rattle.std.specs.Option.{option_map, option_copied, option_to_list}
 use Rattle.std.specs.Str.{bytes_eq}
 use denote.Enum.Bare.{sameb}
@@ -11,8 +12,8 @@ use Rattle.aff_lines.specs.declared.names.Form.{Form}
 use Rattle.aff_lines.specs.declared.names.Pass.{Pass}
 use Rattle.aff_lines.specs.declared.names.Row.TheVariants as Row
 
--- What is fixed of a directive: its names, the form of its lines, and the pass that looks at them. A directive that is
--- not built is left out.
+-- What is fixed of a directive: its names, the form of its lines, and the pass that looks at them.
+-- A directive that is not built is left out.
 pub record Description : Type 0 where
   pub directive : Directive
   pub name : List ℕ
@@ -37,7 +38,8 @@ all_directives =
     ∷ describes Directive.FlagAliases (codes "AF") None (Form.Table Row.FlagField) Pass.Third
     ∷ describes Directive.WordCharacters (codes "WORDCHARS") None Form.Text Pass.Fourth
     ∷ describes Directive.Ignore (codes "IGNORE") None Form.Text Pass.Fourth
-    ∷ describes Directive.NeedAffix (codes "NEEDAFFIX") (Some (codes "PSEUDOROOT")) Form.Flag Pass.Fourth
+    ∷ describes Directive.NeedAffix (codes "NEEDAFFIX") (Some (codes "PSEUDOROOT")) Form.Flag
+    Pass.Fourth
     ∷ describes Directive.Circumfix (codes "CIRCUMFIX") None Form.Flag Pass.Fourth
     ∷ describes Directive.ForbiddenWord (codes "FORBIDDENWORD") None Form.Flag Pass.Fourth
     ∷ describes Directive.KeepCase (codes "KEEPCASE") None Form.Flag Pass.Fourth
@@ -45,7 +47,8 @@ all_directives =
     ∷ describes Directive.CompoundFlag (codes "COMPOUNDFLAG") None Form.Flag Pass.Fourth
     ∷ describes Directive.CompoundBegin (codes "COMPOUNDBEGIN") None Form.Flag Pass.Fourth
     ∷ describes Directive.CompoundMiddle (codes "COMPOUNDMIDDLE") None Form.Flag Pass.Fourth
-    ∷ describes Directive.CompoundLast (codes "COMPOUNDLAST") (Some (codes "COMPOUNDEND")) Form.Flag Pass.Fourth
+    ∷ describes Directive.CompoundLast (codes "COMPOUNDLAST") (Some (codes "COMPOUNDEND")) Form.Flag
+    Pass.Fourth
     ∷ describes Directive.CompoundPermitFlag (codes "COMPOUNDPERMITFLAG") None Form.Flag Pass.Fourth
     ∷ describes Directive.CompoundForbidFlag (codes "COMPOUNDFORBIDFLAG") None Form.Flag Pass.Fourth
     ∷ describes Directive.OnlyInCompound (codes "ONLYINCOMPOUND") None Form.Flag Pass.Fourth
@@ -54,18 +57,24 @@ all_directives =
     ∷ describes Directive.CompoundWordMaximum (codes "COMPOUNDWORDMAX") None Form.Number Pass.Fourth
     ∷ describes Directive.FullStrip (codes "FULLSTRIP") None Form.Switch Pass.Fourth
     ∷ describes Directive.ForbidWarn (codes "FORBIDWARN") None Form.Switch Pass.Fourth
-    ∷ describes Directive.CompoundMoreSuffixes (codes "COMPOUNDMORESUFFIXES") None Form.Switch Pass.Fourth
-    ∷ describes Directive.CheckCompoundDuplicates (codes "CHECKCOMPOUNDDUP") None Form.Switch Pass.Fourth
+    ∷ describes Directive.CompoundMoreSuffixes (codes "COMPOUNDMORESUFFIXES") None Form.Switch
+    Pass.Fourth
+    ∷ describes Directive.CheckCompoundDuplicates (codes "CHECKCOMPOUNDDUP") None Form.Switch
+    Pass.Fourth
     ∷ describes Directive.CheckCompoundCase (codes "CHECKCOMPOUNDCASE") None Form.Switch Pass.Fourth
-    ∷ describes Directive.CheckCompoundTriple (codes "CHECKCOMPOUNDTRIPLE") None Form.Switch Pass.Fourth
+    ∷ describes Directive.CheckCompoundTriple (codes "CHECKCOMPOUNDTRIPLE") None Form.Switch
+    Pass.Fourth
     ∷ describes Directive.SimplifiedTriple (codes "SIMPLIFIEDTRIPLE") None Form.Switch Pass.Fourth
     ∷ describes Directive.CheckSharps (codes "CHECKSHARPS") None Form.Switch Pass.Fourth
-    ∷ describes Directive.CheckCompoundReplacements (codes "CHECKCOMPOUNDREP") None Form.Switch Pass.Fourth
+    ∷ describes Directive.CheckCompoundReplacements (codes "CHECKCOMPOUNDREP") None Form.Switch
+    Pass.Fourth
     ∷ describes Directive.InputConversion (codes "ICONV") None (Form.Table Row.TwoTexts) Pass.Fourth
     ∷ describes Directive.Replacement (codes "REP") None (Form.Table Row.TwoTexts) Pass.Fourth
     ∷ describes Directive.Break (codes "BREAK") None (Form.Table Row.OneText) Pass.Fourth
-    ∷ describes Directive.CompoundRule (codes "COMPOUNDRULE") None (Form.Table Row.OneText) Pass.Fourth
-    ∷ describes Directive.CheckCompoundPattern (codes "CHECKCOMPOUNDPATTERN") None (Form.Table Row.Joint) Pass.Fourth
+    ∷ describes Directive.CompoundRule (codes "COMPOUNDRULE") None (Form.Table Row.OneText)
+    Pass.Fourth
+    ∷ describes Directive.CheckCompoundPattern (codes "CHECKCOMPOUNDPATTERN") None
+    (Form.Table Row.Joint) Pass.Fourth
     ∷ describes Directive.Prefix (codes "PFX") None Form.Class Pass.Fourth
     ∷ describes Directive.Suffix (codes "SFX") None Form.Class Pass.Fourth
     ∷ describes Directive.ComplexPrefixes (codes "COMPLEXPREFIXES") None Form.LeftOut Pass.Fourth
@@ -75,7 +84,8 @@ all_directives =
 
 -- a row of the code's table
 abbrev pub description_of : Described → Description
-description_of row = describes row.directive row.name.now (option_copied row.other_name) row.form row.pass
+description_of row =
+    describes row.directive row.name.now (option_copied row.other_name) row.form row.pass
 
 abbrev pub directive_in : Description → Directive
 directive_in row = row.directive

@@ -1,5 +1,7 @@
 -- The faults of the passes, and what the first three of them say.
-use Rattle.std.specs.Prelude.{◌≡◌, ℕ, ◌==◌, Bool, not, length, List, [], ◌∷◌, ◌++◌, map, take, unwrap_or, Option, None, Some, option_and_then, Result, Ok, Err, if◌then◌else◌}
+use Rattle.std.specs.Prelude.{◌≡◌, ℕ, ◌==◌, Bool, not, length, List, [], ◌∷◌, ◌++◌, map, take}
+use Rattle.std.specs.Prelude.{unwrap_or, Option, None, Some, option_and_then, Result, Ok, Err}
+use Rattle.std.specs.Prelude.{if◌then◌else◌}
 use Rattle.std.specs.Borrow.{Bor}
 use Rattle.std.specs.List.{flat_map}
 use Rattle.text_lines.specs.Lines.{bad_line}
@@ -23,8 +25,8 @@ use Rattle.aff_lines.specs.Grammar.{once_faults, table_faults, all_left_out}
 use Rattle.aff_lines.specs.Rows.{rows_of, lines_of, value_of}
 use Rattle.aff_lines.specs.Names.{Description, is_of, directives_in}
 
--- The faults of a directive of this form that has these lines. A switch has none, and those of affix classes are asked
--- of the lines of both sides together, not here.
+-- The faults of a directive of this form that has these lines. A switch has none, and those of
+-- affix classes are asked of the lines of both sides together, not here.
 abbrev pub form_faults : FlagKind → Form → List DirectiveLine → List Fault
 form_faults kind Form.Encoding own = once_faults kind Form.Encoding own
 form_faults kind Form.Kind own = once_faults kind Form.Kind own
@@ -99,11 +101,13 @@ abbrev pub bad_faults : Option ℕ → List Fault
 bad_faults None = []
 bad_faults (Some line) = fault_at line NotUtf8 ∷ []
 
--- the faults of the first three passes over these rows, where this is the first line that is not UTF-8
+-- the faults of the first three passes over these rows, where this is the first line that is not
+-- UTF-8
 abbrev pub passes_of : Option ℕ → List DirectiveLine → List (List Fault)
 passes_of bad rows =
     let kind = kind_said (lines_of Directive.FlagType rows) in
-    (pass_faults kind rows Pass.First ++ bad_faults bad) ∷ pass_faults kind rows Pass.Second ∷ pass_faults kind rows Pass.Third ∷ []
+    (pass_faults kind rows Pass.First ++ bad_faults bad) ∷ pass_faults kind rows Pass.Second
+    ∷ pass_faults kind rows Pass.Third ∷ []
 
 -- the faults of the first three passes over a file
 abbrev pub early_passes : List ℕ → List (List Fault)
@@ -112,7 +116,8 @@ early_passes bytes = passes_of (bad_line bytes) (rows_of bytes)
 -- what the first three passes over a file without faults say
 pub record Says (bytes : List ℕ) (found : Directives) : Type 0 where
   pub kind : found.kind ≡ kind_said (lines_of Directive.FlagType (rows_of bytes))
-  pub aliases : found.aliases ≡ aliases_said found.kind (lines_of Directive.FlagAliases (rows_of bytes))
+  pub aliases : found.aliases ≡ aliases_said found.kind
+      (lines_of Directive.FlagAliases (rows_of bytes))
   pub kept : found.kept ≡ rows_of bytes
 
 -- the file has no fault in the first three passes, and this is what they say

@@ -1,5 +1,6 @@
 -- The lines of directives in an .aff file, and the lines of one directive.
-use Rattle.std.specs.Prelude.{◌≡◌, ℕ, ◌<◌, List, [], ◌∷◌, length, slice_get, Option, None, Some, option_and_then, Contains}
+use Rattle.std.specs.Prelude.{◌≡◌, ℕ, ◌<◌, List, [], ◌∷◌, length, slice_get, Option, None, Some}
+use Rattle.std.specs.Prelude.{option_and_then, Contains}
 use Rattle.std.specs.Borrow.{Bor}
 use Rattle.std.specs.List.{filter, filter_map}
 use Rattle.std.specs.Option.{option_map}
@@ -10,7 +11,8 @@ use Rattle.aff_lines.specs.declared.names.Directive.{Directive}
 use Rattle.aff_lines.specs.declared.rows.DirectiveLine.{DirectiveLine}
 use Rattle.aff_lines.specs.Names.{Description, all_directives, directive_named, is_same, names_of}
 
--- the directive that the first field of a line names; a blank line has no field, and the first of a comment is no name
+-- the directive that the first field of a line names; a blank line has no field, and the first of a
+-- comment is no name
 abbrev pub directive_of : List ℕ → Option Directive
 directive_of text = option_and_then directive_named (slice_get (fields text) 0)
 
@@ -34,18 +36,22 @@ lines_of directive rows = filter (λ row. is_same row.directive directive) rows
 
 -- the name is one of the directive's in the table
 abbrev pub IsNameOf : Directive → List ℕ → Type 0
-IsNameOf directive name = (row : Description) × Contains all_directives row × (row.directive ≡ directive) × Contains (names_of row) name
+IsNameOf directive name = (row : Description) × Contains all_directives row
+    × (row.directive ≡ directive) × Contains (names_of row) name
 
 -- the first field of the line is a name of the directive
 abbrev pub BeginsWith : Directive → List ℕ → Type 0
-BeginsWith directive text = (name : List ℕ) × (slice_get (fields text) 0 ≡ Some name) × IsNameOf directive name
+BeginsWith directive text =
+    (name : List ℕ) × (slice_get (fields text) 0 ≡ Some name) × IsNameOf directive name
 
 -- the field behind a line's name
 abbrev pub value_of : DirectiveLine → Option (List ℕ)
 value_of line = slice_get (fields line.text) 1
 
 -- the next line of a directive, and rows in which its other lines are; or it has none
-abbrev pub IsNext : Directive → List DirectiveLine → Option (Bor DirectiveLine × Bor (List DirectiveLine)) → Type 0
+abbrev pub IsNext : Directive → List DirectiveLine
+    → Option (Bor DirectiveLine × Bor (List DirectiveLine)) → Type 0
 IsNext directive rows None = lines_of directive rows ≡ []
 IsNext directive rows (Some (line, more)) =
-    (lines_of directive rows ≡ line.now ∷ lines_of directive more.now) × (length more.now < length rows)
+    (lines_of directive rows ≡ line.now ∷ lines_of directive more.now)
+    × (length more.now < length rows)

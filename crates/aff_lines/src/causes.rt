@@ -2,7 +2,9 @@
 
 ghost use Rattle.std.specs.Prelude.{◌≡◌, ◌<◌, ◌^◌, IfSome, option_and_then};
 ghost use Rattle.std.specs.Option.{option_copied};
-ghost use Rattle.aff_lines.specs.Causes.{is_utf8_name, kind_named, number_in, fits, misfit, unless, value_why, line_why, flags_why, has_two_texts, flagged_why, joint_why, row_why, number_at};
+ghost use Rattle.aff_lines.specs.Causes.{is_utf8_name, kind_named, number_in, fits, misfit, unless};
+ghost use Rattle.aff_lines.specs.Causes.{value_why, line_why, flags_why, has_two_texts};
+ghost use Rattle.aff_lines.specs.Causes.{flagged_why, joint_why, row_why, number_at};
 
 use crate::faults::AffWhy;
 use crate::flagged_texts::is_flagged;

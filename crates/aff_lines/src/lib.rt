@@ -1,16 +1,18 @@
 //! What an .aff file says before its affixes can be read: its encoding, its type of flags, its flag
 //! aliases, and the lines of all directives.
 //!
-//! Faults are looked for in passes. A directive is a row of a table with its names, its form and its pass;
-//! a line is kept with the directive that its first field names, and the faults and the values of a directive
-//! are asked of all its lines at once.
+//! Faults are looked for in passes. A directive is a row of a table with its names, its form and
+//! its pass; a line is kept with the directive that its first field names, and the faults and the
+//! values of a directive are asked of all its lines at once.
 #![tactic(auto)]
 
 ghost use Rattle.std.specs.Prelude.{◌≡◌, ◌++◌, ℕ, List, None, Some, All, IfOk, IfErr, IfSome};
 ghost use Rattle.spell_types.specs.Flags.{AreOrdinary};
 ghost use Rattle.line_faults.specs.Faults.{IsFault};
-ghost use Rattle.aff_lines.specs.Faults.{Fault, first_fault, least_of, FaultsJoin, FindsLeast, IsLeast, Refuses};
-ghost use Rattle.aff_lines.specs.Passes.{early_passes, passes_of, Says, Reads, IsFirst, bad_faults, pass_faults};
+ghost use Rattle.aff_lines.specs.Faults.{Fault, first_fault, least_of, FaultsJoin, FindsLeast};
+ghost use Rattle.aff_lines.specs.Faults.{IsLeast, Refuses};
+ghost use Rattle.aff_lines.specs.Passes.{early_passes, passes_of, Says, Reads, IsFirst, bad_faults};
+ghost use Rattle.aff_lines.specs.Passes.{pass_faults};
 ghost use Rattle.aff_lines.specs.declared.names.Pass.{Pass};
 
 use crate::rows::read_rows;
@@ -50,8 +52,8 @@ pub struct Directives {
     pub kept: Items<DirectiveLine>,
 }
 
-/// Reads the directives that are needed before all others, or tells the first fault of the first pass that
-/// has one: by line, and at one line by cause.
+/// Reads the directives that are needed before all others, or tells the first fault of the first
+/// pass that has one: by line, and at one line by cause.
 pub fn read_directives(alloc: Global, bytes: &[u8]) -> Result<Directives, AffFault>
     ensures read { IfOk result (Reads bytes.now) }
     ensures refused { IfErr result (Refuses (early_passes bytes.now)) }
@@ -126,8 +128,8 @@ pub fn first_faults_are_least()
     line_faults::first_faults_are_least::<AffWhy>();
 }
 
-/// The earliest fault of two lists of faults is the earlier of the earliest of each, and the earliest of one is its least
-/// fault, or there is none.
+/// The earliest fault of two lists of faults is the earlier of the earliest of each, and the
+/// earliest of one is its least fault, or there is none.
 pub fn earliest_faults()
     ensures join { FaultsJoin }
     ensures least { FindsLeast }

@@ -4,10 +4,12 @@ ghost use Rattle.std.specs.Prelude.{◌≡◌, ◌≢◌, ◌↔◌, List, ℕ, 
 ghost use Rattle.std.specs.Option.{option_copied};
 ghost use Rattle.aff_lines.specs.declared.names.Directive.{Directive};
 ghost use Rattle.aff_lines.specs.declared.names.Pass.{Pass};
-ghost use Rattle.aff_lines.specs.Names.{Description, description_of, directive_in, names_of, is_described, is_of, named_in, directive_named, all_directives, all_names, directives_in};
+ghost use Rattle.aff_lines.specs.Names.{Description, description_of, directive_in, names_of};
+ghost use Rattle.aff_lines.specs.Names.{is_described, is_of, named_in, directive_named};
+ghost use Rattle.aff_lines.specs.Names.{all_directives, all_names, directives_in};
 
-/// An option of hunspell(5) that an .aff file is read for, or refused for. A line that begins with another
-/// name is passed over.
+/// An option of hunspell(5) that an .aff file is read for, or refused for. A line that begins with
+/// another name is passed over.
 #[derive(Clone, Copy, Debug, PartialEq, Eq)]
 pub enum Directive {
     Set,
@@ -217,17 +219,21 @@ pub(crate) fn is_of(pass: Pass, row: &Described) -> bool
     row.pass == pass
 }
 
-/// No directive is forgotten: each has one row in the table. It is looked at in the pass of its row, and in no other.
+/// No directive is forgotten: each has one row in the table. It is looked at in the pass of its
+/// row, and in no other.
 pub fn every_directive_has_one_row()
-    ensures listed { (directive : Directive) → Contains (map directive_in all_directives) directive }
+    ensures listed { (directive : Directive)
+        → Contains (map directive_in all_directives) directive }
     ensures once { AllPairs (λ first other. first ≢ other) (map directive_in all_directives) }
     ensures passes { (pass : Pass) (row : Description)
         → Contains (directives_in pass) row ↔ (Contains all_directives row × (row.pass ≡ pass)) }
 {}
 
-/// No name stands twice in the table, so none belongs to two directives, and each is found as a name of its row's.
+/// No name stands twice in the table, so none belongs to two directives, and each is found as a
+/// name of its row's.
 pub fn no_name_stands_twice()
     ensures once { AllPairs (λ first other. first ≢ other) all_names }
-    ensures found { (row : Description) (name : List ℕ) → Contains all_directives row → Contains (names_of row) name
+    ensures found { (row : Description) (name : List ℕ) → Contains all_directives row
+        → Contains (names_of row) name
         → directive_named name ≡ Some row.directive }
 {}

@@ -5,7 +5,8 @@ ghost use Rattle.std.specs.Option.{option_copied};
 ghost use Rattle.aff_lines.specs.Faults.{least_of};
 ghost use Rattle.aff_lines.specs.Names.{description_of};
 ghost use Rattle.aff_lines.specs.Causes.{number_at};
-ghost use Rattle.aff_lines.specs.Grammar.{faults_at, once_faults, later_faults, rows_faults, place_faults, counted_faults, table_faults, all_left_out};
+ghost use Rattle.aff_lines.specs.Grammar.{faults_at, once_faults, later_faults, rows_faults};
+ghost use Rattle.aff_lines.specs.Grammar.{place_faults, counted_faults, table_faults, all_left_out};
 ghost use Rattle.aff_lines.specs.Passes.{form_faults, pass_faults, faults_in};
 ghost use Rattle.aff_lines.specs.Rows.{lines_of};
 
@@ -33,7 +34,8 @@ fn fault_among(
     pass: Pass,
     directives: &[Described],
 ) -> Option<Fault>
-    ensures { result ≡ least_of (flat_map (faults_in kind rows.now pass) (map description_of directives.now)) }
+    ensures { result
+        ≡ least_of (flat_map (faults_in kind rows.now pass) (map description_of directives.now)) }
 {
     let mut found = None;
     for described in directives {
@@ -148,7 +150,9 @@ fn counted_fault(
     header: &DirectiveLine,
     later: &[DirectiveLine],
 ) -> Option<Fault>
-    ensures { result ≡ least_of (counted_faults kind row header.now (lines_of directive later.now) (number_at header.now)) }
+    ensures { result
+        ≡ least_of (counted_faults kind row header.now (lines_of directive later.now)
+        (number_at header.now)) }
 {
     let count = number_at(header)?;
     let has_all = count <= count_of(directive, later) as u64;

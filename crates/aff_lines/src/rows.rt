@@ -1,10 +1,12 @@
 //! The lines of directives in an .aff file, and the lines of one directive.
 
-ghost use Rattle.std.specs.Prelude.{◌≡◌, ◌++◌, ◌↔◌, ℕ, List, Some, All, IfOk, OnOk, filter, filter_map, length};
+ghost use Rattle.std.specs.Prelude.{◌≡◌, ◌++◌, ◌↔◌, ℕ, List, Some, All, IfOk, OnOk, filter};
+ghost use Rattle.std.specs.Prelude.{filter_map, length};
 ghost use Rattle.std.specs.Option.{option_copied, option_to_list};
 ghost use Rattle.text_lines.specs.Lines.{IsInside};
 ghost use Rattle.aff_lines.specs.declared.names.Directive.{Directive};
-ghost use Rattle.aff_lines.specs.Rows.{row_of, row_in, row_with, directive_of, lines_of, value_of, BeginsWith, IsNext};
+ghost use Rattle.aff_lines.specs.Rows.{row_of, row_in, row_with, directive_of, lines_of, value_of};
+ghost use Rattle.aff_lines.specs.Rows.{BeginsWith, IsNext};
 
 use crate::names::{Directive, directive_named};
 use lists::{Copied, Items, NoMemory};
@@ -33,8 +35,8 @@ impl Copied for DirectiveLine {
     }
 }
 
-/// The lines that begin with a name of a directive. All others are passed over: blank lines, comments, since no name
-/// begins with `#`, and lines that begin with another name.
+/// The lines that begin with a name of a directive. All others are passed over: blank lines,
+/// comments, since no name begins with `#`, and lines that begin with another name.
 pub(crate) fn read_rows(
     alloc: Global,
     bytes: &[u8],

@@ -5,7 +5,8 @@ ghost use Rattle.std.specs.Option.{option_copied, option_map};
 ghost use Rattle.spell_types.specs.Flags.{IsOrdinary, AreOrdinary};
 ghost use Rattle.aff_lines.specs.declared.names.Directive.{Directive};
 ghost use Rattle.aff_lines.specs.Causes.{number_at};
-ghost use Rattle.aff_lines.specs.Passes.{value_said, flag_said, number_said, is_said, table_rows, lines_at, kind_said, set_in, aliases_said};
+ghost use Rattle.aff_lines.specs.Passes.{value_said, flag_said, number_said, is_said, table_rows};
+ghost use Rattle.aff_lines.specs.Passes.{lines_at, kind_said, set_in, aliases_said};
 ghost use Rattle.aff_lines.specs.Rows.{lines_of};
 
 use crate::causes::{kind_named, number_at, number_in};
@@ -47,13 +48,15 @@ pub fn is_said(directive: Directive, rows: &[DirectiveLine]) -> bool
     next_of(directive, rows).is_some()
 }
 
-/// The rows of a table, if it is there: of the lines behind its header the first, as many as that says.
+/// The rows of a table, if it is there: of the lines behind its header the first, as many as that
+/// says.
 pub fn table_rows<'a>(
     alloc: Global,
     directive: Directive,
     rows: &'a [DirectiveLine],
 ) -> Result<Option<Items<&'a DirectiveLine>>, NoMemory>
-    ensures { IfOk result (λ found. option_map lines_at found ≡ table_rows (lines_of directive rows.now)) }
+    ensures { IfOk result
+        (λ found. option_map lines_at found ≡ table_rows (lines_of directive rows.now)) }
 {
     let Some((header, later)) = next_of(directive, rows) else {
         return Ok(None);
@@ -101,7 +104,8 @@ pub(crate) fn read_aliases(
     kind: FlagKind,
     rows: &[DirectiveLine],
 ) -> Result<Option<Items<FlagSet>>, NoMemory>
-    ensures said { IfOk result (λ aliases. aliases ≡ aliases_said kind (lines_of Directive.FlagAliases rows.now)) }
+    ensures said { IfOk result
+        (λ aliases. aliases ≡ aliases_said kind (lines_of Directive.FlagAliases rows.now)) }
     ensures ordinary { IfOk result (λ aliases. IfSome aliases (All AreOrdinary)) }
 {
     match table_rows(alloc, Directive::FlagAliases, rows)? {

@@ -1,5 +1,6 @@
 -- The first fault of the early passes and one more, and what is read of a file.
-use Rattle.std.proofs.Common.{◌≡◌, ℕ, Bool, true, false, cond, List, [], ◌∷◌, ◌++◌, Option, Some, None, Result, Ok, Err, IfOk, IfErr, refl, sym, ap, subst, ◌∙◌}
+use Rattle.std.proofs.Common.{◌≡◌, ℕ, Bool, true, false, cond, List, [], ◌∷◌, ◌++◌, Option, Some}
+use Rattle.std.proofs.Common.{None, Result, Ok, Err, IfOk, IfErr, refl, sym, ap, subst, ◌∙◌}
 use Rattle.std.specs.Option.{option_or}
 use Rattle.std.specs.Result.{IsErrAnd}
 use Rattle.lists.specs.Laws.{or-none, or-assoc}
@@ -13,18 +14,23 @@ use Rattle.line_faults.specs.Faults.{IsFault}
 use Rattle.aff_lines.specs.Faults.{Fault, least_of, first_fault, is_before, sooner, IsLeast}
 use Rattle.aff_lines.specs.Passes.{early_passes, IsFirst}
 use Rattle.aff_lines.specs.Rows.{rows_of}
-use Rattle.aff_reader.specs.Grammar.{kind_of, aliases_of, late_faults, aff_passes, aff_said, unless_fault, aff_read, AffReads, AffRefuses, IsRead}
+use Rattle.aff_reader.specs.Grammar.{kind_of, aliases_of, late_faults, aff_passes, aff_said}
+use Rattle.aff_reader.specs.Grammar.{unless_fault, aff_read, AffReads, AffRefuses, IsRead}
 
 -- a pass behind others decides where they have no fault
-pub first_behind : (passes : List (List Fault)) (late : List Fault) → first_fault (passes ++ late ∷ []) ≡ option_or (first_fault passes) (least_of late)
+pub first_behind : (passes : List (List Fault)) (late : List Fault)
+    → first_fault (passes ++ late ∷ []) ≡ option_or (first_fault passes) (least_of late)
 first_behind [] late = or-none (least_of late)
 first_behind (faults ∷ passes) late =
-    ap (option_or (least_of faults)) (first_behind passes late) ∙ or-assoc (least_of faults) (first_fault passes) (least_of late)
+    ap (option_or (least_of faults)) (first_behind passes late)
+    ∙ or-assoc (least_of faults) (first_fault passes) (least_of late)
 
 -- a file whose first fault is one of the fourth pass
-pub read_late : (bytes : List ℕ) (kind : FlagKind) (aliases : Option (List (List Flag))) (rows : List DirectiveLine) (fault : Fault)
+pub read_late : (bytes : List ℕ) (kind : FlagKind) (aliases : Option (List (List Flag)))
+    (rows : List DirectiveLine) (fault : Fault)
     → kind ≡ kind_of bytes → aliases ≡ aliases_of bytes → rows ≡ rows_of bytes
-    → first_fault (early_passes bytes) ≡ None → least_of (late_faults kind aliases rows) ≡ Some fault → aff_read bytes ≡ Err fault
+    → first_fault (early_passes bytes) ≡ None → least_of (late_faults kind aliases rows)
+    ≡ Some fault → aff_read bytes ≡ Err fault
 unfolding aff_read
 read_late bytes kind aliases rows fault same_kind same_aliases same_rows fine late =
     let whole = late_faults (kind_of bytes) (aliases_of bytes) (rows_of bytes) in
@@ -33,10 +39,12 @@ read_late bytes kind aliases rows fault same_kind same_aliases same_rows fine la
     ∙ ap (λ a. late_faults kind a (rows_of bytes)) (sym same_aliases)
     ∙ ap (late_faults kind aliases) (sym same_rows) in
     ap (λ found. unless_fault found (aff_said bytes))
-    (first_behind (early_passes bytes) whole ∙ ap (λ found. option_or found (least_of whole)) fine ∙ ap least_of own ∙ late)
+    (first_behind (early_passes bytes) whole ∙ ap (λ found. option_or found (least_of whole)) fine
+    ∙ ap least_of own ∙ late)
 
 -- a file whose first fault is one of the early passes
-pub read_early : (bytes : List ℕ) (fault : AffFault) → IsFirst (early_passes bytes) fault → IsRead (aff_read bytes) (Err fault)
+pub read_early : (bytes : List ℕ) (fault : AffFault) → IsFirst (early_passes bytes) fault
+    → IsRead (aff_read bytes) (Err fault)
 unfolding aff_read
 read_early bytes NoMemory first = tt
 read_early bytes (At line why) first =
@@ -45,7 +53,8 @@ read_early bytes (At line why) first =
     (first_behind (early_passes bytes) whole ∙ ap (λ found. option_or found (least_of whole)) first)
 
 -- a fault that is handed on
-pub handed : {T : Type 0} (P : Result T AffFault → Type 0) (result : Result T AffFault) (fault : AffFault) → IsErrAnd result (λ given. given ≡ fault) → P (Err fault) → P result
+pub handed : {T : Type 0} (P : Result T AffFault → Type 0) (result : Result T AffFault)
+    (fault : AffFault) → IsErrAnd result (λ given. given ≡ fault) → P (Err fault) → P result
 handed P (Ok made) fault same told = absurd same
 handed P (Err given) fault same told = subst (λ own. P (Err own)) (sym same) told
 
@@ -61,16 +70,20 @@ later_none (Some first) (Some other) none = absurd (some-or-some (is_before othe
 
 -- what is read, taken apart
 
-read-ok : (found : Option Fault) (said affixes : Affixes) → unless_fault found said ≡ Ok affixes → (found ≡ None) × (affixes ≡ said)
+read-ok : (found : Option Fault) (said affixes : Affixes) → unless_fault found said ≡ Ok affixes
+    → (found ≡ None) × (affixes ≡ said)
 read-ok None said affixes is = (refl, cc is)
 read-ok (Some fault) said affixes is = absurd (cc is)
 
-read-err : (found : Option Fault) (said : Affixes) (fault : Fault) → unless_fault found said ≡ Err fault → found ≡ Some fault
+read-err : (found : Option Fault) (said : Affixes) (fault : Fault)
+    → unless_fault found said ≡ Err fault → found ≡ Some fault
 read-err None said fault is = absurd (cc is)
 read-err (Some first) said fault is = cc is
 
-pub reads_as_said : (bytes : List ℕ) (result : Result Affixes AffFault) → IsRead (aff_read bytes) result
-    → ((passes : List (List Fault)) → first_fault passes ≡ None → (pass : ℕ) (fault : Fault) → ¬ IsFault passes pass fault)
+pub reads_as_said : (bytes : List ℕ) (result : Result Affixes AffFault)
+    → IsRead (aff_read bytes) result
+    → ((passes : List (List Fault)) → first_fault passes ≡ None → (pass : ℕ) (fault : Fault)
+    → ¬ IsFault passes pass fault)
     → IfOk result (AffReads bytes)
 unfolding aff_read
 reads_as_said bytes (Ok affixes) is law =
@@ -78,12 +91,15 @@ reads_as_said bytes (Ok affixes) is law =
     record { no_fault = law (aff_passes bytes) apart.0; says = apart.1 }
 reads_as_said bytes (Err fault) is law = tt
 
-pub refuses_at_first : (bytes : List ℕ) (result : Result Affixes AffFault) → IsRead (aff_read bytes) result
-    → ((passes : List (List Fault)) (fault : Fault) → first_fault passes ≡ Some fault → (pass : ℕ) × IsLeast (IsFault passes pass) fault)
+pub refuses_at_first : (bytes : List ℕ) (result : Result Affixes AffFault)
+    → IsRead (aff_read bytes) result
+    → ((passes : List (List Fault)) (fault : Fault) → first_fault passes ≡ Some fault → (pass : ℕ)
+    × IsLeast (IsFault passes pass) fault)
     → IfErr result (AffRefuses bytes)
 unfolding aff_read
 refuses_at_first bytes (Ok affixes) is law = tt
 refuses_at_first bytes (Err NoMemory) is law = tt
 refuses_at_first bytes (Err (At line why)) is law =
     let fault : Fault = record { line = line; why = why } in
-    law (aff_passes bytes) fault (read-err (first_fault (aff_passes bytes)) (aff_said bytes) fault is)
+    law (aff_passes bytes) fault
+    (read-err (first_fault (aff_passes bytes)) (aff_said bytes) fault is)

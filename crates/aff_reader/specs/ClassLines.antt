@@ -1,5 +1,7 @@
 -- The lines of affix classes, and what each of them is in its class.
-use Rattle.std.specs.Prelude.{◌≡◌, ℕ, Bool, true, false, ◌==◌, ◌&&◌, ◌-◌, List, [], ◌∷◌, ◌++◌, length, filter, codes, slice_get, Option, None, Some, option_and_then, if◌then◌else◌}
+use Rattle.std.specs.Prelude.{◌≡◌, ℕ, Bool, true, false, ◌==◌, ◌&&◌, ◌-◌, List, [], ◌∷◌, ◌++◌}
+use Rattle.std.specs.Prelude.{length, filter, codes, slice_get, Option, None, Some, option_and_then}
+use Rattle.std.specs.Prelude.{if◌then◌else◌}
 use Rattle.std.specs.BTreeMap.{BTreeMap, get}
 use Rattle.std.specs.Option.{option_map}
 use Rattle.std.specs.Ordering.{nat_cmp}
@@ -64,7 +66,8 @@ is_text word (Some text) = bytes_eq word text
 
 -- whether a header lets the rules of its class be crossed
 abbrev pub crossing_of : DirectiveLine → Crossing
-crossing_of header = if is_text (codes "Y") (field_of header 2) then Crossing.Allowed else Crossing.Barred
+crossing_of header =
+    if is_text (codes "Y") (field_of header 2) then Crossing.Allowed else Crossing.Barred
 
 abbrev pub is_allowed : Crossing → Bool
 is_allowed Crossing.Allowed = true
@@ -74,14 +77,17 @@ is_allowed Crossing.Barred = false
 unfoldable pub count_of : DirectiveLine → Option ℕ
 count_of header = option_and_then number_in (field_of header 3)
 
--- how many of the rules that a header announces are wanted still, where so many lines stand behind it
+-- how many of the rules that a header announces are wanted still, where so many lines stand behind
+-- it
 abbrev pub wanted_behind : ℕ → Option ℕ → Option ℕ
 wanted_behind behind count = option_map (λ n. n - behind) count
 
 -- what the first lines of a class come to: there is none, or the first is its header
 abbrev pub standing_of : List DirectiveLine → Option ClassSoFar
 standing_of [] = None
-standing_of (header ∷ behind) = Some (record { crossing = crossing_of header; wanted = wanted_behind (length behind) (count_of header) })
+standing_of (header ∷ behind) =
+    Some (record
+    { crossing = crossing_of header; wanted = wanted_behind (length behind) (count_of header) })
 
 -- what a line behind the header is, where so many rules are wanted still
 abbrev pub role_wanted : Crossing → Option ℕ → Role
@@ -94,19 +100,23 @@ role_after None = Header
 role_after (Some standing) = role_wanted standing.crossing standing.wanted
 
 abbrev pub placed_in : FlagKind → List DirectiveLine → Class → Placed
-placed_in kind before class = record { class = class; role = role_after (standing_of (lines_in kind class before)) }
+placed_in kind before class =
+    record { class = class; role = role_after (standing_of (lines_in kind class before)) }
 
 -- the class of a line, and what the line is in it; these are the lines before it
 unfoldable pub placed_after : FlagKind → List DirectiveLine → DirectiveLine → Option Placed
 placed_after kind before line = option_map (placed_in kind before) (class_of kind line)
 
--- what is made of some lines, each seen with all lines before it; before the first of them stand these
-abbrev pub each_after : {A : Type 0} → (List DirectiveLine → DirectiveLine → List A) → List DirectiveLine → List DirectiveLine → List A
+-- what is made of some lines, each seen with all lines before it; before the first of them stand
+-- these
+abbrev pub each_after : {A : Type 0} → (List DirectiveLine → DirectiveLine → List A)
+    → List DirectiveLine → List DirectiveLine → List A
 each_after f before [] = []
 each_after f before (line ∷ more) = f before line ++ each_after f (before ++ line ∷ []) more
 
 -- what is kept of a class, by its flag, for each side
-abbrev pub standing_on : Side → BTreeMap ℕ ClassSoFar → BTreeMap ℕ ClassSoFar → ℕ → Option ClassSoFar
+abbrev pub standing_on : Side → BTreeMap ℕ ClassSoFar → BTreeMap ℕ ClassSoFar → ℕ
+    → Option ClassSoFar
 standing_on Side.Prefix prefixes suffixes flag = get nat_cmp prefixes flag
 standing_on Side.Suffix prefixes suffixes flag = get nat_cmp suffixes flag
 

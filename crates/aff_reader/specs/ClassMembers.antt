@@ -14,9 +14,10 @@ use Rattle.aff_reader.specs.ClassRules.{rule_of}
 abbrev pub is_rule_of : Class → Rule → Bool
 is_rule_of class rule = is_same_class class (class_with rule.side rule.flag)
 
--- The rules that the lines of a class say: the first line is the header, and so many lines behind it as that announces
--- are its rules. The header says for all of them whether they may be crossed.
+-- The rules that the lines of a class say: the first line is the header, and so many lines behind
+-- it as that announces are its rules. The header says for all of them whether they may be crossed.
 abbrev pub rules_in : FlagKind → Option (List (List Flag)) → Class → List DirectiveLine → List Rule
 rules_in kind aliases class [] = []
 rules_in kind aliases class (header ∷ behind) =
-    filter_map (λ line. result_ok (rule_of kind aliases class (crossing_of header) line)) (take (unwrap_or (count_of header) 0) behind)
+    filter_map (λ line. result_ok (rule_of kind aliases class (crossing_of header) line))
+    (take (unwrap_or (count_of header) 0) behind)

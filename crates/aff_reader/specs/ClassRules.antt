@@ -1,5 +1,6 @@
 -- The rule that a line says.
-use Rattle.std.specs.Prelude.{ℕ, Bool, List, [], ◌∷◌, nat_eq, unwrap_or, Option, None, Some, Result, Ok, Err, if◌then◌else◌}
+use Rattle.std.specs.Prelude.{ℕ, Bool, List, [], ◌∷◌, nat_eq, unwrap_or, Option, None, Some, Result}
+use Rattle.std.specs.Prelude.{Ok, Err, if◌then◌else◌}
 use Rattle.std.specs.Cmp.Lexicographic.{pointwise}
 use Rattle.std.specs.Str.{chars}
 use Rattle.spell_types.specs.declared.flags.FlagKind.{FlagKind}
@@ -42,7 +43,8 @@ set_or_cause (Err NoAlias) = Err BadAlias
 set_or_cause (Err _) = Err BadFlag
 
 -- the set of the flags behind the slash; without a slash there are none
-abbrev pub carried_of : FlagKind → Option (List (List Flag)) → Option (List ℕ) → Result (List Flag) AffWhy
+abbrev pub carried_of : FlagKind → Option (List (List Flag)) → Option (List ℕ)
+    → Result (List Flag) AffWhy
 carried_of kind aliases None = Ok []
 carried_of kind aliases (Some text) = set_or_cause (flag_field kind aliases text)
 
@@ -52,23 +54,37 @@ asked_of None = Some []
 asked_of (Some text) = condition_of text
 
 -- a rule, where its flags and its condition are right, or the first cause
-abbrev pub rule_with : Class → Crossing → List ℕ → List ℕ → Result (List Flag) AffWhy → Option (List Piece) → Result Rule AffWhy
+abbrev pub rule_with : Class → Crossing → List ℕ → List ℕ → Result (List Flag) AffWhy
+    → Option (List Piece) → Result Rule AffWhy
 rule_with class crossing strip add (Err why) condition = Err why
 rule_with class crossing strip add (Ok carried) None = Err BadCondition
 rule_with class crossing strip add (Ok carried) (Some condition) =
-    Ok (record { side = class.side; flag = class.flag; cross = is_allowed crossing; strip = strip; add = add; carried = carried; condition = condition })
+    Ok (record {
+      side = class.side;
+      flag = class.flag;
+      cross = is_allowed crossing;
+      strip = strip;
+      add = add;
+      carried = carried;
+      condition = condition;
+    })
 
 -- the rule of a class whose fields 2, 3 and 4 are these texts
-unfoldable pub rule_from : FlagKind → Option (List (List Flag)) → Class → Crossing → List ℕ → List ℕ → Option (List ℕ) → Result Rule AffWhy
+unfoldable pub rule_from : FlagKind → Option (List (List Flag)) → Class → Crossing → List ℕ → List ℕ
+    → Option (List ℕ) → Result Rule AffWhy
 rule_from kind aliases class crossing strip affix condition =
-    rule_with class crossing (strip_of strip) (add_of affix) (carried_of kind aliases (behind_slash affix)) (asked_of condition)
+    rule_with class crossing (strip_of strip) (add_of affix)
+    (carried_of kind aliases (behind_slash affix)) (asked_of condition)
 
 -- the rule that a line of a class says, or what is wrong with it
-abbrev pub rule_of : FlagKind → Option (List (List Flag)) → Class → Crossing → DirectiveLine → Result Rule AffWhy
+abbrev pub rule_of : FlagKind → Option (List (List Flag)) → Class → Crossing → DirectiveLine
+    → Result Rule AffWhy
 rule_of kind aliases class crossing line =
-    rule_from kind aliases class crossing (unwrap_or (field_of line 2) []) (unwrap_or (field_of line 3) []) (field_of line 4)
+    rule_from kind aliases class crossing (unwrap_or (field_of line 2) [])
+    (unwrap_or (field_of line 3) []) (field_of line 4)
 
--- the rule without the characters to ignore: they are left out of what it strips off and adds, and kept in its condition
+-- the rule without the characters to ignore: they are left out of what it strips off and adds, and
+-- kept in its condition
 abbrev pub rule_without : List ℕ → Rule → Rule
 rule_without ignore rule = record {
   side = rule.side;

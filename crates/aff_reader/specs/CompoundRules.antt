@@ -27,7 +27,8 @@ pattern_from kind text = rule_or_cause (pattern_of kind text)
 
 -- what is wrong with the text of a row of COMPOUNDRULE, if it has one
 abbrev pub pattern_why : FlagKind → DirectiveLine → Option AffWhy
-pattern_why kind row = option_and_then (λ text. result_err (pattern_from kind text)) (field_of row 1)
+pattern_why kind row =
+    option_and_then (λ text. result_err (pattern_from kind text)) (field_of row 1)
 
 -- the fault of the text of a row
 abbrev pub text_faults : FlagKind → DirectiveLine → List Fault

@@ -1,5 +1,6 @@
 -- What the tables of an .aff file say of compounds.
-use Rattle.std.specs.Prelude.{ℕ, ◌==◌, Bool, List, map, codes, nat_eq, Option, None, Some, option_and_then, if◌then◌else◌}
+use Rattle.std.specs.Prelude.{ℕ, ◌==◌, Bool, List, map, codes, nat_eq, Option, None, Some}
+use Rattle.std.specs.Prelude.{option_and_then, if◌then◌else◌}
 use Rattle.std.specs.List.{starts_with}
 use Rattle.std.specs.Str.{chars}
 use Rattle.spell_types.specs.declared.conversions.Rep.{Rep}

@@ -1,5 +1,6 @@
 -- The grammar of the .aff file: the faults of its four passes, and what it says.
-use Rattle.std.specs.Prelude.{◌≡◌, ℕ, List, [], ◌∷◌, ◌++◌, map, max, Option, None, Some, Result, Ok, Err, unwrap_or}
+use Rattle.std.specs.Prelude.{◌≡◌, ℕ, List, [], ◌∷◌, ◌++◌, map, max, Option, None, Some, Result, Ok}
+use Rattle.std.specs.Prelude.{Err, unwrap_or}
 use Rattle.std.specs.Str.{chars}
 use Rattle.spell_types.specs.declared.Affixes.{Affixes}
 use Rattle.spell_types.specs.declared.flags.Flag.{Flag}
@@ -13,7 +14,8 @@ use Rattle.aff_lines.specs.declared.names.Pass.TheVariants as Pass
 use Rattle.aff_lines.specs.declared.rows.DirectiveLine.{DirectiveLine}
 use Rattle.line_faults.specs.Faults.{IsFault}
 use Rattle.aff_lines.specs.Faults.{Fault, first_fault, Refuses}
-use Rattle.aff_lines.specs.Passes.{early_passes, pass_faults, kind_said, aliases_said, flag_said, number_said, is_said, value_said}
+use Rattle.aff_lines.specs.Passes.{early_passes, pass_faults, kind_said, aliases_said, flag_said}
+use Rattle.aff_lines.specs.Passes.{number_said, is_said, value_said}
 use Rattle.aff_lines.specs.Rows.{rows_of, lines_of}
 use Rattle.aff_reader.specs.ClassRules.{rule_without}
 use Rattle.aff_reader.specs.Classes.{class_faults, rules_said}
@@ -29,14 +31,18 @@ kind_of bytes = kind_said (lines_of Directive.FlagType (rows_of bytes))
 abbrev pub aliases_of : List ℕ → Option (List (List Flag))
 aliases_of bytes = aliases_said (kind_of bytes) (lines_of Directive.FlagAliases (rows_of bytes))
 
--- the faults of the fourth pass: those of each option, those of compound rules, and those of affix classes
+-- the faults of the fourth pass: those of each option, those of compound rules, and those of affix
+-- classes
 abbrev pub late_faults : FlagKind → Option (List (List Flag)) → List DirectiveLine → List Fault
 late_faults kind aliases rows =
-    pass_faults kind rows Pass.Fourth ++ (pattern_faults kind (lines_of Directive.CompoundRule rows) ++ class_faults kind aliases rows)
+    pass_faults kind rows Pass.Fourth
+    ++ (pattern_faults kind (lines_of Directive.CompoundRule rows)
+    ++ class_faults kind aliases rows)
 
 -- the faults of a file, pass by pass
 abbrev pub aff_passes : List ℕ → List (List Fault)
-aff_passes bytes = early_passes bytes ++ late_faults (kind_of bytes) (aliases_of bytes) (rows_of bytes) ∷ []
+aff_passes bytes =
+    early_passes bytes ++ late_faults (kind_of bytes) (aliases_of bytes) (rows_of bytes) ∷ []
 
 -- the flags with a meaning
 abbrev pub signs_said : FlagKind → List DirectiveLine → Signs
@@ -56,7 +62,8 @@ signs_said kind rows = record {
   force_upper = flag_said kind (lines_of Directive.ForceUpperCase rows);
 }
 
--- how many characters a part of a compound has at least: three if the file doesn't say, and never none
+-- how many characters a part of a compound has at least: three if the file doesn't say, and never
+-- none
 abbrev pub compound_min_said : Option ℕ → ℕ
 compound_min_said number = max 1 (unwrap_or number 3)
 
@@ -118,7 +125,8 @@ pub record AffReads (bytes : List ℕ) (affixes : Affixes) : Type 0 where
   pub no_fault : (pass : ℕ) (fault : Fault) → ¬ IsFault (aff_passes bytes) pass fault
   pub says : affixes ≡ aff_said bytes
 
--- the fault is the first of the file: of the first pass that has one, at the lowest line, and there of the lowest cause
+-- the fault is the first of the file: of the first pass that has one, at the lowest line, and there
+-- of the lowest cause
 abbrev pub AffRefuses : List ℕ → AffFault → Type 0
 AffRefuses bytes fault = Refuses (aff_passes bytes) fault
 

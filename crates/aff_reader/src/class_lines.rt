@@ -1,12 +1,16 @@
 //! The lines of affix classes, and what each of them is in its class.
 
-ghost use Rattle.std.specs.Prelude.{◌≡◌, ◌++◌, ◌∷◌, [], List, Option, Some, OnOk, IfOk, IfSome, if◌then◌else◌};
+ghost use Rattle.std.specs.Prelude.{◌≡◌, ◌++◌, ◌∷◌, [], List, Option, Some, OnOk, IfOk, IfSome};
+ghost use Rattle.std.specs.Prelude.{if◌then◌else◌};
 ghost use Rattle.std.specs.Option.{option_copied};
 ghost use Rattle.spell_types.specs.declared.flags.FlagKind.{FlagKind};
 ghost use Rattle.spell_types.specs.Flags.{IsOrdinary};
 ghost use Rattle.aff_lines.specs.declared.rows.DirectiveLine.{DirectiveLine};
 ghost use Rattle.aff_reader.specs.declared.class_lines.Class.{Class};
-ghost use Rattle.aff_reader.specs.ClassLines.{field_of, side_of, flag_at, class_of, is_same_class, is_text, crossing_of, is_allowed, count_of, standing_of, role_after, placed_after, standing_in, Knows};
+ghost use Rattle.aff_reader.specs.ClassLines.{field_of, side_of, flag_at, class_of, is_same_class};
+ghost use Rattle.aff_reader.specs.ClassLines.{is_text, crossing_of, is_allowed, count_of};
+ghost use Rattle.aff_reader.specs.ClassLines.{standing_of, role_after, placed_after, standing_in};
+ghost use Rattle.aff_reader.specs.ClassLines.{Knows};
 
 use aff_lines::{Directive, DirectiveLine, number_in};
 use flag_sets::read_one_flag;
@@ -101,7 +105,8 @@ impl Classes {
             → OnOk result (Knows kind (before ++ line.now ∷ []) self.new) }
         ensures placed { (before : List DirectiveLine) → Knows kind before self.old
             → IfOk result (λ placed. placed ≡ placed_after kind before line.now) }
-        ensures ordinary { IfOk result (λ found. IfSome found (λ placed. IsOrdinary placed.class.flag)) }
+        ensures ordinary { IfOk result
+            (λ found. IfSome found (λ placed. IsOrdinary placed.class.flag)) }
     {
         let Some(class) = class_of(kind, line) else {
             return Ok(None);
@@ -138,7 +143,8 @@ impl Classes {
 
 /// What the lines of a class come to with one line more.
 fn with_line(standing: Option<ClassSoFar>, line: &DirectiveLine) -> ClassSoFar
-    ensures { (own : List DirectiveLine) → standing ≡ standing_of own → Some result ≡ standing_of (own ++ line.now ∷ []) }
+    ensures { (own : List DirectiveLine) → standing ≡ standing_of own
+        → Some result ≡ standing_of (own ++ line.now ∷ []) }
 {
     match standing {
         None => ClassSoFar {

@@ -4,7 +4,8 @@ ghost use Rattle.std.specs.Prelude.{◌≡◌, All, IfOk, IfSome};
 ghost use Rattle.std.specs.Option.{option_copied};
 ghost use Rattle.spell_types.specs.Flags.{IsOrdinary, AreOrdinary};
 ghost use Rattle.spell_types.specs.Sanity.{IsOrdinaryRule};
-ghost use Rattle.aff_reader.specs.ClassRules.{is_zero, unless_zero, carried_of, asked_of, rule_of, rule_without};
+ghost use Rattle.aff_reader.specs.ClassRules.{is_zero, unless_zero, carried_of, asked_of, rule_of};
+ghost use Rattle.aff_reader.specs.ClassRules.{rule_without};
 
 use crate::class_lines::{Class, Crossing, field_of};
 use aff_lines::{AffWhy, DirectiveLine};
@@ -15,7 +16,8 @@ use lists::{Items, NoMemory};
 use spell_types::{Chars, Condition, FlagKind, FlagSet, Rule, chars_of};
 use std::alloc::Global;
 
-/// The rule that a line of a class says, or what is wrong with it. The rules of the class may be crossed or not.
+/// The rule that a line of a class says, or what is wrong with it. The rules of the class may be
+/// crossed or not.
 #[tactic(auto, unfolding(crate::specs::ClassRules::rule_from))]
 pub(crate) fn read_rule(
     alloc: Global,
@@ -25,8 +27,10 @@ pub(crate) fn read_rule(
     crossing: Crossing,
     line: &DirectiveLine,
 ) -> Result<Result<Rule, AffWhy>, NoMemory>
-    ensures rule { IfOk result (λ read. read ≡ rule_of kind (option_copied aliases.entry) class crossing line.now) }
-    ensures ordinary { IfSome (option_copied aliases.entry) (All AreOrdinary) → IsOrdinary class.flag
+    ensures rule { IfOk result
+        (λ read. read ≡ rule_of kind (option_copied aliases.entry) class crossing line.now) }
+    ensures ordinary { IfSome (option_copied aliases.entry) (All AreOrdinary)
+        → IsOrdinary class.flag
         → IfOk result (λ read. IfOk read IsOrdinaryRule) }
 {
     let strip = field_of(line, 2).unwrap_or("");

@@ -1,6 +1,7 @@
 //! The affix classes of an .aff file: their faults, and their rules.
 
-ghost use Rattle.std.specs.Prelude.{◌≡◌, ◌++◌, ◌∷◌, ◌<◌, ◌≤◌, ◌^◌, List, [], length, filter, map, All, Option, None, Some, OnOk, IfOk, IfSome};
+ghost use Rattle.std.specs.Prelude.{◌≡◌, ◌++◌, ◌∷◌, ◌<◌, ◌≤◌, ◌^◌, List, [], length, filter, map};
+ghost use Rattle.std.specs.Prelude.{All, Option, None, Some, OnOk, IfOk, IfSome};
 ghost use Rattle.std.specs.Option.{option_copied};
 ghost use Rattle.spell_types.specs.declared.flags.Flag.{Flag};
 ghost use Rattle.spell_types.specs.declared.flags.FlagKind.{FlagKind};
@@ -9,10 +10,14 @@ ghost use Rattle.spell_types.specs.Sanity.{IsOrdinaryRule};
 ghost use Rattle.aff_lines.specs.declared.rows.DirectiveLine.{DirectiveLine};
 ghost use Rattle.aff_lines.specs.Faults.{least_of};
 ghost use Rattle.aff_reader.specs.declared.class_lines.Class.{Class};
-ghost use Rattle.aff_reader.specs.ClassLines.{side_of, lines_in, count_of, standing_of, each_after, Knows};
+ghost use Rattle.aff_reader.specs.ClassLines.{side_of, lines_in, count_of, standing_of, each_after};
+ghost use Rattle.aff_reader.specs.ClassLines.{Knows};
 ghost use Rattle.aff_reader.specs.ClassMembers.{is_rule_of, rules_in};
 ghost use Rattle.aff_reader.specs.ClassRules.{rule_without};
-ghost use Rattle.aff_reader.specs.Classes.{says_cross, has_rules, header_faults, role_faults, side_faults, line_faults, heads, announced_by, total_faults, many_faults, rule_limit, class_faults, placed_rules, rules_said};
+ghost use Rattle.aff_reader.specs.Classes.{says_cross, has_rules, header_faults, role_faults};
+ghost use Rattle.aff_reader.specs.Classes.{side_faults, line_faults, heads, announced_by};
+ghost use Rattle.aff_reader.specs.Classes.{total_faults, many_faults, rule_limit, class_faults};
+ghost use Rattle.aff_reader.specs.Classes.{placed_rules, rules_said};
 
 use crate::class_lines::{ClassSoFar, Classes, Placed, Role, count_of, field_of, is_text, side_of};
 use crate::class_rules::{read_rule, without_ignored};
@@ -41,8 +46,9 @@ pub(crate) fn class_fault(
     Ok(sooner(fault, many_fault(alloc, kind, MOST_RULES, rows)?))
 }
 
-/// The rules of all affix classes in the order of the file, without the characters to ignore, for lines in which
-/// `class_fault` finds no fault. Where it finds none they are at most as many as the headers may announce.
+/// The rules of all affix classes in the order of the file, without the characters to ignore, for
+/// lines in which `class_fault` finds no fault. Where it finds none they are at most as many as the
+/// headers may announce.
 #[tactic(auto, unfolding(crate::specs::Classes::rules_said))]
 pub(crate) fn read_rules(
     alloc: Global,
@@ -52,10 +58,12 @@ pub(crate) fn read_rules(
     rows: &[DirectiveLine],
 ) -> Result<Items<Rule>, NoMemory>
     ensures rules { IfOk result
-        (λ rules. rules ≡ map (rule_without ignore.now) (rules_said kind (option_copied aliases.entry) rows.now)) }
+        (λ rules. rules ≡ map (rule_without ignore.now)
+        (rules_said kind (option_copied aliases.entry) rows.now)) }
     ensures few { least_of (class_faults kind (option_copied aliases.entry) rows.now) ≡ None
         → IfOk result (λ rules. length rules ≤ rule_limit) }
-    ensures ordinary { IfSome (option_copied aliases.entry) (All AreOrdinary) → IfOk result (All IsOrdinaryRule) }
+    ensures ordinary { IfSome (option_copied aliases.entry) (All AreOrdinary)
+        → IfOk result (All IsOrdinaryRule) }
 {
     earliest_faults();
     let mut classes = Classes::new(alloc);
@@ -67,15 +75,19 @@ pub(crate) fn read_rules(
     Ok(rules)
 }
 
-/// The rules of a class among those that the lines of all classes say are those that its own lines say: as many of them
-/// as the header announces, the next behind it. This holds for lines with faults, too. Where no line has a fault they are
-/// exactly so many.
+/// The rules of a class among those that the lines of all classes say are those that its own lines
+/// say: as many of them as the header announces, the next behind it. This holds for lines with
+/// faults, too. Where no line has a fault they are exactly so many.
 pub fn classes_have_their_rules()
-    ensures members { (kind : FlagKind) (aliases : Option (List (List Flag))) (class : Class) (rows : List DirectiveLine)
-        → filter (is_rule_of class) (rules_said kind aliases rows) ≡ rules_in kind aliases class (lines_in kind class rows) }
-    ensures count { (kind : FlagKind) (aliases : Option (List (List Flag))) (class : Class) (rows : List DirectiveLine) (header : DirectiveLine) (behind : List DirectiveLine)
+    ensures members { (kind : FlagKind) (aliases : Option (List (List Flag))) (class : Class)
+        (rows : List DirectiveLine)
+        → filter (is_rule_of class) (rules_said kind aliases rows) ≡ rules_in kind aliases class
+        (lines_in kind class rows) }
+    ensures count { (kind : FlagKind) (aliases : Option (List (List Flag))) (class : Class)
+        (rows : List DirectiveLine) (header : DirectiveLine) (behind : List DirectiveLine)
         → class_faults kind aliases rows ≡ [] → lines_in kind class rows ≡ header ∷ behind
-        → count_of header ≡ Some (length (filter (is_rule_of class) (rules_said kind aliases rows))) }
+        → count_of header
+        ≡ Some (length (filter (is_rule_of class) (rules_said kind aliases rows))) }
 {}
 
 /// What the lines say of each class.
@@ -99,7 +111,8 @@ fn lines_fault(
 ) -> Result<Option<Fault>, NoMemory>
     requires { Knows kind rows.now all.now }
     ensures { IfOk result (λ fault. fault
-        ≡ least_of (each_after (line_faults kind (option_copied aliases.entry) rows.now) [] rows.now)) }
+        ≡ least_of (each_after (line_faults kind (option_copied aliases.entry) rows.now) []
+        rows.now)) }
 {
     earliest_faults();
     let mut classes = Classes::new(alloc);
@@ -122,7 +135,8 @@ fn line_fault(
     placed: Option<Placed>,
 ) -> Result<Option<Fault>, NoMemory>
     ensures { (rows : List DirectiveLine) → Knows kind rows all.now → IfOk result (λ fault. fault
-        ≡ least_of (side_faults kind (option_copied aliases.entry) rows line.now placed (side_of line.now.directive))) }
+        ≡ least_of (side_faults kind (option_copied aliases.entry) rows line.now placed
+        (side_of line.now.directive))) }
 {
     if side_of(line.directive).is_none() {
         return Ok(None);
@@ -153,7 +167,8 @@ fn role_fault(
     placed: Placed,
 ) -> Result<Option<Fault>, NoMemory>
     ensures { IfOk result (λ fault. fault
-        ≡ least_of (role_faults kind (option_copied aliases.entry) standing line.now placed.class placed.role)) }
+        ≡ least_of (role_faults kind (option_copied aliases.entry) standing line.now placed.class
+        placed.role)) }
 {
     match placed.role {
         Role::Header => Ok(header_fault(standing, line)),
@@ -273,7 +288,9 @@ fn push_rule(
     placed: Option<Placed>,
 ) -> Result<(), NoMemory>
     ensures rules { OnOk result (rules.new
-        ≡ rules.old ++ map (rule_without ignore.now) (placed_rules kind (option_copied aliases.entry) line.now placed)) }
+        ≡ rules.old
+        ++ map (rule_without ignore.now)
+        (placed_rules kind (option_copied aliases.entry) line.now placed)) }
     ensures ordinary { IfSome (option_copied aliases.entry) (All AreOrdinary)
         → IfSome placed (λ placed. IsOrdinary placed.class.flag)
         → All IsOrdinaryRule rules.old → OnOk result (All IsOrdinaryRule rules.new) }

@@ -7,7 +7,8 @@ ghost use Rattle.aff_lines.specs.declared.names.Directive.{Directive};
 ghost use Rattle.aff_lines.specs.Faults.{least_of};
 ghost use Rattle.aff_lines.specs.Passes.{lines_at};
 ghost use Rattle.aff_lines.specs.Rows.{lines_of};
-ghost use Rattle.aff_reader.specs.CompoundRules.{pattern_from, pattern_why, text_faults, pattern_faults, pattern_in};
+ghost use Rattle.aff_reader.specs.CompoundRules.{pattern_from, pattern_why, text_faults};
+ghost use Rattle.aff_reader.specs.CompoundRules.{pattern_faults, pattern_in};
 
 use crate::class_lines::field_of;
 use crate::row_values::RowValue;
@@ -25,7 +26,8 @@ pub(crate) fn pattern_fault(
     rows: &[DirectiveLine],
 ) -> Result<Option<Fault>, NoMemory>
     ensures { IfOk result
-        (λ fault. fault ≡ least_of (pattern_faults kind (lines_of Directive.CompoundRule rows.now))) }
+        (λ fault. fault
+        ≡ least_of (pattern_faults kind (lines_of Directive.CompoundRule rows.now))) }
 {
     match table_rows(alloc, Directive::CompoundRule, rows)? {
         Some(listed) => listed_fault(alloc, kind, &listed),
@@ -57,7 +59,8 @@ fn listed_fault(
     kind: FlagKind,
     rows: &[&DirectiveLine],
 ) -> Result<Option<Fault>, NoMemory>
-    ensures { IfOk result (λ fault. fault ≡ least_of (flat_map (text_faults kind) (lines_at rows.now))) }
+    ensures { IfOk result
+        (λ fault. fault ≡ least_of (flat_map (text_faults kind) (lines_at rows.now))) }
 {
     earliest_faults();
     let mut found = None;

@@ -2,7 +2,8 @@
 
 ghost use Rattle.std.specs.Prelude.{◌≡◌, ◌<◌, Some, length, IfOk};
 ghost use Rattle.spell_types.specs.Sanity.{IsOrdinaryJoint};
-ghost use Rattle.aff_reader.specs.CompoundTables.{meant_by, spaced, rep_of, rep_in, is_remark, replacement_in, joint_with, joint_in};
+ghost use Rattle.aff_reader.specs.CompoundTables.{meant_by, spaced, rep_of, rep_in, is_remark};
+ghost use Rattle.aff_reader.specs.CompoundTables.{replacement_in, joint_with, joint_in};
 
 use crate::anchored_texts::read_anchored;
 use crate::class_lines::field_of;

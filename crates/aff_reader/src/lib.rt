@@ -1,4 +1,5 @@
-//! Reads the .aff file of a dictionary: its options, by the rules of hunspell(5), or its first fault.
+//! Reads the .aff file of a dictionary: its options, by the rules of hunspell(5), or its first
+//! fault.
 #![tactic(auto)]
 
 ghost use Rattle.std.specs.Prelude.{◌≡◌, ◌≤◌, ◌<◌, All, None, length, IfOk, IfErr, IfSome};
@@ -7,7 +8,9 @@ ghost use Rattle.spell_types.specs.Flags.{AreOrdinary};
 ghost use Rattle.spell_types.specs.Sanity.{AreSaneAffixes, AreOrdinarySigns, HasOrdinaryFlags};
 ghost use Rattle.aff_lines.specs.Faults.{least_of};
 ghost use Rattle.aff_reader.specs.Classes.{rule_limit, class_faults};
-ghost use Rattle.aff_reader.specs.Grammar.{AffReads, AffRefuses, IsRead, aff_read, late_faults, affixes_said, signs_said, compound_min_said, options_said, characters_said};
+ghost use Rattle.aff_reader.specs.Grammar.{AffReads, AffRefuses, IsRead, aff_read, late_faults};
+ghost use Rattle.aff_reader.specs.Grammar.{affixes_said, signs_said, compound_min_said};
+ghost use Rattle.aff_reader.specs.Grammar.{options_said, characters_said};
 
 use aff_lines::{
     AffFault, Directive, DirectiveLine, Directives, Fault, Pass, earliest_faults, find_fault,
@@ -35,9 +38,10 @@ mod tables;
 /// How many characters a part of a compound has at least where the file doesn't say.
 const PART_LENGTH: u32 = 3;
 
-/// Reads the file, or tells its first fault. Faults are looked for in four passes: the encoding, with lines
-/// that are not UTF-8; the type of flags; the flag aliases; all other options. The first pass that has a fault
-/// decides, in it the lowest line, and on a line the cause that stands first in `AffWhy`.
+/// Reads the file, or tells its first fault. Faults are looked for in four passes: the encoding,
+/// with lines that are not UTF-8; the type of flags; the flag aliases; all other options. The first
+/// pass that has a fault decides, in it the lowest line, and on a line the cause that stands first
+/// in `AffWhy`.
 pub fn read_aff(alloc: Global, bytes: &[u8]) -> Result<Affixes, AffFault>
     ensures read { IfOk result (AffReads bytes.now) }
     ensures refused { IfErr result (AffRefuses bytes.now) }
@@ -81,8 +85,11 @@ fn late_fault(
     aliases: Option<&[FlagSet]>,
     rows: &[DirectiveLine],
 ) -> Result<Option<Fault>, NoMemory>
-    ensures least { IfOk result (λ fault. fault ≡ least_of (late_faults kind (option_copied aliases.entry) rows.now)) }
-    ensures classes { IfOk result (λ fault. fault ≡ None → least_of (class_faults kind (option_copied aliases.entry) rows.now) ≡ None) }
+    ensures least { IfOk result
+        (λ fault. fault ≡ least_of (late_faults kind (option_copied aliases.entry) rows.now)) }
+    ensures classes { IfOk result
+        (λ fault. fault ≡ None → least_of (class_faults kind (option_copied aliases.entry) rows.now)
+        ≡ None) }
 {
     earliest_faults();
     let rules = pattern_fault(alloc, kind, rows)?;
@@ -164,8 +171,8 @@ fn options_of(rows: &[DirectiveLine]) -> Options
     }
 }
 
-/// How many characters a part of a compound has at least, by the number that the file has: three if it has none,
-/// and never none.
+/// How many characters a part of a compound has at least, by the number that the file has: three if
+/// it has none, and never none.
 fn compound_min_of(number: Option<u32>) -> u32
     ensures number { result ≡ compound_min_said number }
     ensures some { 0 < result }

@@ -15,7 +15,8 @@ use std::alloc::Global;
 
 /// A value that a row of a table says.
 pub(crate) trait RowValue: Drop + Sized {
-    /// What a row says, where flags are of this type. In a file without faults each row says a value.
+    /// What a row says, where flags are of this type. In a file without faults each row says a
+    /// value.
     ghost said_in: { FlagKind → DirectiveLine → Option Self };
 
     /// What holds of each value that is read.
@@ -38,7 +39,8 @@ pub(crate) fn read_table<T: RowValue>(
     directive: Directive,
     rows: &[DirectiveLine],
 ) -> Result<Items<T>, NoMemory>
-    ensures said { IfOk result (λ values. values ≡ table_said (T.said_in kind) (lines_of directive rows.now)) }
+    ensures said { IfOk result
+        (λ values. values ≡ table_said (T.said_in kind) (lines_of directive rows.now)) }
     ensures sound { IfOk result (All T.IsSound) }
 {
     match table_rows(alloc, directive, rows)? {
@@ -53,7 +55,8 @@ pub(crate) fn read_listed<T: RowValue>(
     kind: FlagKind,
     rows: &[&DirectiveLine],
 ) -> Result<Items<T>, NoMemory>
-    ensures said { IfOk result (λ values. values ≡ filter_map (T.said_in kind) (lines_at rows.now)) }
+    ensures said { IfOk result
+        (λ values. values ≡ filter_map (T.said_in kind) (lines_at rows.now)) }
     ensures sound { IfOk result (All T.IsSound) }
 {
     let mut values = Items::new(alloc);
@@ -70,7 +73,8 @@ fn push_row<T: RowValue>(
     kind: FlagKind,
     row: &DirectiveLine,
 ) -> Result<(), NoMemory>
-    ensures said { OnOk result (values.new ≡ values.old ++ option_to_list (T.said_in kind row.now)) }
+    ensures said { OnOk result
+        (values.new ≡ values.old ++ option_to_list (T.said_in kind row.now)) }
     ensures sound { All T.IsSound values.old → OnOk result (All T.IsSound values.new) }
 {
     if let Some(value) = T::read_row(alloc, kind, row)? {

@@ -1,10 +1,12 @@
-//! What the rows of tables in an .aff file say: of conversions, and of places where words may be broken.
+//! What the rows of tables in an .aff file say: of conversions, and of places where words may be
+//! broken.
 
 ghost use Rattle.std.specs.Prelude.{◌≡◌, ◌<◌, ℕ, List, Some, All, length, IfOk};
 ghost use Rattle.std.specs.Str.{chars};
 ghost use Rattle.aff_lines.specs.declared.names.Directive.{Directive};
 ghost use Rattle.aff_lines.specs.Rows.{lines_of};
-ghost use Rattle.aff_reader.specs.Tables.{text_at, conversion_in, break_in, default_breaks, breaks_said};
+ghost use Rattle.aff_reader.specs.Tables.{text_at, conversion_in, break_in, default_breaks};
+ghost use Rattle.aff_reader.specs.Tables.{breaks_said};
 
 use crate::anchored_texts::read_anchored;
 use crate::class_lines::field_of;

@@ -1,4 +1,5 @@
-//! Affedit checks the spelling of a text by a Hunspell dictionary, and prints where its words are unknown.
+//! Affedit checks the spelling of a text by a Hunspell dictionary, and prints where its words are
+//! unknown.
 #![tactic(auto)]
 
 use command_line::{put_wanting, run};
@@ -7,7 +8,8 @@ use std::env::{self, Env};
 use std::io::{self, ErrorKind};
 use std::process::ExitCode;
 
-/// The arguments without the program's name; none where one of them is not UTF-8, so that they are of no form.
+/// The arguments without the program's name; none where one of them is not UTF-8, so that they are
+/// of no form.
 fn words_of<R: Env + AllocGlobal>(rt: &R) -> io::Result<Vec<String>> {
     match arguments(rt) {
         Err(error) if !is_wanting(&error) => Ok(Vec::new(rt.alloc())),

@@ -1,5 +1,6 @@
 -- The word that an affix rule was attached to.
-use Rattle.std.specs.Prelude.{ℕ, ◌-◌, Bool, ◌&&◌, List, ◌++◌, length, take, drop, nat_eq, Option, None, Some, if◌then◌else◌}
+use Rattle.std.specs.Prelude.{ℕ, ◌-◌, Bool, ◌&&◌, List, ◌++◌, length, take, drop, nat_eq, Option}
+use Rattle.std.specs.Prelude.{None, Some, if◌then◌else◌}
 use Rattle.std.specs.List.{starts_with, ends_with}
 use Rattle.spell_types.specs.declared.rules.Rule.{Rule}
 use Rattle.spell_types.specs.declared.rules.Side.{Side}
@@ -19,13 +20,17 @@ prefix_put_back rule word = rule.strip ++ drop (length rule.add) word
 abbrev pub undone_suffix : Bool → Rule → List ℕ → Option (List ℕ)
 undone_suffix full_strip rule word =
     let stem = suffix_put_back rule word in
-    if ends_with nat_eq word rule.add && (may_strip full_strip rule stem && fits_back rule.condition stem) then Some stem else None
+    if ends_with nat_eq word rule.add
+    && (may_strip full_strip rule stem && fits_back rule.condition stem) then Some stem
+    else None
 
 -- that word, where the prefix rule may be attached to it
 abbrev pub undone_prefix : Bool → Rule → List ℕ → Option (List ℕ)
 undone_prefix full_strip rule word =
     let stem = prefix_put_back rule word in
-    if starts_with nat_eq word rule.add && (may_strip full_strip rule stem && fits_front rule.condition stem) then Some stem else None
+    if starts_with nat_eq word rule.add
+    && (may_strip full_strip rule stem && fits_front rule.condition stem) then Some stem
+    else None
 
 -- the word that becomes this one when the rule is attached to it, on a side
 abbrev pub undone_on : Side → Bool → Rule → List ℕ → Option (List ℕ)

@@ -1,9 +1,12 @@
 //! The text of a condition, read.
 
-ghost use Rattle.std.specs.Prelude.{◌≡◌, ◌≢◌, ℕ, ◌≤◌, false, List, [], ◌∷◌, ◌++◌, length, Some, None, IfOk, IfErr};
+ghost use Rattle.std.specs.Prelude.{◌≡◌, ◌≢◌, ℕ, ◌≤◌, false, List, [], ◌∷◌, ◌++◌, length, Some};
+ghost use Rattle.std.specs.Prelude.{None, IfOk, IfErr};
 ghost use Rattle.std.specs.List.{AllByRecursion, position};
 ghost use Rattle.std.specs.Str.{chars};
-ghost use Rattle.affix_classes.specs.ConditionTexts.{opens, closes, plain_piece, bracket_piece, first_piece, followed_by, pieces_of, condition_of};
+ghost use Rattle.affix_classes.specs.ConditionTexts.{opens, closes, plain_piece, bracket_piece};
+ghost use Rattle.affix_classes.specs.ConditionTexts.{first_piece, followed_by, pieces_of};
+ghost use Rattle.affix_classes.specs.ConditionTexts.{condition_of};
 
 use lists::{Items, NoMemory};
 use spell_types::{Chars, Condition, Piece};
@@ -42,14 +45,15 @@ pub fn read_condition(alloc: Global, text: &str) -> Result<Condition, ConditionF
     read_pieces(alloc, &characters)
 }
 
-/// A text is read piece by piece: a bracket ends at the first `]` behind it, and a text with a bracket that
-/// no `]` closes is no condition.
+/// A text is read piece by piece: a bracket ends at the first `]` behind it, and a text with a
+/// bracket that no `]` closes is no condition.
 pub fn conditions_are_read_by_pieces()
     ensures end { pieces_of [] ≡ Some [] }
     ensures plain { (c : ℕ) (text : List ℕ) → opens c ≡ false
         → pieces_of (c ∷ text) ≡ followed_by (plain_piece c) (pieces_of text) }
     ensures bracket { (inside text : List ℕ) → AllByRecursion (λ c. closes c ≡ false) inside
-        → pieces_of (91 ∷ (inside ++ 93 ∷ text)) ≡ followed_by (bracket_piece inside) (pieces_of text) }
+        → pieces_of (91 ∷ (inside ++ 93 ∷ text)) ≡ followed_by (bracket_piece inside)
+        (pieces_of text) }
     ensures unclosed { (text : List ℕ) → AllByRecursion (λ c. closes c ≡ false) text
         → pieces_of (91 ∷ text) ≡ None }
 {}

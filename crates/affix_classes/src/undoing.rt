@@ -10,7 +10,8 @@ use lists::NoMemory;
 use spell_types::{Chars, Rule, Side, joined, matches_back, matches_front};
 use std::alloc::Global;
 
-/// The word that becomes this one when the suffix rule is attached to it, or none where there is no such word.
+/// The word that becomes this one when the suffix rule is attached to it, or none where there is no
+/// such word.
 pub fn undo_suffix(
     alloc: Global,
     rule: &Rule,
@@ -24,7 +25,8 @@ pub fn undo_suffix(
     suffix_stem(alloc, rule, full_strip, word)
 }
 
-/// The word that becomes this one when the prefix rule is attached to it, or none where there is no such word.
+/// The word that becomes this one when the prefix rule is attached to it, or none where there is no
+/// such word.
 pub fn undo_prefix(
     alloc: Global,
     rule: &Rule,
@@ -38,8 +40,8 @@ pub fn undo_prefix(
     prefix_stem(alloc, rule, full_strip, word)
 }
 
-/// What is undone on the rule's side is the one word that becomes this one when the rule is attached to it, and there is
-/// such a word exactly where one is undone.
+/// What is undone on the rule's side is the one word that becomes this one when the rule is
+/// attached to it, and there is such a word exactly where one is undone.
 pub fn undoing_leads_back()
     ensures { (full_strip : Bool) (rule : Rule) (word : List ℕ) →
         IsUndone (attached full_strip rule) word (undone_on rule.side full_strip rule word) }

@@ -1,12 +1,16 @@
 -- What a visitor is shown, one thing after another.
-use Rattle.std.proofs.Common.{◌≡◌, ◌↔◌, ◌⊎◌, inl, inr, refl, sym, subst, ℕ, ◌+◌, ◌<◌, ◌≤◌, Bool, true, false, true≢false, List, [], ◌∷◌, ◌++◌, length, take, take_all, get_or, Contains, Result, Ok, Err, IfOk, arith}
+use Rattle.std.proofs.Common.{◌≡◌, ◌↔◌, ◌⊎◌, inl, inr, refl, sym, subst, ℕ, ◌+◌, ◌<◌, ◌≤◌, Bool}
+use Rattle.std.proofs.Common.{true, false, true≢false, List, [], ◌∷◌, ◌++◌, length, take, take_all}
+use Rattle.std.proofs.Common.{get_or, Contains, Result, Ok, Err, IfOk, arith}
 use Rattle.std.proofs.lemmas.List.{take_more}
-use Rattle.std.proofs.lemmas.List.Elements.{Contains-append_left, Contains-get_or, Contains-push, Contains-push_cases}
+use Rattle.std.proofs.lemmas.List.Elements.{Contains-append_left, Contains-get_or, Contains-push}
+use Rattle.std.proofs.lemmas.List.Elements.{Contains-push_cases}
 use Rattle.spell_types.specs.declared.derivations.Derivation.{Derivation}
 use Rattle.affix_strip.specs.Parts.{Sight, AtSome, Shows}
 
 -- there was nothing to show
-pub shows-none : {P : Derivation → Type 0} {before : Sight} → ((d : Derivation) → P d → ⊥) → Shows P before before false
+pub shows-none : {P : Derivation → Type 0} {before : Sight} → ((d : Derivation) → P d → ⊥)
+    → Shows P before before false
 shows-none {P} {before} none = record {
   ended = λ is. absurd (true≢false (sym is));
   passed = λ is d. (λ inside. inl inside, λ either. back d either);
@@ -19,17 +23,24 @@ shows-none {P} {before} none = record {
 
 module _ {P Q : Derivation → Type 0} {before now : Sight} {b : Bool} where
   -- one of those that more holds for ended the walk
-  pub shows-end : ((d : Derivation) → P d → Q d) → Shows P before now b → b ≡ true → Shows Q before now true
+  pub shows-end : ((d : Derivation) → P d → Q d) → Shows P before now b → b ≡ true
+      → Shows Q before now true
   shows-end so shown over = record {
-    ended = λ is. let end = shown.ended over in record { at = end.at; sought = so end.at end.sought; ends = end.ends };
+    ended = λ is. let end =
+        shown.ended over in
+        record { at = end.at; sought = so end.at end.sought; ends = end.ends };
     passed = λ is. absurd (true≢false is);
     same = λ is. absurd (true≢false is);
   }
 
   pub shows-same : ((d : Derivation) → P d ↔ Q d) → Shows P before now b → Shows Q before now b
   shows-same same shown = record {
-    ended = λ is. let end = shown.ended is in record { at = end.at; sought = (same end.at).0 end.sought; ends = end.ends };
-    passed = λ is d. (λ inside. there d ((shown.passed is d).0 inside), λ either. (shown.passed is d).1 (back d either));
+    ended = λ is. let end = shown.ended is in
+        record { at = end.at; sought = (same end.at).0 end.sought; ends = end.ends };
+    passed = λ is d. (
+      λ inside. there d ((shown.passed is d).0 inside),
+      λ either. (shown.passed is d).1 (back d either),
+    );
     same = shown.same;
   }
     where
@@ -42,17 +53,31 @@ module _ {P Q : Derivation → Type 0} {before now : Sight} {b : Bool} where
       back d (inr holds) = inr ((same d).1 holds)
 
 -- the same of the answer of a call
-pub answer-same : {P Q : Derivation → Type 0} (before now : Sight) {E : Type 0} (result : Result Bool E) → ((d : Derivation) → P d ↔ Q d) → IfOk result (Shows P before now) → IfOk result (Shows Q before now)
+pub answer-same : {P Q : Derivation → Type 0} (before now : Sight) {E : Type 0}
+    (result : Result Bool E) → ((d : Derivation) → P d ↔ Q d) → IfOk result (Shows P before now)
+    → IfOk result (Shows Q before now)
 answer-same before now (Ok b) same shown = shows-same same shown
 answer-same before now (Err why) same shown = tt
 
 -- one thing was shown and did not end the walk, and then another
 module _ {P Q R : Derivation → Type 0} {before between now : Sight} {a b : Bool} where
-  pub shows-then : ((d : Derivation) → (P d ⊎ Q d) ↔ R d) → Shows P before between a → a ≡ false → Shows Q between now b → Shows R before now b
+  pub shows-then : ((d : Derivation) → (P d ⊎ Q d) ↔ R d) → Shows P before between a → a ≡ false
+      → Shows Q between now b → Shows R before now b
   shows-then both one on two = record {
-    ended = λ is. let end = two.ended is in record { at = end.at; sought = (both end.at).0 (inr end.sought); ends = (one.same on end.at).1 end.ends };
-    passed = λ is d. (λ inside. there d ((two.passed is d).0 inside), λ either. (two.passed is d).1 (back d either));
-    same = λ is d. (λ ends. (two.same is d).0 ((one.same on d).0 ends), λ ends. (one.same on d).1 ((two.same is d).1 ends));
+    ended = λ is. let end = two.ended is in
+        record {
+          at = end.at;
+          sought = (both end.at).0 (inr end.sought);
+          ends = (one.same on end.at).1 end.ends;
+        };
+    passed = λ is d. (
+      λ inside. there d ((two.passed is d).0 inside),
+      λ either. (two.passed is d).1 (back d either),
+    );
+    same = λ is d. (
+      λ ends. (two.same is d).0 ((one.same on d).0 ends),
+      λ ends. (one.same on d).1 ((two.same is d).1 ends),
+    );
   }
     where
       front : (d : Derivation) → before.passed d ⊎ P d → before.passed d ⊎ R d
@@ -71,7 +96,9 @@ module _ {P Q R : Derivation → Type 0} {before between now : Sight} {a b : Boo
       back d (inl inside) = inl ((one.passed on d).1 (inl inside))
       back d (inr holds) = split d ((both d).1 holds)
 
-pub answer-then : {P Q R : Derivation → Type 0} {before between : Sight} (now : Sight) {a : Bool} {E : Type 0} (result : Result Bool E) → ((d : Derivation) → (P d ⊎ Q d) ↔ R d) → Shows P before between a → a ≡ false
+pub answer-then : {P Q R : Derivation → Type 0} {before between : Sight} (now : Sight) {a : Bool}
+    {E : Type 0} (result : Result Bool E) → ((d : Derivation) → (P d ⊎ Q d) ↔ R d)
+    → Shows P before between a → a ≡ false
     → IfOk result (Shows Q between now) → IfOk result (Shows R before now)
 answer-then now (Ok b) both one on two = shows-then both one on two
 answer-then now (Err why) both one on two = tt
@@ -84,25 +111,39 @@ module _ {X : Type 0} (P : X → Derivation → Type 0) where
       none : {item : X} → Contains [] item → ⊥
       none (k, within, at) = omega (arith, within)
 
-  pub loop-first : {before : Sight} (items : List X) → Shows (AtSome P (take 0 items)) before before false
+  pub loop-first : {before : Sight} (items : List X)
+      → Shows (AtSome P (take 0 items)) before before false
   loop-first items = shows-none none-of-none
 
-  some-more : (items : List X) (item : X) (d : Derivation) → (AtSome P items d ⊎ P item d) ↔ AtSome P (items ++ item ∷ []) d
-  some-more items item d = (λ either. there either, λ some. back some (Contains-push_cases items item some.item some.among))
+  some-more : (items : List X) (item : X) (d : Derivation) → (AtSome P items d ⊎ P item d)
+      ↔ AtSome P (items ++ item ∷ []) d
+  some-more items item d = (
+    λ either. there either,
+    λ some. back some (Contains-push_cases items item some.item some.among),
+  )
     where
       there : AtSome P items d ⊎ P item d → AtSome P (items ++ item ∷ []) d
-      there (inl some) = record { item = some.item; among = Contains-append_left items (item ∷ []) some.item some.among; is = some.is }
+      there (inl some) =
+          record {
+            item = some.item;
+            among = Contains-append_left items (item ∷ []) some.item some.among;
+            is = some.is;
+          }
       there (inr holds) = record { item = item; among = Contains-push items item; is = holds }
 
-      back : (some : AtSome P (items ++ item ∷ []) d) → Contains items some.item ⊎ (item ≡ some.item) → AtSome P items d ⊎ P item d
+      back : (some : AtSome P (items ++ item ∷ []) d) → Contains items some.item
+          ⊎ (item ≡ some.item) → AtSome P items d ⊎ P item d
       back some (inl among) = inl (record { item = some.item; among = among; is = some.is })
       back some (inr same) = inr (subst (λ x. P x d) (sym same) some.is)
 
-  module _ {before between now : Sight} {b : Bool} (items : List X) (i : ℕ) (item default : X) (within : i < length items) (is : item ≡ get_or items i default)
-      (one : Shows (AtSome P (take i items)) before between false) (two : Shows (P item) between now b) where
+  module _ {before between now : Sight} {b : Bool} (items : List X) (i : ℕ) (item default : X)
+      (within : i < length items) (is : item ≡ get_or items i default)
+      (one : Shows (AtSome P (take i items)) before between false)
+      (two : Shows (P item) between now b) where
     pub loop-more : b ≡ false → Shows (AtSome P (take (i + 1) items)) before now false
     loop-more on =
-        subst (λ some. Shows (AtSome P some) before now false) (sym (take_more items i default within))
+        subst (λ some. Shows (AtSome P some) before now false)
+        (sym (take_more items i default within))
         (shows-then (some-more (take i items) (get_or items i default)) one refl
         (subst (λ x. Shows (P x) between now false) is (subst (Shows (P item) between now) on two)))
 
@@ -111,17 +152,25 @@ module _ {X : Type 0} (P : X → Derivation → Type 0) where
     loop-end over = record {
       ended = λ so. let end = two.ended over in record {
         at = end.at;
-        sought = record { item = item; among = subst (λ x. Contains items x) (sym is) (Contains-get_or items i default within); is = end.sought };
+        sought = record {
+          item = item;
+          among = subst (λ x. Contains items x) (sym is) (Contains-get_or items i default within);
+          is = end.sought;
+        };
         ends = (one.same refl end.at).1 end.ends;
       };
       passed = λ so. absurd (true≢false so);
       same = λ so. absurd (true≢false so);
     }
 
-  pub loop-last : {before now : Sight} (items : List X) (i : ℕ) → length items ≤ i → Shows (AtSome P (take i items)) before now false → Shows (AtSome P items) before now false
-  loop-last {before} {now} items i past shown = subst (λ some. Shows (AtSome P some) before now false) (take_all i items past) shown
+  pub loop-last : {before now : Sight} (items : List X) (i : ℕ) → length items ≤ i
+      → Shows (AtSome P (take i items)) before now false → Shows (AtSome P items) before now false
+  loop-last {before} {now} items i past shown =
+      subst (λ some. Shows (AtSome P some) before now false) (take_all i items past) shown
 
-pub some-same : {X : Type 0} (P Q : X → Derivation → Type 0) (items : List X) → ((item : X) (d : Derivation) → P item d ↔ Q item d) → (d : Derivation) → AtSome P items d ↔ AtSome Q items d
+pub some-same : {X : Type 0} (P Q : X → Derivation → Type 0) (items : List X)
+    → ((item : X) (d : Derivation) → P item d ↔ Q item d) → (d : Derivation) → AtSome P items d
+    ↔ AtSome Q items d
 some-same P Q items same d = (
   λ some. record { item = some.item; among = some.among; is = (same some.item d).0 some.is },
   λ some. record { item = some.item; among = some.among; is = (same some.item d).1 some.is },

@@ -1,5 +1,8 @@
 -- The tables of a dictionary: one rule more; and which places they give.
-use Rattle.std.proofs.Common.{◌≡◌, ◌∙◌, ◌⊎◌, inl, inr, refl, sym, ap, subst, ℕ, zero, suc, ◌+◌, ◌<◌, Bool, true, false, cond, ◌||◌, true≢false, List, [], ◌∷◌, ◌++◌, length, take, get_or, nat_eq, slice_get, None, Some, if◌then◌else◌, eq-eqb, map, Result, Ok, Err, IfOk, Vec, Global}
+use Rattle.std.proofs.Common.{◌≡◌, ◌∙◌, ◌⊎◌, inl, inr, refl, sym, ap, subst, ℕ, zero, suc, ◌+◌, ◌<◌}
+use Rattle.std.proofs.Common.{Bool, true, false, cond, ◌||◌, true≢false, List, [], ◌∷◌, ◌++◌}
+use Rattle.std.proofs.Common.{length, take, get_or, nat_eq, slice_get, None, Some, if◌then◌else◌}
+use Rattle.std.proofs.Common.{eq-eqb, map, Result, Ok, Err, IfOk, Vec, Global}
 use Rattle.std.proofs.lemmas.List.{take_more}
 use Rattle.std.proofs.lemmas.Option.{option_and_then_some, cond_some}
 use Rattle.spell_types.specs.declared.flags.Flag.{Flag}
@@ -11,30 +14,38 @@ use Rattle.spell_types.specs.Flags.{has, put, put_all}
 use Rattle.affix_strip.specs.Tables.{HasCarried, AreSeconds, HasClasses}
 
 -- ---- a list with one item more
-get-more : {X : Type 0} (xs : List X) (x : X) (i : ℕ) (y : X) → slice_get (xs ++ x ∷ []) i ≡ Some y → (slice_get xs i ≡ Some y) ⊎ ((i ≡ length xs) × (x ≡ y))
+get-more : {X : Type 0} (xs : List X) (x : X) (i : ℕ) (y : X) → slice_get (xs ++ x ∷ []) i ≡ Some y
+    → (slice_get xs i ≡ Some y) ⊎ ((i ≡ length xs) × (x ≡ y))
 get-more [] x zero y at = inr (refl, cc)
 get-more [] x (suc i) y at = absurd (cc)
 get-more (z ∷ xs) x zero y at = inl at
 get-more (z ∷ xs) x (suc i) y at = later (get-more xs x i y at)
   where
-    later : (slice_get xs i ≡ Some y) ⊎ ((i ≡ length xs) × (x ≡ y)) → (slice_get xs i ≡ Some y) ⊎ ((suc i ≡ length (z ∷ xs)) × (x ≡ y))
+    later : (slice_get xs i ≡ Some y) ⊎ ((i ≡ length xs) × (x ≡ y)) → (slice_get xs i ≡ Some y)
+        ⊎ ((suc i ≡ length (z ∷ xs)) × (x ≡ y))
     later (inl there) = inl there
     later (inr (last, same)) = inr (ap suc last, same)
 
 -- what a set has once a flag, or some flags, are put in
 abbrev pub TellsPut : Type 0
-TellsPut = (set : List Flag) (flag asked : Flag) → has (put flag set) (Some asked) ≡ (nat_eq flag.0 asked.0 || has set (Some asked))
+TellsPut = (set : List Flag) (flag asked : Flag)
+    → has (put flag set) (Some asked) ≡ (nat_eq flag.0 asked.0 || has set (Some asked))
 
 abbrev pub TellsPutAll : Type 0
-TellsPutAll = (set flags : List Flag) (asked : Flag) → has (put_all set flags) (Some asked) ≡ (has flags (Some asked) || has set (Some asked))
+TellsPutAll = (set flags : List Flag) (asked : Flag) → has (put_all set flags) (Some asked)
+    ≡ (has flags (Some asked) || has set (Some asked))
 
 -- ---- the flags that suffix rules carry
 pub carried-none : (set : List Flag) → HasCarried [] set
 carried-none set = record { flags = λ place rule flag at side has. absurd (cc) }
 
-pub carried-more : TellsPutAll → (rules : List Rule) (rule : Rule) (before now : List Flag) → HasCarried rules before → now ≡ (if is_same_side Suffix rule.side then put_all before rule.carried else before) → HasCarried (rules ++ rule ∷ []) now
+pub carried-more : TellsPutAll → (rules : List Rule) (rule : Rule) (before now : List Flag)
+    → HasCarried rules before
+    → now ≡ (if is_same_side Suffix rule.side then put_all before rule.carried else before)
+    → HasCarried (rules ++ rule ∷ []) now
 carried-more tells rules rule before now holds is = record {
-  flags = λ place other flag at side carries. subst (λ set. has set (Some flag) ≡ true) (sym is) (by flag (get-more rules rule place other at) side carries);
+  flags = λ place other flag at side carries. subst (λ set. has set (Some flag) ≡ true) (sym is)
+      (by flag (get-more rules rule place other at) side carries);
 }
   where
     or-right : (a b : Bool) → b ≡ true → (a || b) ≡ true
@@ -45,21 +56,34 @@ carried-more tells rules rule before now holds is = record {
     or-left true b same = refl
     or-left false b same = absurd (true≢false (sym same))
 
-    kept : (flag : Flag) (b : Bool) → has before (Some flag) ≡ true → has (cond b (put_all before rule.carried) before) (Some flag) ≡ true
-    kept flag true had = tells before rule.carried flag ∙ or-right (has rule.carried (Some flag)) (has before (Some flag)) had
+    kept : (flag : Flag) (b : Bool) → has before (Some flag) ≡ true
+        → has (cond b (put_all before rule.carried) before) (Some flag) ≡ true
+    kept flag true had = tells before rule.carried flag
+        ∙ or-right (has rule.carried (Some flag)) (has before (Some flag)) had
     kept flag false had = had
 
-    added : (flag : Flag) (side : Side) → side ≡ Suffix → has rule.carried (Some flag) ≡ true → has (cond (is_same_side Suffix side) (put_all before rule.carried) before) (Some flag) ≡ true
-    added flag Suffix on carries = tells before rule.carried flag ∙ or-left (has rule.carried (Some flag)) (has before (Some flag)) carries
+    added : (flag : Flag) (side : Side) → side ≡ Suffix → has rule.carried (Some flag) ≡ true
+        → has (cond (is_same_side Suffix side) (put_all before rule.carried) before) (Some flag)
+        ≡ true
+    added flag Suffix on carries = tells before rule.carried flag
+        ∙ or-left (has rule.carried (Some flag)) (has before (Some flag)) carries
     added flag Prefix on carries = absurd (cc)
 
-    by : {place : ℕ} {other : Rule} (flag : Flag) → (slice_get rules place ≡ Some other) ⊎ ((place ≡ length rules) × (rule ≡ other)) → other.side ≡ Suffix → has other.carried (Some flag) ≡ true → has (cond (is_same_side Suffix rule.side) (put_all before rule.carried) before) (Some flag) ≡ true
-    by {place} {other} flag (inl at) side carries = kept flag (is_same_side Suffix rule.side) (holds.flags place other flag at side carries)
+    by : {place : ℕ} {other : Rule} (flag : Flag) → (slice_get rules place ≡ Some other)
+        ⊎ ((place ≡ length rules) × (rule ≡ other)) → other.side ≡ Suffix
+        → has other.carried (Some flag) ≡ true
+        → has (cond (is_same_side Suffix rule.side) (put_all before rule.carried) before)
+        (Some flag) ≡ true
+    by {place} {other} flag (inl at) side carries =
+        kept flag (is_same_side Suffix rule.side) (holds.flags place other flag at side carries)
     by {place} {other} flag (inr (at, same)) side carries =
-        added flag rule.side (ap (λ (r : Rule). r.side) same ∙ side) (subst (λ (r : Rule). has r.carried (Some flag) ≡ true) (sym same) carries)
+        added flag rule.side (ap (λ (r : Rule). r.side) same ∙ side)
+        (subst (λ (r : Rule). has r.carried (Some flag) ≡ true) (sym same) carries)
 
 -- the rules whose flags these are
-pub are-seconds : {E : Type 0} (rules : List Rule) (set : List Flag) → HasCarried rules set → (told : Result (Vec Bool Global) E) → IfOk told (λ seconds. seconds.items ≡ map (λ rule. has set (Some rule.flag)) rules)
+pub are-seconds : {E : Type 0} (rules : List Rule) (set : List Flag) → HasCarried rules set
+    → (told : Result (Vec Bool Global) E)
+    → IfOk told (λ seconds. seconds.items ≡ map (λ rule. has set (Some rule.flag)) rules)
     → IfOk told (λ seconds. AreSeconds rules seconds.items)
 are-seconds rules set carried (Ok seconds) are = record { set = set; carried = carried; are = are }
 are-seconds rules set carried (Err why) are = tt
@@ -69,22 +93,34 @@ or-true : (b : Bool) → (b || true) ≡ true
 or-true true = refl
 or-true false = refl
 
-pub classes-more : TellsPut → (rules : List Rule) (rule : Rule) (before now : List Flag) → HasClasses rules before → now ≡ put rule.flag before → HasClasses (rules ++ rule ∷ []) now
-classes-more tells rules rule before now holds is = record { flags = λ place other at. by (get-more rules rule place other at) }
+pub classes-more : TellsPut → (rules : List Rule) (rule : Rule) (before now : List Flag)
+    → HasClasses rules before → now ≡ put rule.flag before → HasClasses (rules ++ rule ∷ []) now
+classes-more tells rules rule before now holds is =
+    record { flags = λ place other at. by (get-more rules rule place other at) }
   where
-    has-now : (asked : Flag) → has now (Some asked) ≡ (nat_eq rule.flag.0 asked.0 || has before (Some asked))
+    has-now : (asked : Flag)
+        → has now (Some asked) ≡ (nat_eq rule.flag.0 asked.0 || has before (Some asked))
     has-now asked = ap (λ set. has set (Some asked)) is ∙ tells before rule.flag asked
 
-    by : {place : ℕ} {other : Rule} → (slice_get rules place ≡ Some other) ⊎ ((place ≡ length rules) × (rule ≡ other)) → has now (Some other.flag) ≡ true
-    by {place} {other} (inl at) = has-now other.flag ∙ ap (λ b. nat_eq rule.flag.0 other.flag.0 || b) (holds.flags place other at) ∙ or-true (nat_eq rule.flag.0 other.flag.0)
+    by : {place : ℕ} {other : Rule} → (slice_get rules place ≡ Some other)
+        ⊎ ((place ≡ length rules) × (rule ≡ other)) → has now (Some other.flag) ≡ true
+    by {place} {other} (inl at) =
+        has-now other.flag
+        ∙ ap (λ b. nat_eq rule.flag.0 other.flag.0 || b) (holds.flags place other at)
+        ∙ or-true (nat_eq rule.flag.0 other.flag.0)
     by {place} {other} (inr (at, same)) =
-        has-now other.flag ∙ ap (λ b. b || has before (Some other.flag)) (eq-eqb rule.flag.0 other.flag.0 (ap (λ (r : Rule). r.flag.0) same))
+        has-now other.flag
+        ∙ ap (λ b. b || has before (Some other.flag))
+        (eq-eqb rule.flag.0 other.flag.0 (ap (λ (r : Rule). r.flag.0) same))
 
-put_all-more : (set flags : List Flag) (flag : Flag) → put_all set (flags ++ flag ∷ []) ≡ put flag (put_all set flags)
+put_all-more : (set flags : List Flag) (flag : Flag)
+    → put_all set (flags ++ flag ∷ []) ≡ put flag (put_all set flags)
 put_all-more set [] flag = refl
 put_all-more set (first ∷ flags) flag = put_all-more (put first set) flags flag
 
-pub put_all-next : (set before now flags items : List Flag) (i : ℕ) (d : Flag) → items ≡ flags → i < length items → before ≡ put_all set (take i flags) → now ≡ put (get_or items i d) before → now ≡ put_all set (take (i + 1) flags)
+pub put_all-next : (set before now flags items : List Flag) (i : ℕ) (d : Flag) → items ≡ flags
+    → i < length items → before ≡ put_all set (take i flags) → now ≡ put (get_or items i d) before
+    → now ≡ put_all set (take (i + 1) flags)
 put_all-next set before now flags items i d same within was is =
     is ∙ ap (put (get_or items i d)) (was ∙ ap (λ fs. put_all set (take i fs)) (sym same))
     ∙ sym (put_all-more set (take i items) (get_or items i d))
@@ -92,7 +128,9 @@ put_all-next set before now flags items i d same within was is =
     ∙ ap (λ fs. put_all set (take (i + 1) fs)) same
 
 -- ---- the rules that may be undone
-pub on-rule : (rules : List Rule) (side : Side) (place : ℕ) (rule : Rule) → rule_on rules side place ≡ Some rule → slice_get rules place ≡ Some rule
+pub on-rule : (rules : List Rule) (side : Side) (place : ℕ) (rule : Rule)
+    → rule_on rules side place ≡ Some rule → slice_get rules place ≡ Some rule
 on-rule rules side place rule on =
-    option_and_then_some (λ (r : Rule). if is_same_side side r.side then Some r else None) (slice_get rules place) rule on (λ r at is.
+    option_and_then_some (λ (r : Rule). if is_same_side side r.side then Some r else None)
+    (slice_get rules place) rule on (λ r at is.
     at ∙ ap (λ x. Some x) (cond_some (is_same_side side r.side) r rule is).1)

@@ -9,9 +9,11 @@ use Rattle.affix_classes.specs.Undoing.{undone_on}
 
 -- undoing a rule leads back from each word that attaching it gives, and from no other
 abbrev pub LeadsBack : Type 0
-LeadsBack = (full_strip : Bool) (rule : Rule) (word : List ℕ) → IsUndone (attached full_strip rule) word (undone_on rule.side full_strip rule word)
+LeadsBack = (full_strip : Bool) (rule : Rule) (word : List ℕ)
+    → IsUndone (attached full_strip rule) word (undone_on rule.side full_strip rule word)
 
 -- the word that the rule with a place was attached to, if it is one of the side
 abbrev pub undone_at : Affixes → Side → ℕ → List ℕ → Option (List ℕ)
 undone_at affixes side place word =
-    option_and_then (λ rule. undone_on side affixes.options.full_strip rule word) (rule_on affixes.rules side place)
+    option_and_then (λ rule. undone_on side affixes.options.full_strip rule word)
+    (rule_on affixes.rules side place)

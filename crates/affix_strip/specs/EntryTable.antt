@@ -1,5 +1,6 @@
 -- Entries by a hash of their words.
-use Rattle.std.specs.Prelude.{◌≡◌, ◌↔◌, ℕ, zero, suc, Bool, false, List, length, nat_eq, slice_get, Contains, Option, None, Some, if◌then◌else◌}
+use Rattle.std.specs.Prelude.{◌≡◌, ◌↔◌, ℕ, zero, suc, Bool, false, List, length, nat_eq, slice_get}
+use Rattle.std.specs.Prelude.{Contains, Option, None, Some, if◌then◌else◌}
 use Rattle.std.specs.Option.{option_map, option_map_or}
 use Rattle.indexmap.specs.IndexMap.{get}
 use Rattle.spell_types.specs.declared.Entry.{Entry}
@@ -21,15 +22,20 @@ passes_at test entries place = option_map_or test (slice_get entries place) fals
 -- the last place below the bound whose entry passes the test, if there is one
 abbrev pub last_where : (Entry → Bool) → List Entry → ℕ → Option ℕ
 last_where test entries zero = None
-last_where test entries (suc place) = if passes_at test entries place then Some place else last_where test entries place
+last_where test entries (suc place) =
+    if passes_at test entries place then Some place else last_where test entries place
 
--- the table has at each hash the last place of an entry whose word has it, and at each place the last one below it of the same hash, and what the filter excludes has no place
+-- the table has at each hash the last place of an entry whose word has it, and at each place the
+-- last one below it of the same hash, and what the filter excludes has no place
 pub record HasEntries (entries : List Entry) (table : EntryTable) : Type 0 where
   pub count : length table.earlier.items ≡ length entries
-  pub last : (hash : ℕ) → get nat_eq table.last hash ≡ last_where (has_hash hash) entries (length entries)
-  pub earlier : (place : ℕ) → slice_get table.earlier.items place ≡ option_map (λ entry. last_where (has_hash (hash_of entry.word)) entries place) (slice_get entries place)
+  pub last : (hash : ℕ) → get nat_eq table.last hash ≡ last_where (has_hash hash) entries
+      (length entries)
+  pub earlier : (place : ℕ) → slice_get table.earlier.items place ≡ option_map
+      (λ entry. last_where (has_hash (hash_of entry.word)) entries place) (slice_get entries place)
   pub hashes : (hash : ℕ) → may_have table.hashes hash ≡ false → get nat_eq table.last hash ≡ None
 
 -- these are the places of the entries of a word
 pub record AreEntriesOf (entries : List Entry) (word places : List ℕ) : Type 0 where
-  pub are : (place : ℕ) → Contains places place ↔ ((entry : Entry) × (slice_get entries place ≡ Some entry) × (entry.word ≡ word))
+  pub are : (place : ℕ) → Contains places place
+      ↔ ((entry : Entry) × (slice_get entries place ≡ Some entry) × (entry.word ≡ word))

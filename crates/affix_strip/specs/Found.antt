@@ -14,7 +14,8 @@ use Rattle.spell_types.specs.Licences.{is_licensed, has_form}
 abbrev pub derives : Lexicon → List ℕ → Derivation → Bool
 derives lexicon word d = is_licensed lexicon d && has_form lexicon word d
 
--- the derivations of a word: of all that there are, those that are licensed and whose form is the word
+-- the derivations of a word: of all that there are, those that are licensed and whose form is the
+-- word
 unfoldable pub derivations_of : Lexicon → List ℕ → List Derivation
 derivations_of lexicon word = filter (derives lexicon word) (all_derivations lexicon)
 

@@ -8,13 +8,16 @@ use Rattle.spell_types.specs.Derivations.{form_of}
 
 -- no entry's word is longer
 abbrev pub AreWordsWithin : List Entry → ℕ → Type 0
-AreWordsWithin entries most = (place : ℕ) (entry : Entry) → slice_get entries place ≡ Some entry → length entry.word ≤ most
+AreWordsWithin entries most =
+    (place : ℕ) (entry : Entry) → slice_get entries place ≡ Some entry → length entry.word ≤ most
 
 -- no rule adds more
 abbrev pub AreAddedWithin : List Rule → ℕ → Type 0
-AreAddedWithin rules most = (place : ℕ) (rule : Rule) → slice_get rules place ≡ Some rule → length rule.add ≤ most
+AreAddedWithin rules most =
+    (place : ℕ) (rule : Rule) → slice_get rules place ≡ Some rule → length rule.add ≤ most
 
 -- no form is longer, if a number is told
 abbrev pub IsLongest : Lexicon → Option ℕ → Type 0
 IsLongest lexicon None = Unit {0}
-IsLongest lexicon (Some most) = (d : Derivation) (text : List ℕ) → form_of lexicon d ≡ Some text → length text ≤ most
+IsLongest lexicon (Some most) =
+    (d : Derivation) (text : List ℕ) → form_of lexicon d ≡ Some text → length text ≤ most

@@ -1,5 +1,6 @@
 -- Words without the affixes of groups of rules.
-use Rattle.std.specs.Prelude.{◌≡◌, ℕ, ◌-◌, Bool, true, false, ◌&&◌, List, ◌++◌, length, take, drop, nat_eq, slice_get, Contains, Some}
+use Rattle.std.specs.Prelude.{◌≡◌, ℕ, ◌-◌, Bool, true, false, ◌&&◌, List, ◌++◌, length, take, drop}
+use Rattle.std.specs.Prelude.{nat_eq, slice_get, Contains, Some}
 use Rattle.std.specs.List.{starts_with, ends_with}
 use Rattle.std.specs.Option.{option_map_or}
 use Rattle.spell_types.specs.declared.Affixes.{Affixes}
@@ -48,8 +49,10 @@ Peeled = List ℕ × List ℕ
 abbrev pub peeled_by : Side → List ℕ → Group → Peeled
 peeled_by side kept group = (join side kept group.0.items, group.1.items)
 
--- the rule with a place is one of the side that may have added what the word has there, and leaves this in place of it
-pub record Leaves (rules : List Rule) (side : Side) (word : List ℕ) (place : ℕ) (rest : List ℕ) : Type 0 where
+-- the rule with a place is one of the side that may have added what the word has there, and leaves
+-- this in place of it
+pub record Leaves (rules : List Rule) (side : Side) (word : List ℕ) (place : ℕ)
+    (rest : List ℕ) : Type 0 where
   pub rule : Rule
   pub on : IsOn rules side place rule
   pub fits : has_at side word rule.add ≡ true
@@ -62,9 +65,12 @@ pub record IsPeeled (found : List Peeled) (place : ℕ) : Type 0 where
   pub has : Contains peeled.1 place
 
 -- the word without each affix that rules of the side may have added
-pub record ArePeeled (rules : List Rule) (side : Side) (word : List ℕ) (found : List Peeled) : Type 0 where
-  pub sound : (peeled : Peeled) (place : ℕ) → Contains found peeled → Contains peeled.1 place → Leaves rules side word place peeled.0
-  pub all : (place : ℕ) (rule : Rule) → IsOn rules side place rule → has_at side word rule.add ≡ true → IsPeeled found place
+pub record ArePeeled (rules : List Rule) (side : Side) (word : List ℕ) (found : List Peeled) : Type
+    0 where
+  pub sound : (peeled : Peeled) (place : ℕ) → Contains found peeled → Contains peeled.1 place
+      → Leaves rules side word place peeled.0
+  pub all : (place : ℕ) (rule : Rule) → IsOn rules side place rule
+      → has_at side word rule.add ≡ true → IsPeeled found place
 
 -- whether a condition fits the side's end of a word
 abbrev pub fits_on : Side → List Piece → List ℕ → Bool
@@ -73,9 +79,11 @@ fits_on Suffix condition word = fits_back condition word
 
 -- whether the rule may be attached to what it leaves
 abbrev pub may_undo : Bool → Side → List ℕ → Rule → Bool
-may_undo full_strip side rest rule = may_strip full_strip rule rest && fits_on side rule.condition rest
+may_undo full_strip side rest rule =
+    may_strip full_strip rule rest && fits_on side rule.condition rest
 
 -- the same of the rule with a place
 abbrev pub may_undo_at : Affixes → Side → List ℕ → ℕ → Bool
 may_undo_at affixes side rest place =
-    option_map_or (may_undo affixes.options.full_strip side rest) (slice_get affixes.rules place) false
+    option_map_or (may_undo affixes.options.full_strip side rest) (slice_get affixes.rules place)
+    false

@@ -19,7 +19,8 @@ use Rattle.affix_strip.specs.declared.walk.Tables.{Tables}
 
 -- the set has each flag that a suffix rule carries
 pub record HasCarried (rules : List Rule) (set : List Flag) : Type 0 where
-  pub flags : (place : ℕ) (rule : Rule) (flag : Flag) → slice_get rules place ≡ Some rule → rule.side ≡ Suffix → has rule.carried (Some flag) ≡ true → has set (Some flag) ≡ true
+  pub flags : (place : ℕ) (rule : Rule) (flag : Flag) → slice_get rules place ≡ Some rule
+      → rule.side ≡ Suffix → has rule.carried (Some flag) ≡ true → has set (Some flag) ≡ true
 
 -- at the place of each rule whether suffix rules carry its flag
 pub record AreSeconds (rules : List Rule) (seconds : List Bool) : Type 0 where
@@ -29,7 +30,8 @@ pub record AreSeconds (rules : List Rule) (seconds : List Bool) : Type 0 where
 
 -- the set has the flag of each rule's class
 pub record HasClasses (rules : List Rule) (set : List Flag) : Type 0 where
-  pub flags : (place : ℕ) (rule : Rule) → slice_get rules place ≡ Some rule → has set (Some rule.flag) ≡ true
+  pub flags : (place : ℕ) (rule : Rule) → slice_get rules place ≡ Some rule
+      → has set (Some rule.flag) ≡ true
 
 -- whether the set has one of these flags
 abbrev pub has_flag_of : List Flag → List Flag → Bool
@@ -41,16 +43,19 @@ is_forbidden_entry lexicon entry = has entry.flags lexicon.affixes.signs.forbidd
 
 -- whether it is, and has one of the flags of classes
 abbrev pub takes_affixes : Lexicon → List Flag → Entry → Bool
-takes_affixes lexicon classes entry = is_forbidden_entry lexicon entry && has_flag_of classes entry.flags
+takes_affixes lexicon classes entry =
+    is_forbidden_entry lexicon entry && has_flag_of classes entry.flags
 
 -- it holds of each forbidden entry
 abbrev pub OfForbidden : Lexicon → (Entry → Type 0) → Type 0
 OfForbidden lexicon holds =
-    (place : ℕ) (entry : Entry) → slice_get lexicon.entries place ≡ Some entry → is_forbidden_entry lexicon entry ≡ true → holds entry
+    (place : ℕ) (entry : Entry) → slice_get lexicon.entries place ≡ Some entry
+    → is_forbidden_entry lexicon entry ≡ true → holds entry
 
 -- the entry allows no affix
 abbrev pub AllowsNone : List Rule → Entry → Type 0
-AllowsNone rules entry = (place : ℕ) (rule : Rule) → slice_get rules place ≡ Some rule → has entry.flags (Some rule.flag) ≡ false
+AllowsNone rules entry = (place : ℕ) (rule : Rule) → slice_get rules place ≡ Some rule
+    → has entry.flags (Some rule.flag) ≡ false
 
 -- where the derivations of forbidden words are found
 abbrev pub IsBarring : Lexicon → Barring → Type 0
@@ -73,8 +78,10 @@ IsReady dictionary = AreTablesOf dictionary.lexicon dictionary.tables
 
 -- whether the rule with a place may be a second suffix
 abbrev pub may_be_outer : IndexedLexicon → ℕ → Bool
-may_be_outer dictionary place = option_map_or (λ may. may) (slice_get dictionary.tables.seconds.items place) false
+may_be_outer dictionary place =
+    option_map_or (λ may. may) (slice_get dictionary.tables.seconds.items place) false
 
 -- whether the rule with a place may be a second suffix that is attached to this
 abbrev pub may_undo_outer : IndexedLexicon → List ℕ → ℕ → Bool
-may_undo_outer dictionary rest place = may_be_outer dictionary place && may_undo_at dictionary.lexicon.affixes Suffix rest place
+may_undo_outer dictionary rest place =
+    may_be_outer dictionary place && may_undo_at dictionary.lexicon.affixes Suffix rest place

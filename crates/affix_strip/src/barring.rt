@@ -2,7 +2,8 @@
 
 ghost use Rattle.std.specs.Prelude.{◌≡◌, IfOk};
 ghost use Rattle.std.specs.List.{list_any};
-ghost use Rattle.affix_strip.specs.Tables.{IsBarring, is_forbidden_entry, takes_affixes, has_flag_of};
+ghost use Rattle.affix_strip.specs.Tables.{IsBarring, is_forbidden_entry, takes_affixes};
+ghost use Rattle.affix_strip.specs.Tables.{has_flag_of};
 
 use crate::rule_flags::flags_of_classes;
 use lists::NoMemory;

@@ -1,13 +1,16 @@
-//! Entries by a hash of their words. A word is compared only with those of its hash, so no words are kept beside the
-//! entries, and most that are no entry's word are known by a filter of the hashes.
+//! Entries by a hash of their words. A word is compared only with those of its hash, so no words
+//! are kept beside the entries, and most that are no entry's word are known by a filter of the
+//! hashes.
 
-ghost use Rattle.std.specs.Prelude.{◌≡◌, ◌++◌, [], ◌∷◌, ◌^◌, ◌<◌, ℕ, List, true, false, length, nat_eq, slice_get, OnOk, IfOk};
+ghost use Rattle.std.specs.Prelude.{◌≡◌, ◌++◌, [], ◌∷◌, ◌^◌, ◌<◌, ℕ, List, true, false, length};
+ghost use Rattle.std.specs.Prelude.{nat_eq, slice_get, OnOk, IfOk};
 ghost use Rattle.std.specs.Option.{option_flatten};
 ghost use Rattle.indexmap.specs.IndexMap.{get};
 ghost use Rattle.spell_types.specs.declared.Entry.{Entry};
 ghost use Rattle.spell_types.specs.Cases.{is_same_word};
 ghost use Rattle.affix_strip.specs.Hashes.{hash_of, IsHashed};
-ghost use Rattle.affix_strip.specs.EntryTable.{has_hash, has_word, passes_at, last_where, HasEntries, AreEntriesOf};
+ghost use Rattle.affix_strip.specs.EntryTable.{has_hash, has_word, passes_at, last_where};
+ghost use Rattle.affix_strip.specs.EntryTable.{HasEntries, AreEntriesOf};
 
 use crate::hashed::{Hashed, START, fold};
 use indexmap::IndexMap;
@@ -20,8 +23,8 @@ use std::alloc::Global;
 /// Places of entries. Most words have one or two.
 pub(crate) type Places = SmallVec<u32, 4>;
 
-/// The entries of a dictionary by a hash of their words. They are not kept: each call is given those that the table was
-/// made of. An entry is named by its place among them, from 0.
+/// The entries of a dictionary by a hash of their words. They are not kept: each call is given
+/// those that the table was made of. An entry is named by its place among them, from 0.
 #[derive(Drop)]
 pub(crate) struct EntryTable {
     /// At each hash the last place of an entry whose word has it.
@@ -54,7 +57,8 @@ impl EntryTable {
 
     /// Adds the entry with a place, which is the one behind the entries so far.
     fn add(&mut self, entry: &Entry, place: u32) -> Result<(), NoMemory>
-        ensures { OnOk result ((entries : List Entry) → length entries ≡ place → HasEntries entries self.old
+        ensures { OnOk result
+            ((entries : List Entry) → length entries ≡ place → HasEntries entries self.old
             → HasEntries (entries ++ entry.now ∷ []) self.new) }
     {
         let hash = fold(START, entry.word.as_slice());
@@ -64,7 +68,8 @@ impl EntryTable {
         Ok(())
     }
 
-    /// Whether `front` and `back` joined may be an entry's word. Where the answer is no, they are none.
+    /// Whether `front` and `back` joined may be an entry's word. Where the answer is no, they are
+    /// none.
     pub(crate) fn may_have(&self, front: Hashed<'_>, back: &[char]) -> bool
         requires { IsHashed front }
         ensures { (entries : List Entry) → HasEntries entries self.now → result ≡ false
@@ -83,7 +88,8 @@ impl EntryTable {
     ) -> Result<Places, NoMemory>
         requires entries { HasEntries entries.now self.now }
         requires front { IsHashed front }
-        ensures { IfOk result (λ places. AreEntriesOf entries.now (front.entry.text.now ++ back.now) places.items) }
+        ensures { IfOk result
+            (λ places. AreEntriesOf entries.now (front.entry.text.now ++ back.now) places.items) }
     {
         let mut places = SmallVec::new(alloc);
         let hash = fold(front.hash, back);
@@ -95,18 +101,21 @@ impl EntryTable {
         Ok(places)
     }
 
-    /// The last place of an entry whose word is `front` and `back` joined. The hash is that of the word.
+    /// The last place of an entry whose word is `front` and `back` joined. The hash is that of the
+    /// word.
     fn last_of(&self, entries: &[Entry], hash: u64, front: &[char], back: &[char]) -> Option<u32>
         requires entries { HasEntries entries.now self.now }
         requires hash { hash ≡ hash_of (front.now ++ back.now) }
-        ensures { result ≡ last_where (has_word (front.now ++ back.now)) entries.now (length entries.now) }
+        ensures { result ≡ last_where (has_word (front.now ++ back.now)) entries.now
+            (length entries.now) }
     {
         self.down_from(entries, self.last_with(hash), front, back)
     }
 
     /// The last place of an entry whose word has a hash.
     fn last_with(&self, hash: u64) -> Option<u32>
-        ensures { (entries : List Entry) → HasEntries entries self.now → result ≡ get nat_eq self.now.last hash }
+        ensures { (entries : List Entry) → HasEntries entries self.now
+            → result ≡ get nat_eq self.now.last hash }
     {
         if !self.hashes.may_have(hash) {
             return None;
@@ -123,7 +132,8 @@ impl EntryTable {
         self.down_from(entries, self.earlier_of(place), front, back)
     }
 
-    /// The first place whose entry's word is `front` and `back` joined, from a place on down those of its hash.
+    /// The first place whose entry's word is `front` and `back` joined, from a place on down those
+    /// of its hash.
     fn down_from(
         &self,
         entries: &[Entry],
@@ -132,7 +142,8 @@ impl EntryTable {
         back: &[char],
     ) -> Option<u32>
         requires { HasEntries entries.now self.now }
-        ensures { (bound : ℕ) → start ≡ last_where (has_hash (hash_of (front.now ++ back.now))) entries.now bound
+        ensures { (bound : ℕ) → start ≡ last_where (has_hash (hash_of (front.now ++ back.now)))
+            entries.now bound
             → result ≡ last_where (has_word (front.now ++ back.now)) entries.now bound }
     {
         let mut next = start;

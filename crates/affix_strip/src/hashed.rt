@@ -6,7 +6,8 @@ ghost use Rattle.affix_strip.specs.Hashes.{folded, IsHashed};
 /// The hash of a text without characters.
 pub(crate) const START: u64 = 1;
 
-/// What a hash is multiplied with before a character is added. It is odd, so that no bit of what stands before is lost.
+/// What a hash is multiplied with before a character is added. It is odd, so that no bit of what
+/// stands before is lost.
 const FACTOR: u64 = 0x9E37_79B9_7F4A_7C15;
 
 /// A text with its hash, which is computed once.

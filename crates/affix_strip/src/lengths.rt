@@ -5,7 +5,8 @@ ghost use Rattle.affix_strip.specs.Lengths.{AreAddedWithin, AreWordsWithin, IsLo
 
 use spell_types::{Entry, Lexicon, Rule};
 
-/// How long a form is at most: as long as the longest word and what three rules add. None if that number does not fit.
+/// How long a form is at most: as long as the longest word and what three rules add. None if that
+/// number does not fit.
 pub(crate) fn longest_of(lexicon: &Lexicon) -> Option<usize>
     ensures { IsLongest lexicon.now result }
 {

@@ -27,7 +27,8 @@ use std::marker::Model;
 use visiting::Alone;
 use walk::IndexedLexicon;
 
-/// A dictionary, ready to be asked for the derivations of words. Contracts see it as the dictionary.
+/// A dictionary, ready to be asked for the derivations of words. Contracts see it as the
+/// dictionary.
 #[derive(Drop)]
 pub struct Stems {
     dictionary: IndexedLexicon,
@@ -64,17 +65,20 @@ impl Stems {
         &self.dictionary.lexicon
     }
 
-    /// Whether every word of so many characters is longer than each form of the dictionary, so that it has no derivation. It is
-    /// said only where that is told by the longest entry and the longest texts that rules add.
+    /// Whether every word of so many characters is longer than each form of the dictionary, so that
+    /// it has no derivation. It is said only where that is told by the longest entry and the
+    /// longest texts that rules add.
     pub fn is_too_long(&self, count: usize) -> bool
-        ensures { result ≡ true → (d : Derivation) (text : List ℕ) → form_of self.now d ≡ Some text → length text < count }
+        ensures { result ≡ true → (d : Derivation) (text : List ℕ) → form_of self.now d ≡ Some text
+            → length text < count }
     {
         self.dictionary.is_too_long(count)
     }
 
-    /// All derivations of a word: those that are licensed and whose form is the word, by entry, then by prefix, by
-    /// first and by second suffix, none before any. Only rules are looked at that add a text which begins or ends the word, or
-    /// what is left of it, and only entries of the words that are left.
+    /// All derivations of a word: those that are licensed and whose form is the word, by entry,
+    /// then by prefix, by first and by second suffix, none before any. Only rules are looked at
+    /// that add a text which begins or ends the word, or what is left of it, and only entries of
+    /// the words that are left.
     pub fn derivations(&self, alloc: Global, word: &[char]) -> Result<Vec<Derivation>, NoMemory>
         ensures { IfOk result (λ found. found.items ≡ derivations_of self.now word.now) }
     {
@@ -92,11 +96,13 @@ impl Stems {
         self.dictionary.is_barred(alloc, word)
     }
 
-    /// Whether one of the derivations of a spelling stands as a word where a word is written in this case. It is looked for among entries
-    /// first, then with one suffix, with two, and last with a prefix, and no further than to the first.
+    /// Whether one of the derivations of a spelling stands as a word where a word is written in
+    /// this case. It is looked for among entries first, then with one suffix, with two, and last
+    /// with a prefix, and no further than to the first.
     #[tactic(auto, using(crate::proofs::DerivedLemmas::alone_found))]
     pub fn is_alone(&self, alloc: Global, case: Case, spelling: &[char]) -> Result<bool, NoMemory>
-        ensures { IfOk result (λ answer. answer ≡ is_derived (is_alone_in_case case) self.now spelling.now) }
+        ensures { IfOk result
+            (λ answer. answer ≡ is_derived (is_alone_in_case case) self.now spelling.now) }
     {
         let test = Alone {
             case,
@@ -106,14 +112,15 @@ impl Stems {
     }
 }
 
-/// What `Stems::derivations` gives. A derivation is among them if it is licensed and its form is the word, and
-/// otherwise not; and each stands before all after it in the order by entry, prefix, first and second suffix, so
-/// that none stands there twice.
+/// What `Stems::derivations` gives. A derivation is among them if it is licensed and its form is
+/// the word, and otherwise not; and each stands before all after it in the order by entry, prefix,
+/// first and second suffix, so that none stands there twice.
 pub fn derivations_are()
     ensures members { (lexicon : Lexicon) (word : List ℕ) (d : Derivation) →
         Contains (derivations_of lexicon word) d
         ↔ ((is_licensed lexicon d ≡ true) × (form_of lexicon d ≡ Some word)) }
-    ensures rising { (lexicon : Lexicon) (word : List ℕ) → AreInOrder (derivations_of lexicon word) }
+    ensures rising { (lexicon : Lexicon) (word : List ℕ)
+        → AreInOrder (derivations_of lexicon word) }
 {}
 
 /// Puts derivations in order, and keeps each once.

@@ -17,8 +17,9 @@ use std::marker::Model;
 /// No more groups of rules may have made most words, so that their list is made at once.
 const MOST: usize = 12;
 
-/// A word without the affix of a group of rules, which all add and strip off the same. Whether one of them may be undone is
-/// not looked at. What is left is what is kept of the word and what the rules strip off, and is not joined before it must be.
+/// A word without the affix of a group of rules, which all add and strip off the same. Whether one
+/// of them may be undone is not looked at. What is left is what is kept of the word and what the
+/// rules strip off, and is not joined before it must be.
 #[derive(Drop)]
 pub(crate) struct Peeled<'a> {
     front: Hashed<'a>,
@@ -90,7 +91,8 @@ impl<'a> Peeled<'a> {
     }
 }
 
-/// The word without each affix that rules of the side add to words, where it has it, one for each group of rules.
+/// The word without each affix that rules of the side add to words, where it has it, one for each
+/// group of rules.
 pub(crate) fn peel<'a>(
     alloc: Global,
     tables: &'a AffixTables,
@@ -112,7 +114,8 @@ pub(crate) fn peel<'a>(
 fn reach(tables: &AffixTables, side: Side, word: &[char]) -> usize
     ensures within { result ≤ length word.now }
     ensures rules { (rules : List Rule) → IsTableOf rules tables.now → (place : ℕ) (rule : Rule)
-        → IsOn rules side place rule → has_at side word.now rule.add ≡ true → length rule.add ≤ result }
+        → IsOn rules side place rule → has_at side word.now rule.add ≡ true
+        → length rule.add ≤ result }
 {
     match side {
         Side::Prefix => tables.prefix_reach(word),
@@ -122,7 +125,8 @@ fn reach(tables: &AffixTables, side: Side, word: &[char]) -> usize
 
 /// The groups of the rules of the side that add a text.
 fn groups<'a>(tables: &'a AffixTables, side: Side, added: &[char]) -> Groups<'a>
-    ensures { (rules : List Rule) → IsTableOf rules tables.now → AreGroups rules side added.now result }
+    ensures { (rules : List Rule) → IsTableOf rules tables.now
+        → AreGroups rules side added.now result }
 {
     match side {
         Side::Prefix => tables.prefix_groups(added),
@@ -151,7 +155,8 @@ fn add_groups<'a>(
     kept: &'a [char],
     found: &mut Vec<Peeled<'a>>,
 ) -> Result<(), NoMemory>
-    ensures { OnOk result (found.new.items ≡ found.old.items ++ map (peeled_by side kept.now) groups.now) }
+    ensures { OnOk result
+        (found.new.items ≡ found.old.items ++ map (peeled_by side kept.now) groups.now) }
 {
     if groups.is_empty() {
         return Ok(());

@@ -21,7 +21,8 @@ pub(crate) fn flags_of_classes(alloc: Global, rules: &[Rule]) -> Result<FlagSet,
     Ok(set)
 }
 
-/// At the place of each rule whether it may be a second suffix: whether suffix rules carry its flag.
+/// At the place of each rule whether it may be a second suffix: whether suffix rules carry its
+/// flag.
 pub(crate) fn second_suffixes(alloc: Global, rules: &[Rule]) -> Result<Vec<bool>, NoMemory>
     ensures { IfOk result (λ seconds. AreSeconds rules.now seconds.items) }
 {
@@ -31,7 +32,8 @@ pub(crate) fn second_suffixes(alloc: Global, rules: &[Rule]) -> Result<Vec<bool>
 
 /// At the place of each rule whether its flag is in a set.
 fn with_flags(alloc: Global, rules: &[Rule], set: &FlagSet) -> Result<Vec<bool>, NoMemory>
-    ensures { IfOk result (λ told. told.items ≡ map (λ rule. has set.now (Some rule.flag)) rules.now) }
+    ensures { IfOk result
+        (λ told. told.items ≡ map (λ rule. has set.now (Some rule.flag)) rules.now) }
 {
     let told = rules
         .iter()
@@ -54,7 +56,9 @@ fn carried_by_suffixes(alloc: Global, rules: &[Rule]) -> Result<FlagSet, NoMemor
 
 /// Adds the flags that a rule carries, if it is a suffix rule.
 fn add_carried(rule: &Rule, set: &mut FlagSet) -> Result<(), NoMemory>
-    ensures { OnOk result (set.new ≡ (if is_same_side Side.Suffix rule.now.side then put_all set.old rule.now.carried else set.old)) }
+    ensures { OnOk result
+        (set.new ≡ (if is_same_side Side.Suffix rule.now.side then put_all set.old rule.now.carried
+        else set.old)) }
 {
     match rule.side {
         Side::Prefix => Ok(()),

@@ -1,6 +1,8 @@
-//! The walk from a word to its derivations: affixes that may have made it are undone, and what is left is looked up.
+//! The walk from a word to its derivations: affixes that may have made it are undone, and what is
+//! left is looked up.
 
-ghost use Rattle.std.specs.Prelude.{◌≡◌, ◌++◌, ◌^◌, ◌<◌, [], ◌∷◌, ℕ, Bool, List, Some, None, true, length, map, filter, is_some, Contains, IfOk};
+ghost use Rattle.std.specs.Prelude.{◌≡◌, ◌++◌, ◌^◌, ◌<◌, [], ◌∷◌, ℕ, Bool, List, Some, None, true};
+ghost use Rattle.std.specs.Prelude.{length, map, filter, is_some, Contains, IfOk};
 ghost use Rattle.std.specs.List.{list_any};
 ghost use Rattle.spell_types.specs.declared.derivations.Derivation.{Derivation};
 ghost use Rattle.spell_types.specs.Derivations.{form_of};
@@ -8,7 +10,8 @@ ghost use Rattle.spell_types.specs.Licences.{is_licensed, is_forbidden};
 ghost use Rattle.affix_strip.specs.EntryTable.{AreEntriesOf};
 ghost use Rattle.affix_strip.specs.Found.{derivations_of};
 ghost use Rattle.affix_strip.specs.Hashes.{IsHashed};
-ghost use Rattle.affix_strip.specs.Parts.{stem_of, with_first, with_suffixes, Any, Outside, Passes, AtSome, Shows, From, FromAll, RuleFrom, Peels};
+ghost use Rattle.affix_strip.specs.Parts.{stem_of, with_first, with_suffixes, Any, Outside, Passes};
+ghost use Rattle.affix_strip.specs.Parts.{AtSome, Shows, From, FromAll, RuleFrom, Peels};
 ghost use Rattle.affix_strip.specs.Peeling.{may_undo, may_undo_at, fits_on};
 ghost use Rattle.affix_strip.specs.Tables.{AreTablesOf, IsReady, may_be_outer, may_undo_outer};
 
@@ -86,7 +89,8 @@ impl IndexedLexicon {
     /// Whether a word of so many characters is longer than every form.
     pub(crate) fn is_too_long(&self, count: usize) -> bool
         requires { IsReady self.now }
-        ensures { result ≡ true → (d : Derivation) (text : List ℕ) → form_of self.now.lexicon d ≡ Some text → length text < count }
+        ensures { result ≡ true → (d : Derivation) (text : List ℕ)
+            → form_of self.now.lexicon d ≡ Some text → length text < count }
     {
         match self.tables.longest {
             None => false,
@@ -94,7 +98,8 @@ impl IndexedLexicon {
         }
     }
 
-    /// Whether one of the derivations of a word passes a test. The walk ends at the first that does.
+    /// Whether one of the derivations of a word passes a test. The walk ends at the first that
+    /// does.
     pub(crate) fn one_passes<T: Test + Drop>(
         &self,
         alloc: Global,
@@ -109,12 +114,13 @@ impl IndexedLexicon {
         self.visit_all(alloc, word, &mut question)
     }
 
-    /// Whether a word is the form of a forbidden entry. Where such entries allow no affix, it is looked up only among the
-    /// words of entries.
+    /// Whether a word is the form of a forbidden entry. Where such entries allow no affix, it is
+    /// looked up only among the words of entries.
     pub(crate) fn is_barred(&self, alloc: Global, word: &[char]) -> Result<bool, NoMemory>
         requires { IsReady self.now }
         ensures { IfOk result (λ answer.
-            answer ≡ list_any (is_forbidden self.now.lexicon) (derivations_of self.now.lexicon word.now)) }
+            answer ≡ list_any (is_forbidden self.now.lexicon)
+            (derivations_of self.now.lexicon word.now)) }
     {
         let test = Forbidden {
             lexicon: &self.lexicon,
@@ -129,8 +135,8 @@ impl IndexedLexicon {
         }
     }
 
-    /// Shows all derivations of a word, in any order and more than once maybe: first those without affixes, then those with one
-    /// suffix, then those with two, and last those with a prefix.
+    /// Shows all derivations of a word, in any order and more than once maybe: first those without
+    /// affixes, then those with one suffix, then those with two, and last those with a prefix.
     pub(crate) fn visit_all<V: Visitor>(
         &self,
         alloc: Global,
@@ -139,7 +145,8 @@ impl IndexedLexicon {
     ) -> Result<bool, NoMemory>
         requires { IsReady self.now }
         ensures { IfOk result (Shows
-            (λ d. (is_licensed self.now.lexicon d ≡ true) × (form_of self.now.lexicon d ≡ Some word.now))
+            (λ d. (is_licensed self.now.lexicon d ≡ true)
+            × (form_of self.now.lexicon d ≡ Some word.now))
             (V.sees visitor.old) (V.sees visitor.new)) }
     {
         if self.visit_behind(alloc, &[None], word, visitor)? {
@@ -150,7 +157,8 @@ impl IndexedLexicon {
         self.visit_fronts(alloc, fronts.as_slice(), visitor)
     }
 
-    /// Shows the derivations of a word with a prefix. Given are the groups of prefixes that may have made it.
+    /// Shows the derivations of a word with a prefix. Given are the groups of prefixes that may
+    /// have made it.
     fn visit_fronts<V: Visitor>(
         &self,
         alloc: Global,
@@ -159,7 +167,8 @@ impl IndexedLexicon {
     ) -> Result<bool, NoMemory>
         requires { IsReady self.now }
         ensures { IfOk result (Shows
-            (AtSome (Peels self.now.lexicon Side.Prefix (λ d. d.prefix) Any (with_suffixes self.now.lexicon)) fronts.now)
+            (AtSome (Peels self.now.lexicon Side.Prefix (λ d. d.prefix) Any
+            (with_suffixes self.now.lexicon)) fronts.now)
             (V.sees visitor.old) (V.sees visitor.new)) }
     {
         for front in fronts {
@@ -179,7 +188,8 @@ impl IndexedLexicon {
     ) -> Result<bool, NoMemory>
         requires { IsReady self.now }
         ensures { IfOk result (Shows
-            (Peels self.now.lexicon Side.Prefix (λ d. d.prefix) Any (with_suffixes self.now.lexicon) front.now)
+            (Peels self.now.lexicon Side.Prefix (λ d. d.prefix) Any (with_suffixes self.now.lexicon)
+            front.now)
             (V.sees visitor.old) (V.sees visitor.new)) }
     {
         let mut joined = Vec::new(alloc);
@@ -188,7 +198,8 @@ impl IndexedLexicon {
         self.visit_behind(alloc, prefixes.as_slice(), rest, visitor)
     }
 
-    /// Shows the derivations with one of these prefixes, or with none if that is among them, that have this word behind it.
+    /// Shows the derivations with one of these prefixes, or with none if that is among them, that
+    /// have this word behind it.
     fn visit_behind<V: Visitor>(
         &self,
         alloc: Global,
@@ -198,7 +209,8 @@ impl IndexedLexicon {
     ) -> Result<bool, NoMemory>
         requires { IsReady self.now }
         ensures { IfOk result (Shows
-            (Passes self.now.lexicon (λ d. Contains prefixes.now d.prefix) (with_suffixes self.now.lexicon) rest.now)
+            (Passes self.now.lexicon (λ d. Contains prefixes.now d.prefix)
+            (with_suffixes self.now.lexicon) rest.now)
             (V.sees visitor.old) (V.sees visitor.new)) }
     {
         if prefixes.is_empty() {
@@ -216,7 +228,8 @@ impl IndexedLexicon {
         self.visit_outers(alloc, prefixes, endings, visitor)
     }
 
-    /// Shows those of them that have a second suffix. Given are the groups of suffixes that may have made the word.
+    /// Shows those of them that have a second suffix. Given are the groups of suffixes that may
+    /// have made the word.
     fn visit_outers<V: Visitor>(
         &self,
         alloc: Global,
@@ -264,7 +277,8 @@ impl IndexedLexicon {
         self.visit_inside(alloc, prefixes, seconds.as_slice(), inner, visitor)
     }
 
-    /// Shows the derivations with one of these prefixes and one of these second suffixes that have this word inside of them.
+    /// Shows the derivations with one of these prefixes and one of these second suffixes that have
+    /// this word inside of them.
     fn visit_inside<V: Visitor>(
         &self,
         alloc: Global,
@@ -275,7 +289,8 @@ impl IndexedLexicon {
     ) -> Result<bool, NoMemory>
         requires { IsReady self.now }
         ensures { IfOk result (Shows
-            (Passes self.now.lexicon (λ d. Outside prefixes.now seconds.now d × (is_some d.first ≡ true))
+            (Passes self.now.lexicon
+            (λ d. Outside prefixes.now seconds.now d × (is_some d.first ≡ true))
             (with_first self.now.lexicon) inner.now)
             (V.sees visitor.old) (V.sees visitor.new)) }
     {
@@ -287,7 +302,8 @@ impl IndexedLexicon {
         self.visit_firsts(alloc, prefixes, seconds, endings.as_slice(), visitor)
     }
 
-    /// Shows the derivations with one of these prefixes that have this word behind it, and no suffix.
+    /// Shows the derivations with one of these prefixes that have this word behind it, and no
+    /// suffix.
     fn visit_bare<V: Visitor>(
         &self,
         alloc: Global,
@@ -316,8 +332,8 @@ impl IndexedLexicon {
         )
     }
 
-    /// Shows the derivations with one of these prefixes, one of these second suffixes, and a first one. Given are the groups
-    /// of suffixes that may have made the word inside.
+    /// Shows the derivations with one of these prefixes, one of these second suffixes, and a first
+    /// one. Given are the groups of suffixes that may have made the word inside.
     fn visit_firsts<V: Visitor>(
         &self,
         alloc: Global,
@@ -340,8 +356,8 @@ impl IndexedLexicon {
         Ok(false)
     }
 
-    /// Shows those of them that have a first suffix of this group. What it leaves is looked up once, and rules are
-    /// looked at only where that is an entry's word.
+    /// Shows those of them that have a first suffix of this group. What it leaves is looked up
+    /// once, and rules are looked at only where that is an entry's word.
     fn visit_first<V: Visitor>(
         &self,
         alloc: Global,
@@ -370,8 +386,8 @@ impl IndexedLexicon {
         self.visit_rules(prefixes, ending.places(), seconds, stem, entries, visitor)
     }
 
-    /// Shows the derivations with one of these prefixes, one of these second suffixes, and as first suffix one of these rules
-    /// that may be attached to this, that come from one of these entries.
+    /// Shows the derivations with one of these prefixes, one of these second suffixes, and as first
+    /// suffix one of these rules that may be attached to this, that come from one of these entries.
     fn visit_rules<V: Visitor>(
         &self,
         prefixes: &[Option<u32>],
@@ -382,7 +398,8 @@ impl IndexedLexicon {
         visitor: &mut V,
     ) -> Result<bool, NoMemory>
         ensures { IfOk result (Shows
-            (AtSome (RuleFrom self.now.lexicon prefixes.now seconds.now rest.now entries.now) firsts.now)
+            (AtSome (RuleFrom self.now.lexicon prefixes.now seconds.now rest.now entries.now)
+            firsts.now)
             (V.sees visitor.old) (V.sees visitor.new)) }
     {
         for first in firsts {
@@ -483,8 +500,8 @@ impl IndexedLexicon {
         }
     }
 
-    /// Whether the rule with a place leaves this: something is left of the word that it is undone from, or words may be
-    /// stripped whole, and its condition fits.
+    /// Whether the rule with a place leaves this: something is left of the word that it is undone
+    /// from, or words may be stripped whole, and its condition fits.
     fn may_undo(&self, side: Side, rest: &[char], place: u32) -> bool
         ensures { result ≡ may_undo_at self.now.lexicon.affixes side rest.now place }
     {
@@ -503,7 +520,9 @@ impl IndexedLexicon {
     ) -> Result<Places, NoMemory>
         requires ready { IsReady self.now }
         requires front { IsHashed front }
-        ensures { IfOk result (λ places. AreEntriesOf self.now.lexicon.entries (front.entry.text.now ++ back.now) places.items) }
+        ensures { IfOk result
+            (λ places. AreEntriesOf self.now.lexicon.entries (front.entry.text.now ++ back.now)
+            places.items) }
     {
         self.tables
             .by_word
@@ -511,8 +530,8 @@ impl IndexedLexicon {
     }
 }
 
-/// Shows the derivations with one of these prefixes, this first suffix and one of these second ones, that come from one of
-/// these entries and are licensed.
+/// Shows the derivations with one of these prefixes, this first suffix and one of these second
+/// ones, that come from one of these entries and are licensed.
 fn visit_prefixes<V: Visitor>(
     lexicon: &Lexicon,
     prefixes: &[Option<u32>],
@@ -541,7 +560,8 @@ fn visit_seconds<V: Visitor>(
     entries: &[u32],
     visitor: &mut V,
 ) -> Result<bool, NoMemory>
-    ensures { IfOk result (Shows (AtSome (λ second. From lexicon.now prefix first second entries.now) seconds.now)
+    ensures { IfOk result
+        (Shows (AtSome (λ second. From lexicon.now prefix first second entries.now) seconds.now)
         (V.sees visitor.old) (V.sees visitor.new)) }
 {
     for second in seconds {
@@ -600,8 +620,8 @@ fn one_may(each: &[bool]) -> bool
     each.iter().any(|may| *may)
 }
 
-/// Whether a rule may be attached to this. `full_strip` says whether a rule may strip a word whole: the option FULLSTRIP of
-/// hunspell(5).
+/// Whether a rule may be attached to this. `full_strip` says whether a rule may strip a word whole:
+/// the option FULLSTRIP of hunspell(5).
 fn may_undo(full_strip: bool, side: Side, rest: &[char], rule: &Rule) -> bool
     ensures { result ≡ may_undo full_strip side rest.now rule.now }
 {

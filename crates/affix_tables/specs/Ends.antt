@@ -1,5 +1,6 @@
 -- The ends of texts, seen from a side, by keys.
-use Rattle.std.specs.Prelude.{◌≡◌, ℕ, zero, suc, ◌+◌, ◌-◌, ◌*◌, ◌%◌, ◌^◌, ◌<◌, ◌≤◌, true, List, length, get_or}
+use Rattle.std.specs.Prelude.{◌≡◌, ℕ, zero, suc, ◌+◌, ◌-◌, ◌*◌, ◌%◌, ◌^◌, ◌<◌, ◌≤◌, true, List}
+use Rattle.std.specs.Prelude.{length, get_or}
 use Rattle.key_filter.specs.declared.KeyFilter.{KeyFilter}
 use Rattle.key_filter.specs.Filter.{may_have}
 use Rattle.spell_types.specs.declared.rules.Side.{Side}
@@ -22,7 +23,8 @@ key_at side text (suc count) = key_with (key_at side text count) (char_at side t
 
 -- the keys of all ends of a text may be there
 abbrev pub HasEnds : Side → List ℕ → KeyFilter → Type 0
-HasEnds side text ends = (count : ℕ) → 0 < count → count ≤ length text → may_have ends (key_at side text count) ≡ true
+HasEnds side text ends =
+    (count : ℕ) → 0 < count → count ≤ length text → may_have ends (key_at side text count) ≡ true
 
 -- the key of a text may be there
 abbrev pub HasText : Side → List ℕ → KeyFilter → Type 0

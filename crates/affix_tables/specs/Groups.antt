@@ -34,8 +34,10 @@ pub record HasPlace (groups : List Group) (strip : List ℕ) (place : ℕ) : Typ
   pub has : Contains group.1.items place
 
 -- these are the groups of the rules of a side that add a text
-pub record AreGroups (rules : List Rule) (side : Side) (added : List ℕ) (groups : List Group) : Type 0 where
+pub record AreGroups (rules : List Rule) (side : Side) (added : List ℕ) (groups : List Group) : Type
+    0 where
   pub members : (strip : List ℕ) (place : ℕ) → HasPlace groups strip place
-      ↔ ((rule : Rule) × (slice_get rules place ≡ Some rule) × (rule.side ≡ side) × (rule.add ≡ added) × (rule.strip ≡ strip))
+      ↔ ((rule : Rule) × (slice_get rules place ≡ Some rule) × (rule.side ≡ side)
+      × (rule.add ≡ added) × (rule.strip ≡ strip))
   pub rising : (group : Group) → Contains groups group → IsStrictlyIncreasing group.1.items
   pub apart : AreApart groups

@@ -1,7 +1,9 @@
 //! Affix rules by the texts that they add: which of them may have made a word.
 #![tactic(auto)]
 
-ghost use Rattle.std.specs.Prelude.{◌≡◌, ◌↔◌, ◌+◌, ◌^◌, ◌<◌, ◌≤◌, ◌++◌, [], ◌∷◌, ℕ, List, Some, true, false, length, max, min, nat_eq, slice_get, Contains, OnOk, IfOk, if◌then◌else◌};
+ghost use Rattle.std.specs.Prelude.{◌≡◌, ◌↔◌, ◌+◌, ◌^◌, ◌<◌, ◌≤◌, ◌++◌, [], ◌∷◌, ℕ, List, Some};
+ghost use Rattle.std.specs.Prelude.{true, false, length, max, min, nat_eq, slice_get, Contains};
+ghost use Rattle.std.specs.Prelude.{OnOk, IfOk, if◌then◌else◌};
 ghost use Rattle.std.specs.Cmp.Lexicographic.{pointwise};
 ghost use Rattle.spell_types.specs.Derivations.{is_same_side};
 ghost use Rattle.std.specs.List.{starts_with, ends_with};
@@ -12,7 +14,8 @@ ghost use Rattle.affix_tables.specs.Places.{suffix_places, prefix_places};
 ghost use Rattle.affix_tables.specs.Groups.{strip_in, places_in, AreApart, AreGroups};
 ghost use Rattle.key_filter.specs.Filter.{may_have};
 ghost use Rattle.affix_tables.specs.Ends.{char_at, key_with, key_at, HasEnds, HasText, KeepsKeys};
-ghost use Rattle.affix_tables.specs.Tables.{places_at, groups_at, all_places, Puts, ending_places, front_places, IsTable, IsTableOf};
+ghost use Rattle.affix_tables.specs.Tables.{places_at, groups_at, all_places, Puts, ending_places};
+ghost use Rattle.affix_tables.specs.Tables.{front_places, IsTable, IsTableOf};
 
 use indexmap::IndexMap;
 use indexmap::map::Slice;
@@ -24,19 +27,20 @@ use std::alloc::Global;
 /// The key of no characters.
 const START: u64 = 1;
 
-/// What a key is multiplied with before a character is added. It is odd, so that no bit of what stands before is lost.
+/// What a key is multiplied with before a character is added. It is odd, so that no bit of what
+/// stands before is lost.
 const FACTOR: u64 = 0x9E37_79B9_7F4A_7C15;
 
-/// The affix rules of a dictionary, by the texts that they add. The rules themselves are not kept: an answer names
-/// them by their places in the list that the tables were made of.
+/// The affix rules of a dictionary, by the texts that they add. The rules themselves are not kept:
+/// an answer names them by their places in the list that the tables were made of.
 #[derive(Drop)]
 pub struct AffixTables {
     suffixes: Table,
     prefixes: Table,
 }
 
-/// The groups of rules that add one text: each text that one of them strips off, and the places of those that strip it
-/// off, rising.
+/// The groups of rules that add one text: each text that one of them strips off, and the places of
+/// those that strip it off, rising.
 pub type Groups<'a> = Slice<'a, Vec<char>, Vec<u32>>;
 
 /// Groups as they are gathered.
@@ -49,15 +53,16 @@ struct Table {
     by_text: IndexMap<Vec<char>, GroupMap>,
     /// No rule adds more characters.
     longest: usize,
-    /// The keys of all ends of the texts that rules add, seen from the side: where a word's end has none of them, no rule goes on.
+    /// The keys of all ends of the texts that rules add, seen from the side: where a word's end has
+    /// none of them, no rule goes on.
     ends: KeyFilter,
     /// The keys of the texts themselves: one that has none of them is not looked up.
     texts: KeyFilter,
 }
 
 impl AffixTables {
-    /// The tables of these rules. A rule is named by its place in the list, from 0. It fails only where memory is
-    /// wanting.
+    /// The tables of these rules. A rule is named by its place in the list, from 0. It fails only
+    /// where memory is wanting.
     pub fn new(alloc: Global, rules: &[Rule]) -> Result<AffixTables, NoMemory>
         requires { length rules.now < 2 ^ 32 }
         ensures { IfOk result (λ made. IsTableOf rules.now made) }
@@ -67,9 +72,10 @@ impl AffixTables {
         Ok(AffixTables { suffixes, prefixes })
     }
 
-    /// The places, from 0, of the suffix rules whose added text ends the word, rising. A rule that adds nothing is always
-    /// among them, and so is one that adds the whole word; whether a rule may be undone is not looked at. An ending with
-    /// more characters than any suffix rule adds is not looked up. It fails only where memory is wanting.
+    /// The places, from 0, of the suffix rules whose added text ends the word, rising. A rule that
+    /// adds nothing is always among them, and so is one that adds the whole word; whether a rule
+    /// may be undone is not looked at. An ending with more characters than any suffix rule adds is
+    /// not looked up. It fails only where memory is wanting.
     pub fn suffixes_of(&self, alloc: Global, word: &[char]) -> Result<Vec<u32>, NoMemory>
         ensures { (rules : List Rule) → IsTableOf rules self.now
             → IfOk result (λ places. places.items ≡ suffix_places rules word.now) }
@@ -79,9 +85,10 @@ impl AffixTables {
         Ok(endings)
     }
 
-    /// The places, from 0, of the prefix rules whose added text begins the word, rising. A rule that adds nothing is always
-    /// among them, and so is one that adds the whole word; whether a rule may be undone is not looked at. A front with more
-    /// characters than any prefix rule adds is not looked up. It fails only where memory is wanting.
+    /// The places, from 0, of the prefix rules whose added text begins the word, rising. A rule
+    /// that adds nothing is always among them, and so is one that adds the whole word; whether a
+    /// rule may be undone is not looked at. A front with more characters than any prefix rule adds
+    /// is not looked up. It fails only where memory is wanting.
     pub fn prefixes_of(&self, alloc: Global, word: &[char]) -> Result<Vec<u32>, NoMemory>
         ensures { (rules : List Rule) → IsTableOf rules self.now
             → IfOk result (λ places. places.items ≡ prefix_places rules word.now) }
@@ -93,14 +100,16 @@ impl AffixTables {
 
     /// The groups of the suffix rules that add this text. There are none where no rule adds it.
     pub fn suffix_groups(&self, added: &[char]) -> Groups<'_>
-        ensures { (rules : List Rule) → IsTableOf rules self.now → AreGroups rules Suffix added.now result }
+        ensures { (rules : List Rule) → IsTableOf rules self.now
+            → AreGroups rules Suffix added.now result }
     {
         groups_adding(Side::Suffix, &self.suffixes, added)
     }
 
     /// The groups of the prefix rules that add this text. There are none where no rule adds it.
     pub fn prefix_groups(&self, added: &[char]) -> Groups<'_>
-        ensures { (rules : List Rule) → IsTableOf rules self.now → AreGroups rules Prefix added.now result }
+        ensures { (rules : List Rule) → IsTableOf rules self.now
+            → AreGroups rules Prefix added.now result }
     {
         groups_adding(Side::Prefix, &self.prefixes, added)
     }
@@ -109,7 +118,8 @@ impl AffixTables {
     pub fn suffix_reach(&self, word: &[char]) -> usize
         ensures within { result ≤ length word.now }
         ensures rules { (rules : List Rule) → IsTableOf rules self.now → (place : ℕ) (rule : Rule)
-            → slice_get rules place ≡ Some rule → rule.side ≡ Suffix → ends_with nat_eq word.now rule.add ≡ true
+            → slice_get rules place ≡ Some rule → rule.side ≡ Suffix
+            → ends_with nat_eq word.now rule.add ≡ true
             → length rule.add ≤ result }
     {
         reach(Side::Suffix, &self.suffixes.ends, word)
@@ -119,15 +129,16 @@ impl AffixTables {
     pub fn prefix_reach(&self, word: &[char]) -> usize
         ensures within { result ≤ length word.now }
         ensures rules { (rules : List Rule) → IsTableOf rules self.now → (place : ℕ) (rule : Rule)
-            → slice_get rules place ≡ Some rule → rule.side ≡ Prefix → starts_with nat_eq word.now rule.add ≡ true
+            → slice_get rules place ≡ Some rule → rule.side ≡ Prefix
+            → starts_with nat_eq word.now rule.add ≡ true
             → length rule.add ≤ result }
     {
         reach(Side::Prefix, &self.prefixes.ends, word)
     }
 }
 
-/// What the look-ups give. A place is among them if a rule of the side stands there whose added text ends, or begins, the
-/// word, and otherwise not; and each place is below the next.
+/// What the look-ups give. A place is among them if a rule of the side stands there whose added
+/// text ends, or begins, the word, and otherwise not; and each place is below the next.
 pub fn places_are()
     ensures suffixes { (rules : List Rule) (word : List ℕ) (place : ℕ) →
         Contains (suffix_places rules word) place
@@ -137,8 +148,10 @@ pub fn places_are()
         Contains (prefix_places rules word) place
         ↔ ((rule : Rule) × (slice_get rules place ≡ Some rule) × (rule.side ≡ Prefix)
         × (starts_with nat_eq word rule.add ≡ true)) }
-    ensures suffixes_rise { (rules : List Rule) (word : List ℕ) → IsStrictlyIncreasing (suffix_places rules word) }
-    ensures prefixes_rise { (rules : List Rule) (word : List ℕ) → IsStrictlyIncreasing (prefix_places rules word) }
+    ensures suffixes_rise { (rules : List Rule) (word : List ℕ)
+        → IsStrictlyIncreasing (suffix_places rules word) }
+    ensures prefixes_rise { (rules : List Rule) (word : List ℕ)
+        → IsStrictlyIncreasing (prefix_places rules word) }
 {}
 
 /// The table of the rules of a side.
@@ -194,7 +207,8 @@ fn is_on(side: Side, rule: &Rule) -> bool
     }
 }
 
-/// Adds a place at the end of its group, which is that of the rules that add and strip off these texts.
+/// Adds a place at the end of its group, which is that of the rules that add and strip off these
+/// texts.
 fn put(
     alloc: Global,
     side: Side,
@@ -203,10 +217,13 @@ fn put(
     stripped: &[char],
     place: u32,
 ) -> Result<(), NoMemory>
-    ensures place { OnOk result (Puts table.old.by_text.entries table.new.by_text.entries added.now stripped.now place) }
+    ensures place { OnOk result
+        (Puts table.old.by_text.entries table.new.by_text.entries added.now stripped.now place) }
     ensures longest { OnOk result (table.new.longest ≡ max table.old.longest (length added.now)) }
-    ensures ends { OnOk result (HasEnds side added.now table.new.ends × KeepsKeys table.old.ends table.new.ends) }
-    ensures texts { OnOk result (HasText side added.now table.new.texts × KeepsKeys table.old.texts table.new.texts) }
+    ensures ends { OnOk result
+        (HasEnds side added.now table.new.ends × KeepsKeys table.old.ends table.new.ends) }
+    ensures texts { OnOk result
+        (HasText side added.now table.new.texts × KeepsKeys table.old.texts table.new.texts) }
 {
     put_in_group(alloc, &mut table.by_text, added, stripped, place)?;
     table.longest = table.longest.max(added.len());
@@ -241,7 +258,8 @@ fn key_of(side: Side, text: &[char]) -> u64
 /// How many characters at the side's end of a word have a key among these, one after another.
 fn reach(side: Side, ends: &KeyFilter, word: &[char]) -> usize
     ensures within { result ≤ length word.now }
-    ensures over { result < length word.now → may_have ends.now (key_at side word.now (result + 1)) ≡ false }
+    ensures over { result < length word.now → may_have ends.now (key_at side word.now (result + 1))
+        ≡ false }
 {
     let mut key = START;
     for number in 0..word.len() {
@@ -279,7 +297,8 @@ fn put_in_group(
     stripped: &[char],
     place: u32,
 ) -> Result<(), NoMemory>
-    ensures { OnOk result (Puts by_text.old.entries by_text.new.entries added.now stripped.now place) }
+    ensures { OnOk result
+        (Puts by_text.old.entries by_text.new.entries added.now stripped.now place) }
 {
     match by_text.get_mut(added) {
         Some(groups) => {
@@ -303,8 +322,11 @@ fn put_at(
     place: u32,
 ) -> Result<(), NoMemory>
     ensures at_text { OnOk result ((other : List ℕ) → places_at by_text.new.entries other
-        ≡ places_at by_text.old.entries other ++ (if pointwise nat_eq other text.now then place ∷ [] else [])) }
-    ensures all { OnOk result (IsPermutation (all_places by_text.new.entries) (all_places by_text.old.entries ++ place ∷ [])) }
+        ≡ places_at by_text.old.entries other
+        ++ (if pointwise nat_eq other text.now then place ∷ [] else [])) }
+    ensures all { OnOk result
+        (IsPermutation (all_places by_text.new.entries)
+        (all_places by_text.old.entries ++ place ∷ [])) }
 {
     match by_text.get_mut(text) {
         Some(places) => {
@@ -320,7 +342,8 @@ fn put_at(
     }
 }
 
-/// The places at the endings of a word that are no longer than a text of the table, by their lengths.
+/// The places at the endings of a word that are no longer than a text of the table, by their
+/// lengths.
 fn places_at_endings(alloc: Global, table: &Table, word: &[char]) -> Result<Vec<u32>, NoMemory>
     ensures { IfOk result (λ found. found.items ≡ ending_places table.now word.now) }
 {
@@ -331,7 +354,8 @@ fn places_at_endings(alloc: Global, table: &Table, word: &[char]) -> Result<Vec<
     Ok(found)
 }
 
-/// The places at the fronts of a word that are no longer than a text of the table, by their lengths.
+/// The places at the fronts of a word that are no longer than a text of the table, by their
+/// lengths.
 fn places_at_fronts(alloc: Global, table: &Table, word: &[char]) -> Result<Vec<u32>, NoMemory>
     ensures { IfOk result (λ found. found.items ≡ front_places table.now word.now) }
 {
@@ -358,9 +382,11 @@ fn add_places(
     Ok(())
 }
 
-/// The groups of the rules of a table's side that add this text. Most texts that no rule adds are not looked up.
+/// The groups of the rules of a table's side that add this text. Most texts that no rule adds are
+/// not looked up.
 fn groups_adding<'a>(side: Side, table: &'a Table, added: &[char]) -> Groups<'a>
-    ensures { (rules : List Rule) → IsTable rules side table.now → AreGroups rules side added.now result }
+    ensures { (rules : List Rule) → IsTable rules side table.now
+        → AreGroups rules side added.now result }
 {
     if !table.texts.may_have(key_of(side, added)) {
         return Slice::new();

@@ -1,5 +1,5 @@
-//! Tests of boards, and of paragraphs that are checked in steps: calls of lower crates that no run of the program shows. It has
-//! no code of its own.
+//! Tests of boards, and of paragraphs that are checked in steps: calls of lower crates that no run
+//! of the program shows. It has no code of its own.
 #![tactic(auto)]
 
 #[cfg(test)]

@@ -1,10 +1,13 @@
 -- Patterns in order, each once, break words as those which they were made of.
-use Rattle.std.proofs.Common.{◌≡◌, ◌∙◌, refl, sym, ap, ap₂, subst, ℕ, zero, suc, ◌+◌, ◌<◌, Bool, true, false, ◌&&◌, List, [], ◌∷◌, length, map, get_or, nat_eq, IsPermutation, arith}
+use Rattle.std.proofs.Common.{◌≡◌, ◌∙◌, refl, sym, ap, ap₂, subst, ℕ, zero, suc, ◌+◌, ◌<◌, Bool}
+use Rattle.std.proofs.Common.{true, false, ◌&&◌, List, [], ◌∷◌, length, map, get_or, nat_eq}
+use Rattle.std.proofs.Common.{IsPermutation, arith}
 use Rattle.std.specs.Cmp.{IsTotalOrder, IsEquivalence, bool_cmp_total, both_tied, both_ways}
 use Rattle.std.specs.Cmp.Lexicographic.{pointwise, slice_cmp, texts_ties}
 use Rattle.std.specs.List.{Contains, Any, dedup}
 use Rattle.std.specs.List.Sorted.{IsSorted, IsStrictlySortedBy}
-use Rattle.std.specs.Ordering.{nat_cmp, bool_cmp, ordering_then, ordering_reverse, eq_by_cmp, is_eq, is_lt}
+use Rattle.std.specs.Ordering.{nat_cmp, bool_cmp, ordering_then, ordering_reverse, eq_by_cmp, is_eq}
+use Rattle.std.specs.Ordering.{is_lt}
 use Rattle.std.specs.declared.cmp.Ordering.{Ordering}
 use Rattle.std.specs.declared.cmp.Ordering.TheVariants.{Less, Equal, Greater}
 use Rattle.std.proofs.lemmas.Bool.{false≢true}
@@ -23,12 +26,15 @@ use mathlib.Core.Bool.{beq}
 
 -- ---- the order of patterns, and their equality
 abbrev pub pattern_cmp : Pattern → Pattern → Ordering
-pattern_cmp p q = ordering_then (slice_cmp nat_cmp p.0.items q.0.items) (ordering_then (bool_cmp p.1.0 q.1.0) (bool_cmp p.1.1 q.1.1))
+pattern_cmp p q =
+    ordering_then (slice_cmp nat_cmp p.0.items q.0.items)
+    (ordering_then (bool_cmp p.1.0 q.1.0) (bool_cmp p.1.1 q.1.1))
 
 pattern-total : IsTotalOrder pattern_cmp
 pattern-total =
     let total = then_total (on_total (λ (p : Pattern). p.0.items) nat_list_cmp_total)
-    (then_total (on_total (λ (p : Pattern). p.1.0) bool_cmp_total) (on_total (λ (p : Pattern). p.1.1) bool_cmp_total)) in
+    (then_total (on_total (λ (p : Pattern). p.1.0) bool_cmp_total)
+    (on_total (λ (p : Pattern). p.1.1) bool_cmp_total)) in
     record { antisymm = total.antisymm; trans = total.trans; congr = total.congr }
 
 equal-text : (xs ys : List ℕ) → slice_cmp nat_cmp xs ys ≡ Equal → xs ≡ ys
@@ -40,7 +46,8 @@ equal-text (x ∷ xs) (y ∷ ys) is = by (nat_cmp x y) refl (equal-text xs ys) i
     same : (x y : ℕ) → nat_cmp x y ≡ Equal → x ≡ y
     same x y is = grind (arith, nat_tests)
 
-    by : (o : Ordering) → nat_cmp x y ≡ o → (slice_cmp nat_cmp xs ys ≡ Equal → xs ≡ ys) → ordering_then o (slice_cmp nat_cmp xs ys) ≡ Equal → x ∷ xs ≡ y ∷ ys
+    by : (o : Ordering) → nat_cmp x y ≡ o → (slice_cmp nat_cmp xs ys ≡ Equal → xs ≡ ys)
+        → ordering_then o (slice_cmp nat_cmp xs ys) ≡ Equal → x ∷ xs ≡ y ∷ ys
     by Less at rest is = absurd (cc)
     by Equal at rest is = ap₂ (λ a rest. a ∷ rest) (same x y at) (rest is)
     by Greater at rest is = absurd (cc)
@@ -73,48 +80,74 @@ is-equal Equal is = refl
 is-equal Greater is = absurd (false≢true is)
 
 -- ---- in order, each once
-strict-next : (ps : List Pattern) → IsStrictlySortedBy pattern_cmp ps → (k : ℕ) (d : Pattern) → k + 1 < length ps → pattern_cmp (get_or ps k d) (get_or ps (k + 1) d) ≡ Less
+strict-next : (ps : List Pattern) → IsStrictlySortedBy pattern_cmp ps → (k : ℕ) (d : Pattern)
+    → k + 1 < length ps → pattern_cmp (get_or ps k d) (get_or ps (k + 1) d) ≡ Less
 unfolding IsStrictlySortedBy
 strict-next [] up k d within = absurd (omega (arith, within))
 strict-next (p ∷ []) up k d within = absurd (omega (arith, within))
 strict-next (p ∷ q ∷ ps) up zero d within = up.0.0
 strict-next (p ∷ q ∷ ps) up (suc k) d within =
     let later : suc (k + 1) ≡ suc k + 1 = omega arith in
-    subst (λ n. pattern_cmp (get_or (q ∷ ps) k d) (get_or (p ∷ q ∷ ps) n d) ≡ Less) later (strict-next (q ∷ ps) up.1 k d (omega (arith, within)))
+    subst (λ n. pattern_cmp (get_or (q ∷ ps) k d) (get_or (p ∷ q ∷ ps) n d) ≡ Less) later
+    (strict-next (q ∷ ps) up.1 k d (omega (arith, within)))
 
 then-reversed : (o more : Ordering) → ordering_then o more ≡ Greater → is_lt o ≡ false
 then-reversed Less more is = absurd (cc)
 then-reversed Equal more is = refl
 then-reversed Greater more is = refl
 
-pub kept-in_order : (E : Pattern → Pattern → Bool) → ((p q : Pattern) → E p q ≡ eq_by_cmp pattern_cmp p q) → (moved kept : List Pattern) → IsSorted pattern_cmp moved → kept ≡ dedup E moved → AreInOrder kept
+pub kept-in_order : (E : Pattern → Pattern → Bool)
+    → ((p q : Pattern) → E p q ≡ eq_by_cmp pattern_cmp p q) → (moved kept : List Pattern)
+    → IsSorted pattern_cmp moved → kept ≡ dedup E moved → AreInOrder kept
 kept-in_order E ties moved kept sorted is = λ k d above within.
-    let strict : IsStrictlySortedBy pattern_cmp kept = subst (IsStrictlySortedBy pattern_cmp) (sym is) (IsStrictlySortedBy-dedup pattern-total ties moved sorted) in
-    let less : pattern_cmp (get_or kept k d) (get_or kept (k + 1) d) ≡ Less = strict-next kept strict k d within in
+    let strict : IsStrictlySortedBy pattern_cmp kept =
+    subst (IsStrictlySortedBy pattern_cmp) (sym is)
+    (IsStrictlySortedBy-dedup pattern-total ties moved sorted) in
+    let less : pattern_cmp (get_or kept k d) (get_or kept (k + 1) d) ≡ Less =
+    strict-next kept strict k d within in
     then-reversed (slice_cmp nat_cmp (get_or kept (k + 1) d).0.items (get_or kept k d).0.items) _
     (pattern-total.antisymm (get_or kept (k + 1) d) (get_or kept k d) ∙ ap ordering_reverse less)
 
 -- ---- words are broken alike
-tree_more : (base barred : List ℕ → Bool) (breaks other : List Anchored) → ((b : Anchored) → Contains breaks b → Contains other b) → (word : List ℕ) → IsBroken base barred breaks word → IsBroken base barred other word
+tree_more : (base barred : List ℕ → Bool) (breaks other : List Anchored)
+    → ((b : Anchored) → Contains breaks b → Contains other b) → (word : List ℕ)
+    → IsBroken base barred breaks word → IsBroken base barred other word
 tree_more base barred breaks other more _ (whole word e) = whole word e
-tree_more base barred breaks other more _ (between word front rest b free among f k parts some_front some_rest front_tree rest_tree) =
-    between word front rest b free (more b among) f k parts some_front some_rest (tree_more base barred breaks other more front front_tree) (tree_more base barred breaks other more rest rest_tree)
+tree_more base barred breaks other more _
+    (between word front rest b free among f k parts some_front some_rest front_tree rest_tree) =
+    between word front rest b free (more b among) f k parts some_front some_rest
+    (tree_more base barred breaks other more front front_tree)
+    (tree_more base barred breaks other more rest rest_tree)
 tree_more base barred breaks other more _ (behind word rest b free among f k is some tree) =
-    behind word rest b free (more b among) f k is some (tree_more base barred breaks other more rest tree)
+    behind word rest b free (more b among) f k is some
+    (tree_more base barred breaks other more rest tree)
 tree_more base barred breaks other more _ (before word front b free among f k is some tree) =
-    before word front b free (more b among) f k is some (tree_more base barred breaks other more front tree)
+    before word front b free (more b among) f k is some
+    (tree_more base barred breaks other more front tree)
 
-broken_more : (base barred : List ℕ → Bool) (breaks other : List Anchored) → ((b : Anchored) → Contains breaks b → Contains other b) → (word : List ℕ) → is_broken base barred breaks word ≡ true → is_broken base barred other word ≡ true
-broken_more base barred breaks other more word e = tree_broken base barred other word (tree_more base barred breaks other more word (broken_tree base barred breaks word e))
+broken_more : (base barred : List ℕ → Bool) (breaks other : List Anchored)
+    → ((b : Anchored) → Contains breaks b → Contains other b) → (word : List ℕ)
+    → is_broken base barred breaks word ≡ true → is_broken base barred other word ≡ true
+broken_more base barred breaks other more word e =
+    tree_broken base barred other word
+    (tree_more base barred breaks other more word (broken_tree base barred breaks word e))
 
-same-members : (breaks other : List Anchored) → ((b : Anchored) → Contains breaks b → Contains other b) → ((b : Anchored) → Contains other b → Contains breaks b) → BreakAlike breaks other
+same-members : (breaks other : List Anchored)
+    → ((b : Anchored) → Contains breaks b → Contains other b)
+    → ((b : Anchored) → Contains other b → Contains breaks b) → BreakAlike breaks other
 unfolding BreakAlike
 same-members breaks other more less = λ base barred word.
-    both_ways (is_broken base barred breaks word) (is_broken base barred other word) (broken_more base barred breaks other more word) (broken_more base barred other breaks less word)
+    both_ways (is_broken base barred breaks word) (is_broken base barred other word)
+    (broken_more base barred breaks other more word)
+    (broken_more base barred other breaks less word)
 
-pub kept-alike : (E : Pattern → Pattern → Bool) → ((p q : Pattern) → E p q ≡ eq_by_cmp pattern_cmp p q) → (copies moved kept : List Pattern) (breaks : List Anchored) → map anchored_of copies ≡ breaks → IsPermutation copies moved → kept ≡ dedup E moved
+pub kept-alike : (E : Pattern → Pattern → Bool)
+    → ((p q : Pattern) → E p q ≡ eq_by_cmp pattern_cmp p q)
+    → (copies moved kept : List Pattern) (breaks : List Anchored) → map anchored_of copies ≡ breaks
+    → IsPermutation copies moved → kept ≡ dedup E moved
     → BreakAlike (map anchored_of kept) breaks
-kept-alike E ties copies moved kept breaks are permutation is = same-members (map anchored_of kept) breaks forth back
+kept-alike E ties copies moved kept breaks are permutation is =
+    same-members (map anchored_of kept) breaks forth back
   where
     alike : IsEquivalence (eq_by_cmp pattern_cmp)
     alike = eq_by_cmp_equiv pattern-total
@@ -129,18 +162,24 @@ kept-alike E ties copies moved kept breaks are permutation is = same-members (ma
     forth : (b : Anchored) → Contains (map anchored_of kept) b → Contains breaks b
     forth b inside =
         let own = made-of anchored_of kept b inside in
-        subst (λ bs. Contains bs b) are (subst (Contains (map anchored_of copies)) own.2 (contains-map anchored_of copies own.0
-        (Contains-permutation moved copies own.0 (IsPermutation-sym copies moved permutation) (Contains-from_dedup E moved own.0 (subst (λ ps. Contains ps own.0) is own.1)))))
+        subst (λ bs. Contains bs b) are
+        (subst (Contains (map anchored_of copies)) own.2 (contains-map anchored_of copies own.0
+        (Contains-permutation moved copies own.0 (IsPermutation-sym copies moved permutation)
+        (Contains-from_dedup E moved own.0 (subst (λ ps. Contains ps own.0) is own.1)))))
 
-    one : (b : Anchored) (p : Pattern) → anchored_of p ≡ b → Any (λ q. E p q ≡ true) (dedup E moved) → Contains (map anchored_of kept) b
+    one : (b : Anchored) (p : Pattern) → anchored_of p ≡ b → Any (λ q. E p q ≡ true) (dedup E moved)
+        → Contains (map anchored_of kept) b
     one b p made (k, q, within, at, same) =
-        subst (Contains (map anchored_of kept)) (sym (equal-pattern p q (is-equal (pattern_cmp p q) (sym (ties p q) ∙ same))) ∙ made)
+        subst (Contains (map anchored_of kept))
+        (sym (equal-pattern p q (is-equal (pattern_cmp p q) (sym (ties p q) ∙ same))) ∙ made)
         (contains-map anchored_of kept q (subst (λ ps. Contains ps q) (sym is) (k, within, at)))
 
     back : (b : Anchored) → Contains breaks b → Contains (map anchored_of kept) b
     back b inside =
         let own = made-of anchored_of copies b (subst (λ bs. Contains bs b) (sym are) inside) in
-        one b own.0 own.2 (Any-dedup equivalence moved own.0 (Contains-permutation copies moved own.0 permutation own.1))
+        one b own.0 own.2
+        (Any-dedup equivalence moved own.0
+        (Contains-permutation copies moved own.0 permutation own.1))
 
 -- ---- equality of patterns, as their order has it
 abbrev pub same_pattern : Pattern → Pattern → Bool
@@ -154,6 +193,9 @@ bool-ties false false = refl
 
 pub pattern-ties : (p q : Pattern) → same_pattern p q ≡ eq_by_cmp pattern_cmp p q
 pattern-ties p q =
-    both_tied (pointwise nat_eq p.0.items q.0.items) (beq p.1.0 q.1.0 && beq p.1.1 q.1.1) (slice_cmp nat_cmp p.0.items q.0.items) (ordering_then (bool_cmp p.1.0 q.1.0) (bool_cmp p.1.1 q.1.1))
+    both_tied (pointwise nat_eq p.0.items q.0.items) (beq p.1.0 q.1.0 && beq p.1.1 q.1.1)
+    (slice_cmp nat_cmp p.0.items q.0.items)
+    (ordering_then (bool_cmp p.1.0 q.1.0) (bool_cmp p.1.1 q.1.1))
     (texts_ties p.0.items q.0.items)
-    (both_tied (beq p.1.0 q.1.0) (beq p.1.1 q.1.1) (bool_cmp p.1.0 q.1.0) (bool_cmp p.1.1 q.1.1) (bool-ties p.1.0 q.1.0) (bool-ties p.1.1 q.1.1))
+    (both_tied (beq p.1.0 q.1.0) (beq p.1.1 q.1.1) (bool_cmp p.1.0 q.1.0) (bool_cmp p.1.1 q.1.1)
+    (bool-ties p.1.0 q.1.0) (bool-ties p.1.1 q.1.1))

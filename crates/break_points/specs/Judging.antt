@@ -24,4 +24,5 @@ is_barred_by judged word = is_barred (judged word)
 
 -- what is answered for a word, if memory was to be had, is one function of the word
 abbrev pub AnswersAs : (List ℕ → Result Judged NoMemory → Type 0) → (List ℕ → Judged) → Type 0
-AnswersAs answers judged = (word : List ℕ) (verdict : Judged) → answers word (Ok verdict) → verdict ≡ judged word
+AnswersAs answers judged =
+    (word : List ℕ) (verdict : Judged) → answers word (Ok verdict) → verdict ≡ judged word

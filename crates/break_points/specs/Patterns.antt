@@ -13,4 +13,5 @@ anchored_of p = record { text = p.0.items; front = p.1.0; back = p.1.1 }
 
 -- the same words are broken by the patterns of one list as by those of another
 unfoldable pub BreakAlike : List Anchored → List Anchored → Type 0
-BreakAlike breaks other = (base barred : List ℕ → Bool) (word : List ℕ) → is_broken base barred breaks word ≡ is_broken base barred other word
+BreakAlike breaks other = (base barred : List ℕ → Bool) (word : List ℕ)
+    → is_broken base barred breaks word ≡ is_broken base barred other word

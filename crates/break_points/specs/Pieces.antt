@@ -1,5 +1,6 @@
 -- Pieces of a word by their places, and the ways to break them.
-use Rattle.std.specs.Prelude.{◌≡◌, ℕ, ◌+◌, ◌-◌, Bool, true, false, ◌&&◌, List, [], ◌∷◌, length, map, take, drop, slice_range, nat_eq, nat_lt, nat_le, Some, if◌then◌else◌}
+use Rattle.std.specs.Prelude.{◌≡◌, ℕ, ◌+◌, ◌-◌, Bool, true, false, ◌&&◌, List, [], ◌∷◌, length, map}
+use Rattle.std.specs.Prelude.{take, drop, slice_range, nat_eq, nat_lt, nat_le, Some, if◌then◌else◌}
 use Rattle.std.specs.List.{filter, flat_map, range_with_len, starts_with, ends_with}
 use Rattle.std.specs.BTreeMap.{get}
 use Rattle.std.specs.Ordering.{nat_cmp, ordering_then}
@@ -19,7 +20,8 @@ is_broken_by judged breaks word = is_broken (is_base_by judged) (is_barred_by ju
 
 -- the same of a piece of a word
 abbrev pub is_broken_piece : (List ℕ → Judged) → List Anchored → List ℕ → Stretch → Bool
-is_broken_piece judged breaks word piece = is_broken_by judged breaks (slice_range word piece.from piece.to)
+is_broken_piece judged breaks word piece =
+    is_broken_by judged breaks (slice_range word piece.from piece.to)
 
 -- the order of the table's keys
 abbrev pub place_cmp : ℕ × ℕ → ℕ × ℕ → Ordering
@@ -27,7 +29,8 @@ place_cmp a b = ordering_then (nat_cmp a.0 b.0) (nat_cmp a.1 b.1)
 
 -- what stands in the table is right
 unfoldable pub IsRight : (Stretch → Bool) → Table → Type 0
-IsRight right table = (piece : Stretch) (answer : Bool) → get place_cmp table.answers (piece.from, piece.to) ≡ Some answer → answer ≡ right piece
+IsRight right table = (piece : Stretch) (answer : Bool)
+    → get place_cmp table.answers (piece.from, piece.to) ≡ Some answer → answer ≡ right piece
 
 -- whether all that a way leaves of a piece passes a test
 abbrev pub all_left : (List ℕ → Bool) → List ℕ → Way → Bool
@@ -37,7 +40,8 @@ all_left test piece (Before end) = test (take end piece)
 
 -- whether each thing that a way leaves of a piece is shorter than it
 abbrev pub is_shorter : List ℕ → Way → Bool
-is_shorter piece (Between end start) = nat_lt end (length piece) && (nat_lt 0 start && nat_le start (length piece))
+is_shorter piece (Between end start) =
+    nat_lt end (length piece) && (nat_lt 0 start && nat_le start (length piece))
 is_shorter piece (Behind start) = nat_lt 0 start && nat_le start (length piece)
 is_shorter piece (Before end) = nat_lt end (length piece)
 
@@ -49,15 +53,18 @@ abbrev pub parting : List ℕ → ℕ → Way
 parting text place = Between place (place + length text)
 
 abbrev pub behind_ways : List ℕ → List ℕ → List Way
-behind_ways text piece = if is_less text piece && starts_with nat_eq piece text then Behind (length text) ∷ [] else []
+behind_ways text piece =
+    if is_less text piece && starts_with nat_eq piece text then Behind (length text) ∷ [] else []
 
 abbrev pub before_ways : List ℕ → List ℕ → List Way
 before_ways text piece =
-    if is_less text piece && ends_with nat_eq piece text then Before (length piece - length text) ∷ [] else []
+    if is_less text piece && ends_with nat_eq piece text then Before (length piece - length text)
+    ∷ [] else []
 
 -- the ways by a text with or without anchors, but for one that takes nothing off
 abbrev pub ways_with : Bool → Bool → List ℕ → List ℕ → List Way
-ways_with false false text piece = map (parting text) (filter (parts_at text piece) (range_with_len 0 (length piece)))
+ways_with false false text piece =
+    map (parting text) (filter (parts_at text piece) (range_with_len 0 (length piece)))
 ways_with true false text piece = behind_ways text piece
 ways_with false true text piece = before_ways text piece
 ways_with true true text piece = []

@@ -11,8 +11,8 @@ use std::marker::Model;
 /// A pattern: its text, and whether it is anchored at the front and at the back.
 pub(crate) type Pattern = (Vec<char>, (bool, bool));
 
-/// The patterns by which a dictionary breaks words, ready to be looked for in words. Contracts see them as a list, which
-/// breaks words as that which they were made of.
+/// The patterns by which a dictionary breaks words, ready to be looked for in words. Contracts see
+/// them as a list, which breaks words as that which they were made of.
 #[derive(Drop)]
 pub struct Breaks {
     /// In the order of their texts; none stands there twice.

@@ -1,7 +1,8 @@
 //! Words that are accepted in pieces: the option BREAK of hunspell(5).
 #![tactic(auto)]
 
-ghost use Rattle.std.specs.Prelude.{◌≡◌, Bool, true, ℕ, ◌+◌, ◌≤◌, ◌<◌, List, length, slice_range, Ok, IfOk, IsTrue};
+ghost use Rattle.std.specs.Prelude.{◌≡◌, Bool, true, ℕ, ◌+◌, ◌≤◌, ◌<◌, List, length, slice_range};
+ghost use Rattle.std.specs.Prelude.{Ok, IfOk, IsTrue};
 ghost use Rattle.std.specs.Fn.{FnReturnsAt};
 ghost use Rattle.std.specs.List.{list_any};
 ghost use Rattle.spell_types.specs.declared.breaks.Anchored.{Anchored};
@@ -9,7 +10,8 @@ ghost use Rattle.spell_types.specs.Breaks.{is_broken, IsBroken};
 ghost use Rattle.break_points.specs.declared.Judged.{Judged};
 ghost use Rattle.break_points.specs.Judging.{is_base_by, is_barred_by, AnswersAs};
 ghost use Rattle.break_points.specs.Occurrences.{AreOccurrences};
-ghost use Rattle.break_points.specs.Pieces.{is_broken_piece, is_broken_by, IsRight, is_shorter, all_left, ways_of};
+ghost use Rattle.break_points.specs.Pieces.{is_broken_piece, is_broken_by, IsRight, is_shorter};
+ghost use Rattle.break_points.specs.Pieces.{all_left, ways_of};
 
 mod breaks;
 mod occurrences;
@@ -35,9 +37,9 @@ pub enum Judged {
     Barred,
 }
 
-/// Whether a word is accepted as it stands or in pieces, by the judge of each. The judge is asked only for pieces
-/// to which breaking leads, and once for each stretch of the word. The only error is want of memory, of its own or
-/// told by the judge.
+/// Whether a word is accepted as it stands or in pieces, by the judge of each. The judge is asked
+/// only for pieces to which breaking leads, and once for each stretch of the word. The only error
+/// is want of memory, of its own or told by the judge.
 pub fn broken<F: Fn(&[char]) -> Result<Judged, NoMemory>>(
     alloc: Global,
     breaks: &[Anchored],
@@ -54,8 +56,8 @@ pub fn broken<F: Fn(&[char]) -> Result<Judged, NoMemory>>(
 }
 
 impl Breaks {
-    /// The same by patterns that are prepared. Where none of their texts stands in the word the judge is asked once, and no
-    /// memory is taken.
+    /// The same by patterns that are prepared. Where none of their texts stands in the word the
+    /// judge is asked once, and no memory is taken.
     pub fn broken<F: Fn(&[char]) -> Result<Judged, NoMemory>>(
         &self,
         alloc: Global,
@@ -84,7 +86,8 @@ impl Breaks {
     }
 }
 
-/// Whether a piece of the word is accepted as it stands or in pieces, from the table if it stands there.
+/// Whether a piece of the word is accepted as it stands or in pieces, from the table if it stands
+/// there.
 #[cycle(deciding)]
 fn decide<F: Fn(&[char]) -> Result<Judged, NoMemory>>(
     word: &[char],
@@ -96,8 +99,10 @@ fn decide<F: Fn(&[char]) -> Result<Judged, NoMemory>>(
     requires callable { F.IsAlwaysCallable judge.now }
     requires ordered { piece.from ≤ piece.to }
     requires within { piece.to ≤ length word.now }
-    ensures { (judged : List ℕ → Judged) (breaks : List Anchored) → AnswersAs (FnReturnsAt F.Fn judge.now) judged
-        → AreOccurrences breaks word.now occurrences.now → IsRight (is_broken_piece judged breaks word.now) table.old
+    ensures { (judged : List ℕ → Judged) (breaks : List Anchored)
+        → AnswersAs (FnReturnsAt F.Fn judge.now) judged
+        → AreOccurrences breaks word.now occurrences.now
+        → IsRight (is_broken_piece judged breaks word.now) table.old
         → IfOk result (λ answer. (answer ≡ is_broken_piece judged breaks word.now piece)
         × IsRight (is_broken_piece judged breaks word.now) table.new) }
 {
@@ -121,8 +126,10 @@ fn decide_anew<F: Fn(&[char]) -> Result<Judged, NoMemory>>(
     requires callable { F.IsAlwaysCallable judge.now }
     requires ordered { piece.from ≤ piece.to }
     requires within { piece.to ≤ length word.now }
-    ensures { (judged : List ℕ → Judged) (breaks : List Anchored) → AnswersAs (FnReturnsAt F.Fn judge.now) judged
-        → AreOccurrences breaks word.now occurrences.now → IsRight (is_broken_piece judged breaks word.now) table.old
+    ensures { (judged : List ℕ → Judged) (breaks : List Anchored)
+        → AnswersAs (FnReturnsAt F.Fn judge.now) judged
+        → AreOccurrences breaks word.now occurrences.now
+        → IsRight (is_broken_piece judged breaks word.now) table.old
         → IfOk result (λ answer. (answer ≡ is_broken_piece judged breaks word.now piece)
         × IsRight (is_broken_piece judged breaks word.now) table.new) }
 {
@@ -145,10 +152,13 @@ fn decide_parts<F: Fn(&[char]) -> Result<Judged, NoMemory>>(
     requires callable { F.IsAlwaysCallable judge.now }
     requires ordered { piece.from ≤ piece.to }
     requires within { piece.to ≤ length word.now }
-    ensures { (judged : List ℕ → Judged) (breaks : List Anchored) → AnswersAs (FnReturnsAt F.Fn judge.now) judged
-        → AreOccurrences breaks word.now occurrences.now → IsRight (is_broken_piece judged breaks word.now) table.old
+    ensures { (judged : List ℕ → Judged) (breaks : List Anchored)
+        → AnswersAs (FnReturnsAt F.Fn judge.now) judged
+        → AreOccurrences breaks word.now occurrences.now
+        → IsRight (is_broken_piece judged breaks word.now) table.old
         → IfOk result (λ answer. (answer
-        ≡ list_any (all_left (is_broken_by judged breaks) (slice_range word.now piece.from piece.to))
+        ≡ list_any (all_left (is_broken_by judged breaks)
+        (slice_range word.now piece.from piece.to))
         (ways_of breaks (slice_range word.now piece.from piece.to)))
         × IsRight (is_broken_piece judged breaks word.now) table.new) }
 {
@@ -176,8 +186,10 @@ fn decide_way<F: Fn(&[char]) -> Result<Judged, NoMemory>>(
     requires ordered { piece.from ≤ piece.to }
     requires within { piece.to ≤ length word.now }
     requires shorter { IsTrue (is_shorter (slice_range word.now piece.from piece.to) way) }
-    ensures { (judged : List ℕ → Judged) (breaks : List Anchored) → AnswersAs (FnReturnsAt F.Fn judge.now) judged
-        → AreOccurrences breaks word.now occurrences.now → IsRight (is_broken_piece judged breaks word.now) table.old
+    ensures { (judged : List ℕ → Judged) (breaks : List Anchored)
+        → AnswersAs (FnReturnsAt F.Fn judge.now) judged
+        → AreOccurrences breaks word.now occurrences.now
+        → IsRight (is_broken_piece judged breaks word.now) table.old
         → IfOk result (λ answer. (answer
         ≡ all_left (is_broken_by judged breaks) (slice_range word.now piece.from piece.to) way)
         × IsRight (is_broken_piece judged breaks word.now) table.new) }
@@ -192,8 +204,8 @@ fn decide_way<F: Fn(&[char]) -> Result<Judged, NoMemory>>(
     }
 }
 
-/// The words that are accepted as they stand or in pieces are exactly those of the least relation: each has a finite
-/// tree of breaks at whose ends stand words that are accepted as they stand.
+/// The words that are accepted as they stand or in pieces are exactly those of the least relation:
+/// each has a finite tree of breaks at whose ends stand words that are accepted as they stand.
 pub fn broken_words_are()
     ensures tree { (base barred : List ℕ → Bool) (breaks : List Anchored) (word : List ℕ) →
         is_broken base barred breaks word ≡ true → IsBroken base barred breaks word }

@@ -1,11 +1,13 @@
 //! Where the texts of patterns stand in a word.
 
-ghost use Rattle.std.specs.Prelude.{◌≡◌, ◌++◌, ◌≤◌, ◌<◌, ◌+◌, ℕ, true, false, length, map, take, drop, Contains, OnOk, IfOk};
+ghost use Rattle.std.specs.Prelude.{◌≡◌, ◌++◌, ◌≤◌, ◌<◌, ◌+◌, ℕ, true, false, length, map, take};
+ghost use Rattle.std.specs.Prelude.{drop, Contains, OnOk, IfOk};
 ghost use Rattle.std.specs.List.{All};
 ghost use Rattle.lists.specs.TextOrder.{AreInOrder};
 ghost use Rattle.break_points.specs.declared.occurrences.Occurrence.{Occurrence};
 ghost use Rattle.break_points.specs.Patterns.{anchored_of};
-ghost use Rattle.break_points.specs.Occurrences.{occurrence_of, IsOccurrence, AreOccurrences, way_with, way_by};
+ghost use Rattle.break_points.specs.Occurrences.{occurrence_of, IsOccurrence, AreOccurrences};
+ghost use Rattle.break_points.specs.Occurrences.{way_with, way_by};
 
 use crate::breaks::Pattern;
 use crate::table::Stretch;
@@ -28,7 +30,8 @@ pub struct Occurrence {
 }
 
 impl Occurrence {
-    /// The way in which it breaks a piece of its word, if it takes something off and leaves something.
+    /// The way in which it breaks a piece of its word, if it takes something off and leaves
+    /// something.
     pub(crate) fn way(self, piece: Stretch) -> Option<Way>
         requires { piece.from ≤ piece.to }
         ensures { result ≡ way_by self piece }
@@ -78,7 +81,8 @@ pub(crate) fn occurrences_in(
     word: &[char],
 ) -> Result<Vec<Occurrence>, NoMemory>
     requires { AreInOrder patterns.now }
-    ensures { IfOk result (λ occurrences. AreOccurrences (map anchored_of patterns.now) word.now occurrences.items) }
+    ensures { IfOk result
+        (λ occurrences. AreOccurrences (map anchored_of patterns.now) word.now occurrences.items) }
 {
     let mut occurrences = Vec::new(alloc);
     for place in 0..word.len() {
@@ -87,7 +91,8 @@ pub(crate) fn occurrences_in(
     Ok(occurrences)
 }
 
-/// Adds the texts of patterns that stand at a place. No more characters are looked at than some pattern has there, and one.
+/// Adds the texts of patterns that stand at a place. No more characters are looked at than some
+/// pattern has there, and one.
 fn add_occurrences(
     patterns: &[Pattern],
     word: &[char],
@@ -96,11 +101,15 @@ fn add_occurrences(
 ) -> Result<(), NoMemory>
     requires order { AreInOrder patterns.now }
     requires place { place < length word.now }
-    ensures kept { OnOk result ((occurrence : Occurrence) → Contains occurrences.old.items occurrence → Contains occurrences.new.items occurrence) }
-    ensures sound { OnOk result (All (IsOccurrence (map anchored_of patterns.now) word.now) occurrences.old.items
+    ensures kept { OnOk result
+        ((occurrence : Occurrence) → Contains occurrences.old.items occurrence
+        → Contains occurrences.new.items occurrence) }
+    ensures sound { OnOk result
+        (All (IsOccurrence (map anchored_of patterns.now) word.now) occurrences.old.items
         → All (IsOccurrence (map anchored_of patterns.now) word.now) occurrences.new.items) }
     ensures whole { OnOk result ((occurrence : Occurrence) → occurrence.place ≡ place
-        → IsOccurrence (map anchored_of patterns.now) word.now occurrence → Contains occurrences.new.items occurrence) }
+        → IsOccurrence (map anchored_of patterns.now) word.now occurrence
+        → Contains occurrences.new.items occurrence) }
 {
     let text = &word[place..];
     let mut alike = patterns;
@@ -121,7 +130,9 @@ fn add_each(
     len: usize,
     occurrences: &mut Vec<Occurrence>,
 ) -> Result<(), NoMemory>
-    ensures { OnOk result (occurrences.new.items ≡ occurrences.old.items ++ map (occurrence_of place len) patterns.now) }
+    ensures { OnOk result
+        (occurrences.new.items ≡ occurrences.old.items
+        ++ map (occurrence_of place len) patterns.now) }
 {
     for pattern in patterns {
         let (front, back) = pattern.1;

@@ -59,7 +59,8 @@ impl Table {
 
     /// The answer for a piece, if it is decided.
     pub fn get(&self, piece: Stretch) -> Option<bool>
-        ensures { (right : Stretch → Bool) → IsRight right self.now → IfSome result (λ answer. answer ≡ right piece) }
+        ensures { (right : Stretch → Bool) → IsRight right self.now
+            → IfSome result (λ answer. answer ≡ right piece) }
     {
         self.answers.get(&(piece.from, piece.to)).copied()
     }

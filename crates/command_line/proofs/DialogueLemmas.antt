@@ -20,7 +20,10 @@ use Rattle.console_board.specs.Transcripts.{Answers, IsRepliedTo, IsThere, asked
 use Rattle.command_line.specs.Due.{MayCome, dictionary_due}
 use Rattle.command_line.specs.Ends.{Cut, EndsAs, IsEndPut}
 use Rattle.command_line.specs.Failures.{last_line}
-use Rattle.command_line.specs.Forms.{AllReplied, AreReplied, FilesFailedFirst, HasReplied, IsAnswerTo, IsCaused, IsDialogue, IsEdited, IsFit, IsUntouched, IsWholeDialogue, Met, NoneReplied, NotOpened, Opened, SomeReplied, WantingFirst, end_of, form_of}
+use Rattle.command_line.specs.Forms.{AllReplied, AreReplied, FilesFailedFirst, HasReplied}
+use Rattle.command_line.specs.Forms.{IsAnswerTo, IsCaused, IsDialogue, IsEdited, IsFit, IsUntouched}
+use Rattle.command_line.specs.Forms.{IsWholeDialogue, Met, NoneReplied, NotOpened, Opened}
+use Rattle.command_line.specs.Forms.{SomeReplied, WantingFirst, end_of, form_of}
 use Rattle.command_line.specs.Operands.{DictionaryNamed}
 use Rattle.command_line.specs.declared.ending.End.{End}
 use Rattle.command_line.specs.declared.ending.End.TheVariants.{Quiet, Failed}
@@ -33,52 +36,70 @@ use Rattle.command_line.proofs.EndLemmas.{ends-behind, goes-on}
 -- ---- what a console has replied
 
 -- from a console that opened with a dictionary
-pub replied-so : {met : Met} {lexicon : Lexicon} {told told_now : Option Folder} {failed failed_now : ℕ} {before after : Console} {lines : List (List ℕ)} {said : List ℕ}
-    → before ≡ opened lexicon → met.folder ≡ told → met.files_before ≤ failed → failed_now ≡ met.files_after
-    → IsRepliedTo told told_now failed failed_now before after lines said → AreReplied met lexicon lines said
-replied-so {lexicon = lexicon} {told = told} {after = after} {lines = lines} opens folder sooner later is = record {
-  replies = is.replies;
-  said_is = is.text_is;
-  transcript = record {
-    last = after;
-    answers = subst (λ folder. Answers 0 folder (opened lexicon) (asked_by lines) is.replies after) (sym folder)
-        (subst (λ console. Answers 0 told console (asked_by lines) is.replies after) opens is.answers);
-  };
-  failures = omega (arith, is.failures, sooner, later);
-}
+pub replied-so : {met : Met} {lexicon : Lexicon} {told told_now : Option Folder}
+    {failed failed_now : ℕ} {before after : Console} {lines : List (List ℕ)} {said : List ℕ}
+    → before ≡ opened lexicon → met.folder ≡ told → met.files_before ≤ failed
+    → failed_now ≡ met.files_after
+    → IsRepliedTo told told_now failed failed_now before after lines said
+    → AreReplied met lexicon lines said
+replied-so {lexicon = lexicon} {told = told} {after = after} {lines = lines} opens folder sooner
+    later is = record {
+      replies = is.replies;
+      said_is = is.text_is;
+      transcript = record {
+        last = after;
+        answers = subst
+            (λ folder. Answers 0 folder (opened lexicon) (asked_by lines) is.replies after)
+            (sym folder)
+            (subst (λ console. Answers 0 told console (asked_by lines) is.replies after) opens
+            is.answers);
+      };
+      failures = omega (arith, is.failures, sooner, later);
+    }
 
 -- ---- how a dialogue ends
 
 -- where its reading has ended, and the sink did not fail
-pub dialogue-ends : {met : Met} {lexicon : Lexicon} {put_failed whole_failed : Type 0} {end : End} {before middle now : Option (List ℕ)} {status : ℕ}
-    (sink_failed : Type 0) (ended : ReadingEnd) (said : List ℕ) → HasReplied met lexicon ended said → IsWritten ended sink_failed before middle said
-    → end_of ended ≡ Some end → (put_failed → whole_failed) → IsEndPut end put_failed middle now status
+pub dialogue-ends : {met : Met} {lexicon : Lexicon} {put_failed whole_failed : Type 0} {end : End}
+    {before middle now : Option (List ℕ)} {status : ℕ}
+    (sink_failed : Type 0) (ended : ReadingEnd) (said : List ℕ) → HasReplied met lexicon ended said
+    → IsWritten ended sink_failed before middle said
+    → end_of ended ≡ Some end → (put_failed → whole_failed)
+    → IsEndPut end put_failed middle now status
     → EndsAs (IsDialogue met lexicon) whole_failed before now status
-dialogue-ends {end = end} {before = before} {middle = middle} sink_failed ended said is written told fails put =
-    ends-behind said fails (by ended written told) (record { ended = ended; end_is = told; is = is }) put
+dialogue-ends {end = end} {before = before} {middle = middle} sink_failed ended said is written told
+    fails put =
+    ends-behind said fails (by ended written told)
+    (record { ended = ended; end_is = told; is = is }) put
   where
-    by : (ended : ReadingEnd) → IsWritten ended sink_failed before middle said → end_of ended ≡ Some end → Appends before middle said
+    by : (ended : ReadingEnd) → IsWritten ended sink_failed before middle said
+        → end_of ended ≡ Some end → Appends before middle said
     by reading.SinkFailed written told = absurd (cc)
     by _ written told = written
 
 -- where it did
-pub dialogue-cut : {met : Met} {lexicon : Lexicon} {before now : Option (List ℕ)} (sink_failed : Type 0) (ended : ReadingEnd) (said : List ℕ)
-    → HasReplied met lexicon ended said → IsWritten ended sink_failed before now said → end_of ended ≡ None → EndsAs (IsDialogue met lexicon) sink_failed before now 6
-dialogue-cut {before = before} {now = now} sink_failed reading.SinkFailed said is written told = record {
-  text = said;
-  due = Failed NoMemory;
-  answer = record { ended = reading.NoMemory; end_is = refl; is = is };
-  end = Failed NoMemory;
-  end_is = inr refl;
-  put = Cut written.0 refl (front-longer before now said (last_line NoMemory) written.1);
-}
+pub dialogue-cut : {met : Met} {lexicon : Lexicon} {before now : Option (List ℕ)}
+    (sink_failed : Type 0) (ended : ReadingEnd) (said : List ℕ)
+    → HasReplied met lexicon ended said → IsWritten ended sink_failed before now said
+    → end_of ended ≡ None → EndsAs (IsDialogue met lexicon) sink_failed before now 6
+dialogue-cut {before = before} {now = now} sink_failed reading.SinkFailed said is written told =
+    record {
+      text = said;
+      due = Failed NoMemory;
+      answer = record { ended = reading.NoMemory; end_is = refl; is = is };
+      end = Failed NoMemory;
+      end_is = inr refl;
+      put = Cut written.0 refl (front-longer before now said (last_line NoMemory) written.1);
+    }
 dialogue-cut sink_failed _ said is written told = absurd (cc)
 
 -- ---- the words of `edit`
 
 -- the console opened
-pub dialogue-answers : {met : Met} {names : DictionaryNamed} {lexicon : Lexicon} {text : List ℕ} {end : End}
-    → (there : DictionaryFiles) × IsThere met.folder names.aff names.dic there × (dictionary_due there ≡ Ok lexicon) → IsDialogue met lexicon text end
+pub dialogue-answers : {met : Met} {names : DictionaryNamed} {lexicon : Lexicon} {text : List ℕ}
+    {end : End}
+    → (there : DictionaryFiles) × IsThere met.folder names.aff names.dic there
+    × (dictionary_due there ≡ Ok lexicon) → IsDialogue met lexicon text end
     → IsAnswerTo (Some (Edit names)) met text end
 dialogue-answers {met} {names} {lexicon} {text} {end} (there, is, due) dialogue = record {
   answer = Opened there lexicon is due dialogue;
@@ -87,7 +108,8 @@ dialogue-answers {met} {names} {lexicon} {text} {end} (there, is, due) dialogue 
   files = tt;
 }
   where
-    by : (ended : ReadingEnd) → end_of ended ≡ Some end → HasReplied met lexicon ended text → IsCaused (Some (Edit names)) met text end
+    by : (ended : ReadingEnd) → end_of ended ≡ Some end → HasReplied met lexicon ended text
+        → IsCaused (Some (Edit names)) met text end
     by reading.Interrupted is ended = goes-on (cc) (λ input. ended.failed)
     by reading.SinkFailed is ended = absurd (cc)
     by _ is ended = goes-on (cc) (λ input. absurd (cc))
@@ -96,7 +118,8 @@ dialogue-answers {met} {names} {lexicon} {text} {end} (there, is, due) dialogue 
 pub not-opened : {met : Met} {names : DictionaryNamed} {failure : Failure}
     → (there : DictionaryFiles) × IsThere met.folder names.aff names.dic there
     × FailsAs MayCome (dictionary_due there) failure
-    → (failure ≡ Load FailedLoad → met.files_before < met.files_after) → IsUntouched met.reading → IsAnswerTo (Some (Edit names)) met [] (Failed failure)
+    → (failure ≡ Load FailedLoad → met.files_before < met.files_after) → IsUntouched met.reading
+    → IsAnswerTo (Some (Edit names)) met [] (Failed failure)
 not-opened {met} {names} {failure} (there, is, fails) rose untouched =
     let told = failure-told (dictionary-told there) fails in
     record { answer = by fails; caused = failure-caused told rose; input = tt; files = tt }
@@ -110,10 +133,12 @@ not-opened {met} {names} {failure} (there, is, fails) rose untouched =
 -- ---- where nothing fails and no limit is passed
 
 -- what a dictionary that is fit says
-fit-due : {met : Met} {names : DictionaryNamed} {lexicon : Lexicon} (there : DictionaryFiles) → IsFit met names lexicon → IsThere met.folder names.aff names.dic there
+fit-due : {met : Met} {names : DictionaryNamed} {lexicon : Lexicon} (there : DictionaryFiles)
+    → IsFit met names lexicon → IsThere met.folder names.aff names.dic there
     → dictionary_due there ≡ Ok lexicon
 fit-due {names = names} there fit is =
-    let found : there ≡ found_in fit.folder names.aff names.dic = subst (λ told. IsThere told names.aff names.dic there) fit.folder_is is in
+    let found : there ≡ found_in fit.folder names.aff names.dic =
+    subst (λ told. IsThere told names.aff names.dic there) fit.folder_is is in
     ap dictionary_due found ∙ fit.dictionary
 
 -- a dictionary that is fit is loaded, unless the files fail first
@@ -122,9 +147,11 @@ pub not-opened-whole : {met : Met} {names : DictionaryNamed} {failure : Failure}
     × FailsAs MayCome (dictionary_due there) failure
     → (failure ≡ Load FailedLoad → met.files_before < met.files_after) → IsUntouched met.reading
     → (form_of (Some (Edit names))).whole met [] (Failed failure)
-not-opened-whole {met} {names} {failure} (there, is, fails) rose untouched = λ lexicon fit first reads. by lexicon fit first fails
+not-opened-whole {met} {names} {failure} (there, is, fails) rose untouched =
+    λ lexicon fit first reads. by lexicon fit first fails
   where
-    by : (lexicon : Lexicon) → IsFit met names lexicon → ¬ ((met.files_before < met.files_after) × IsUntouched met.reading)
+    by : (lexicon : Lexicon) → IsFit met names lexicon
+        → ¬ ((met.files_before < met.files_after) × IsUntouched met.reading)
         → FailsAs MayCome (dictionary_due there) failure
         → IsWholeDialogue met lexicon [] (Failed failure)
     by lexicon fit first (inl comes) =
@@ -137,30 +164,39 @@ not-opened-whole {met} {names} {failure} (there, is, fails) rose untouched = λ 
 -- what the law of readings says, of a dialogue
 abbrev pub AreRead : Type 0
 AreRead = (quits : List ℕ → Bool) (read : Reading) (input said : List ℕ) (ended : ReadingEnd)
-    → HasEnded quits (λ lines answers. Unit {0}) read ended said → read.before ≡ Some input → IsBounded quits input
-    → ((line : List ℕ) → quits line ≡ true → IsShort line) → AllByRecursion IsShort (before_quit quits (line_texts input))
-    → read.faults_after ≡ read.faults_before → (ended ≡ reading.Finished) ⊎ ((ended ≡ reading.NoMemory) ⊎ (ended ≡ reading.SinkFailed))
+    → HasEnded quits (λ lines answers. Unit {0}) read ended said → read.before ≡ Some input
+    → IsBounded quits input
+    → ((line : List ℕ) → quits line ≡ true → IsShort line)
+    → AllByRecursion IsShort (before_quit quits (line_texts input))
+    → read.faults_after ≡ read.faults_before → (ended ≡ reading.Finished)
+    ⊎ ((ended ≡ reading.NoMemory) ⊎ (ended ≡ reading.SinkFailed))
 
 -- a dialogue over an input that is fit replies to all its lines
-pub dialogue-whole : {met : Met} {names : DictionaryNamed} {lexicon : Lexicon} {text : List ℕ} {end : End} → AreRead
+pub dialogue-whole : {met : Met} {names : DictionaryNamed} {lexicon : Lexicon} {text : List ℕ}
+    {end : End} → AreRead
     → ((line : List ℕ) → is_quit line ≡ true → IsShort line)
-    → (there : DictionaryFiles) × IsThere met.folder names.aff names.dic there × (dictionary_due there ≡ Ok lexicon) → IsDialogue met lexicon text end
+    → (there : DictionaryFiles) × IsThere met.folder names.aff names.dic there
+    × (dictionary_due there ≡ Ok lexicon) → IsDialogue met lexicon text end
     → (form_of (Some (Edit names))).whole met text end
-dialogue-whole {met} {names} {lexicon} {text} {end} read quits_short (there, is, due) dialogue = λ other fit first reads.
+dialogue-whole {met} {names} {lexicon} {text} {end} read quits_short (there, is, due) dialogue =
+    λ other fit first reads.
     let also : dictionary_due there ≡ Ok other = fit-due there fit is in
     let same : lexicon ≡ other = cc in
     subst (λ lexicon. IsWholeDialogue met lexicon text end) same
     (by dialogue.ended dialogue.end_is dialogue.is
     (read is_quit met.reading fit.input text dialogue.ended
-    (ended-weaker is_quit (AreReplied met lexicon) (λ lines answers. Unit {0}) met.reading dialogue.ended text (λ lines said is. tt) dialogue.is)
+    (ended-weaker is_quit (AreReplied met lexicon) (λ lines answers. Unit {0}) met.reading
+    dialogue.ended text (λ lines said is. tt) dialogue.is)
     fit.input_is fit.bounded quits_short fit.short reads))
   where
     by : (ended : ReadingEnd) → end_of ended ≡ Some end → HasReplied met lexicon ended text
-        → (ended ≡ reading.Finished) ⊎ ((ended ≡ reading.NoMemory) ⊎ (ended ≡ reading.SinkFailed)) → IsWholeDialogue met lexicon text end
+        → (ended ≡ reading.Finished) ⊎ ((ended ≡ reading.NoMemory) ⊎ (ended ≡ reading.SinkFailed))
+        → IsWholeDialogue met lexicon text end
     by ended told is (inl finished) =
         let quiet : Some end ≡ Some Quiet = sym told ∙ ap end_of finished in
         AllReplied (cc) (subst (λ ended. HasReplied met lexicon ended text) finished is)
     by ended told is (inr (inl wanting)) =
         let memory : Some end ≡ Some (Failed NoMemory) = sym told ∙ ap end_of wanting in
         SomeReplied (cc) (subst (λ ended. HasReplied met lexicon ended text) wanting is)
-    by ended told is (inr (inr cut)) = let never : Some end ≡ None = sym told ∙ ap end_of cut in absurd (cc)
+    by ended told is (inr (inr cut)) =
+        let never : Some end ≡ None = sym told ∙ ap end_of cut in absurd (cc)

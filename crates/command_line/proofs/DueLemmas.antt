@@ -9,12 +9,15 @@ use Rattle.lists.specs.AnswerLaws.{fails-then, gives-fault, gives-then}
 use Rattle.lists.specs.Answers.{◌>>=◌, failing, FailsAs, GivesDue}
 use Rattle.outside.specs.Files.{Folder, MayCome as FileMayCome, file_due}
 use Rattle.outside.specs.declared.faults.FileFault.{FileFault}
-use Rattle.outside.specs.declared.faults.FileFault.TheVariants.{Failed as FileFailed, TooLong as FileTooLong, NoMemory as FileWanting}
+use Rattle.outside.specs.declared.faults.FileFault.TheVariants.{Failed as FileFailed}
+use Rattle.outside.specs.declared.faults.FileFault.TheVariants.{TooLong as FileTooLong}
+use Rattle.outside.specs.declared.faults.FileFault.TheVariants.{NoMemory as FileWanting}
 use Rattle.spell_types.specs.declared.Lexicon.{Lexicon}
 use Rattle.dictionary_swap.specs.Loads.{DictionaryFiles, MayCome as LoadMayCome, found_in}
 use Rattle.dictionary_swap.specs.Loads.{lexicon_due, load_fault_of}
 use Rattle.dictionary_swap.specs.declared.fault.LoadFault.{LoadFault}
-use Rattle.dictionary_swap.specs.declared.fault.LoadFault.TheVariants.{Failed as FailedLoad, NoMemory as LoadWanting}
+use Rattle.dictionary_swap.specs.declared.fault.LoadFault.TheVariants.{Failed as FailedLoad}
+use Rattle.dictionary_swap.specs.declared.fault.LoadFault.TheVariants.{NoMemory as LoadWanting}
 use Rattle.document_report.specs.Documents.{MayCome as ReportMayCome}
 use Rattle.document_report.specs.Given.{printed_by}
 use Rattle.document_report.specs.Reports.{Printed, report_of}
@@ -25,7 +28,9 @@ use Rattle.console_board.specs.Transcripts.{IsThere}
 use Rattle.command_line.specs.Due.{Found, IsFileThere, IsFound, MayCome, bytes_due, check_due}
 use Rattle.command_line.specs.Due.{checked_due, dictionary_due, printed_due}
 use Rattle.command_line.specs.Failures.{document_failure, failure_of, is_fault}
-use Rattle.command_line.specs.Forms.{AllOfIt, AllPrinted, AreFirstLines, FilesFailed, IsCaused, IsReport, IsWholeReport, Met, Refused, SomeOfIt, Wanting, end_printed, is_alone, lines_before}
+use Rattle.command_line.specs.Forms.{AllOfIt, AllPrinted, AreFirstLines, FilesFailed, IsCaused}
+use Rattle.command_line.specs.Forms.{IsReport, IsWholeReport, Met, Refused, SomeOfIt, Wanting}
+use Rattle.command_line.specs.Forms.{end_printed, is_alone, lines_before}
 use Rattle.command_line.specs.Given.{end_by, text_by}
 use Rattle.command_line.specs.Operands.{CheckedFiles}
 use Rattle.command_line.specs.declared.ending.End.{End}
@@ -125,23 +130,30 @@ failure-caused {failure = failure} told rose = record {
 -- ---- the files of a check
 
 -- there are some files of which something holds, which are those that are told
-pub some-there : (told : Option Folder) (aff dic : List ℕ) {P : DictionaryFiles → Type 0} → (there : DictionaryFiles) × P there
-    → IfSome told (λ folder. P (found_in folder aff dic)) → (there : DictionaryFiles) × IsThere told aff dic there × P there
+pub some-there : (told : Option Folder) (aff dic : List ℕ) {P : DictionaryFiles → Type 0}
+    → (there : DictionaryFiles) × P there
+    → IfSome told (λ folder. P (found_in folder aff dic)) → (there : DictionaryFiles)
+    × IsThere told aff dic there × P there
 some-there None aff dic (there, is) is_told = (there, tt, is)
 some-there (Some folder) aff dic some is_told = (found_in folder aff dic, refl, is_told)
 
-pub some-file : (told : Option Folder) (name : List ℕ) {P : Option (List ℕ) → Type 0} → (file : Option (List ℕ)) × P file
-    → IfSome told (λ folder. P (folder name)) → (file : Option (List ℕ)) × IsFileThere told name file × P file
+pub some-file : (told : Option Folder) (name : List ℕ) {P : Option (List ℕ) → Type 0}
+    → (file : Option (List ℕ)) × P file
+    → IfSome told (λ folder. P (folder name)) → (file : Option (List ℕ))
+    × IsFileThere told name file × P file
 some-file None name (file, is) is_told = (file, tt, is)
 some-file (Some folder) name some is_told = (folder name, refl, is_told)
 
-any-file : (told : Option Folder) (name : List ℕ) → (file : Option (List ℕ)) × IsFileThere told name file
+any-file : (told : Option Folder) (name : List ℕ) → (file : Option (List ℕ))
+    × IsFileThere told name file
 any-file None name = (None, tt)
 any-file (Some folder) name = (folder name, refl)
 
 -- both together
-found-both : (told : Option Folder) (names : CheckedFiles) (there : DictionaryFiles) (file : Option (List ℕ)) → IsThere told names.aff names.dic there
-    → IsFileThere told names.document file → IsFound told names (record { aff = there.aff; dic = there.dic; document = file })
+found-both : (told : Option Folder) (names : CheckedFiles) (there : DictionaryFiles)
+    (file : Option (List ℕ)) → IsThere told names.aff names.dic there
+    → IsFileThere told names.document file
+    → IsFound told names (record { aff = there.aff; dic = there.dic; document = file })
 found-both None names there file is also = tt
 found-both (Some folder) names there file is also = rw (is, also) refl
 
@@ -151,7 +163,8 @@ IsChecked told names result = (found : Found) × IsFound told names found
     × GivesDue MayCome printed_by (check_due found) result
 
 -- the dictionary is not loaded
-pub check-not-loaded : (told : Option Folder) (names : CheckedFiles) {failure : Failure} (result : Result Report Failure)
+pub check-not-loaded : (told : Option Folder) (names : CheckedFiles) {failure : Failure}
+    (result : Result Report Failure)
     → (there : DictionaryFiles) × IsThere told names.aff names.dic there
     × FailsAs MayCome (dictionary_due there) failure
     → IsErrAnd result (λ other. other ≡ failure) → IsChecked told names result
@@ -163,8 +176,10 @@ check-not-loaded told names result (there, is, fails) fault =
     (_, both, gives-fault MayCome printed_by result due fault)
 
 -- the document is not loaded
-pub check-no-document : (told : Option Folder) (names : CheckedFiles) {lexicon : Lexicon} {failure : Failure} (result : Result Report Failure)
-    → (there : DictionaryFiles) × IsThere told names.aff names.dic there × (dictionary_due there ≡ Ok lexicon)
+pub check-no-document : (told : Option Folder) (names : CheckedFiles) {lexicon : Lexicon}
+    {failure : Failure} (result : Result Report Failure)
+    → (there : DictionaryFiles) × IsThere told names.aff names.dic there
+    × (dictionary_due there ≡ Ok lexicon)
     → (file : Option (List ℕ)) × IsFileThere told names.document file
     × FailsAs MayCome (bytes_due file) failure
     → IsErrAnd result (λ other. other ≡ failure) → IsChecked told names result
@@ -177,9 +192,12 @@ check-no-document told names result (there, is, due) (file, also, fails) fault =
 )
 
 -- both are, and the report is what is due
-pub check-reported : (told : Option Folder) (names : CheckedFiles) {lexicon : Lexicon} {document : List ℕ} (result : Result Report Failure)
-    → (there : DictionaryFiles) × IsThere told names.aff names.dic there × (dictionary_due there ≡ Ok lexicon)
-    → (file : Option (List ℕ)) × IsFileThere told names.document file × (bytes_due file ≡ Ok document)
+pub check-reported : (told : Option Folder) (names : CheckedFiles) {lexicon : Lexicon}
+    {document : List ℕ} (result : Result Report Failure)
+    → (there : DictionaryFiles) × IsThere told names.aff names.dic there
+    × (dictionary_due there ≡ Ok lexicon)
+    → (file : Option (List ℕ)) × IsFileThere told names.document file
+    × (bytes_due file ≡ Ok document)
     → GivesDue MayCome printed_by (printed_due report_of lexicon document) result
     → IsChecked told names result
 unfolding checked_due
@@ -189,11 +207,15 @@ check-reported told names result (there, is, due) (file, also, bytes) gives =
     (_, both, gives-then MayCome _ printed_by result due document)
 
 -- bytes that are few enough are due
-pub bytes-made : (bytes given : List ℕ) → given ≡ bytes → length given ≤ DOCUMENT_LIMIT → bytes_due (Some bytes) ≡ Ok given
+pub bytes-made : (bytes given : List ℕ) → given ≡ bytes → length given ≤ DOCUMENT_LIMIT
+    → bytes_due (Some bytes) ≡ Ok given
 unfolding bytes_due file_due
 bytes-made bytes given same few =
-    let fits : nat_le (length bytes) DOCUMENT_LIMIT ≡ true = le-leb (length bytes) DOCUMENT_LIMIT (subst (λ b. length b ≤ DOCUMENT_LIMIT) same few) in
-    ap (λ fits. failing file_failure (if fits then Ok bytes else Err FileTooLong)) fits ∙ ap Ok (sym same)
+    let fits : nat_le (length bytes) DOCUMENT_LIMIT ≡ true =
+    le-leb (length bytes) DOCUMENT_LIMIT (subst (λ b. length b ≤ DOCUMENT_LIMIT) same few)
+    in
+    ap (λ fits. failing file_failure (if fits then Ok bytes else Err FileTooLong)) fits
+    ∙ ap Ok (sym same)
 
 -- ---- what is written of it
 
@@ -217,7 +239,8 @@ report-given due (Err failure) told (inr is) =
     (IfErr-at_err IsTold is told)
 
 -- what is printed ends no call by a failure
-printed-unfailed : {A : Type 0} {failure : Failure} (none : Bool) → (if none then Quiet else Marked) ≡ Failed failure → A
+printed-unfailed : {A : Type 0} {failure : Failure} (none : Bool)
+    → (if none then Quiet else Marked) ≡ Failed failure → A
 printed-unfailed true is = absurd (cc)
 printed-unfailed false is = absurd (cc)
 
@@ -228,7 +251,8 @@ printed-goes-on false = refl
 -- with its cause
 pub report-caused : {asked : Option Request} {met : Met} (due : Result Printed Failure)
     (outcome : Result Report Failure) → IfErr due IsTold → GivesDue MayCome printed_by due outcome
-    → (IsErrOf outcome (Load FailedLoad) → met.files_before < met.files_after) → IsCaused asked met (text_by outcome) (end_by outcome)
+    → (IsErrOf outcome (Load FailedLoad) → met.files_before < met.files_after)
+    → IsCaused asked met (text_by outcome) (end_by outcome)
 report-caused due (Ok report) told is failed =
     let none = report.marks == 0 in
     goes-on (printed-goes-on none) (λ input. printed-unfailed none input)
@@ -236,18 +260,24 @@ report-caused due (Err failure) told fails failed =
     failure-caused (failure-told told fails) (λ is. failed (ap Err is))
 
 -- an end by files that failed is that of an outcome that they failed
-pub failed-files : {rose : Type 0} (outcome : Result Report Failure) → (IsErrOf outcome (Load FailedLoad) → rose)
+pub failed-files : {rose : Type 0} (outcome : Result Report Failure)
+    → (IsErrOf outcome (Load FailedLoad) → rose)
     → end_by outcome ≡ Failed (Load FailedLoad) → rose
 failed-files (Ok report) failed is = printed-unfailed (report.marks == 0) is
-failed-files (Err failure) failed is = failed (let same : failure ≡ Load FailedLoad = cc in ap Err same)
+failed-files (Err failure) failed is =
+    failed (let same : failure ≡ Load FailedLoad = cc in ap Err same)
 
 -- where the report is due, and the files did not fail, it is whole
-pub report-whole : {due : Result Printed Failure} {printed : Printed} {before after : ℕ} {text : List ℕ} {end : End} → due ≡ Ok printed → after ≡ before
-    → IsReport due text end → (end ≡ Failed (Load FailedLoad) → before < after) → IsWholeReport printed text end
+pub report-whole : {due : Result Printed Failure} {printed : Printed} {before after : ℕ}
+    {text : List ℕ} {end : End} → due ≡ Ok printed → after ≡ before
+    → IsReport due text end → (end ≡ Failed (Load FailedLoad) → before < after)
+    → IsWholeReport printed text end
 report-whole {printed = printed} is same (AllPrinted other also text_is end_is) rose =
     let one : other ≡ printed = cc in
     AllOfIt (text_is ∙ ap (λ (p : Printed). p.text) one) (end_is ∙ ap end_printed one)
 report-whole {printed = printed} is same (Refused failure fault also end_is) rose =
     let never : Ok printed ≡ Err failure = sym is ∙ also in absurd (cc)
-report-whole is same (FilesFailed failed) rose = let more = rose failed in absurd (omega (arith, more, same))
-report-whole {text = text} is same (Wanting end_is lines) rose = SomeOfIt end_is (subst (λ due. AreFirstLines (lines_before due) text) is lines)
+report-whole is same (FilesFailed failed) rose =
+    let more = rose failed in absurd (omega (arith, more, same))
+report-whole {text = text} is same (Wanting end_is lines) rose =
+    SomeOfIt end_is (subst (λ due. AreFirstLines (lines_before due) text) is lines)

@@ -1,11 +1,14 @@
 -- What a status and a text tell of how a call ended.
-use Rattle.std.proofs.Common.{◌≡◌, ◌∙◌, ◌⊎◌, inl, inr, ℕ, zero, suc, ◌<◌, true, false, List, [], ◌++◌, Option, None, Result, refl, sym, ap, subst, arith}
+use Rattle.std.proofs.Common.{◌≡◌, ◌∙◌, ◌⊎◌, inl, inr, ℕ, zero, suc, ◌<◌, true, false, List, []}
+use Rattle.std.proofs.Common.{◌++◌, Option, None, Result, refl, sym, ap, subst, arith}
 use Rattle.outside.specs.Laws.{appends-front, appends-more}
 use Rattle.outside.specs.Sink.{Appends}
-use Rattle.dictionary_swap.specs.declared.fault.LoadFault.TheVariants.{Failed as FailedLoad, Missing}
+use Rattle.dictionary_swap.specs.declared.fault.LoadFault.TheVariants.{Failed as FailedLoad}
+use Rattle.dictionary_swap.specs.declared.fault.LoadFault.TheVariants.{Missing}
 use Rattle.document_report.specs.declared.fault.DocumentFault.TheVariants.{NoMemory as ReportWanting}
 use Rattle.document_report.specs.declared.printing.Report.{Report}
-use Rattle.command_line.specs.Ends.{EndsAs, IsEndPut, IsOrWanting, IsPut, Whole, Cut, sink_status, status_at, tail_of}
+use Rattle.command_line.specs.Ends.{EndsAs, IsEndPut, IsOrWanting, IsPut, Whole, Cut, sink_status}
+use Rattle.command_line.specs.Ends.{status_at, tail_of}
 use Rattle.command_line.specs.Failures.{last_line}
 use Rattle.command_line.specs.Forms.{IsAnswerTo, IsCaused, Met, is_alone}
 use Rattle.command_line.specs.Given.{end_by, text_by}
@@ -18,23 +21,31 @@ use Rattle.command_line.specs.declared.failure.Failure.TheVariants.{Words, Load,
 -- ---- what is put
 
 -- a sink that failed later has failed since
-pub put-sooner : {sink_failed whole_failed : Type 0} {meant status : ℕ} {text : List ℕ} {before now : Option (List ℕ)}
-    → (sink_failed → whole_failed) → IsPut meant text sink_failed before now status → IsPut meant text whole_failed before now status
+pub put-sooner : {sink_failed whole_failed : Type 0} {meant status : ℕ} {text : List ℕ}
+    {before now : Option (List ℕ)}
+    → (sink_failed → whole_failed) → IsPut meant text sink_failed before now status
+    → IsPut meant text whole_failed before now status
 put-sooner fails (Whole is put) = Whole is put
 put-sooner fails (Cut failed is put) = Cut (fails failed) is put
 
 -- a text is put behind another
-put-behind : {sink_failed whole_failed : Type 0} {meant status : ℕ} {text : List ℕ} {before middle now : Option (List ℕ)} (first : List ℕ)
-    → (sink_failed → whole_failed) → Appends before middle first → IsPut meant text sink_failed middle now status
+put-behind : {sink_failed whole_failed : Type 0} {meant status : ℕ} {text : List ℕ}
+    {before middle now : Option (List ℕ)} (first : List ℕ)
+    → (sink_failed → whole_failed) → Appends before middle first
+    → IsPut meant text sink_failed middle now status
     → IsPut meant (first ++ text) whole_failed before now status
-put-behind {text = text} {before = before} {middle = middle} {now = now} first fails put (Whole is more) =
+put-behind {text = text} {before = before} {middle = middle} {now = now} first fails put
+    (Whole is more) =
     Whole is (appends-more before middle now first text put more)
-put-behind {text = text} {before = before} {middle = middle} {now = now} first fails put (Cut failed is more) =
+put-behind {text = text} {before = before} {middle = middle} {now = now} first fails put
+    (Cut failed is more) =
     Cut (fails failed) is (appends-front before middle now first text put more)
 
 -- what ends a call is put behind what it has written
-pub ends-behind : {sink_failed whole_failed : Type 0} {answers : List ℕ → End → Type 0} {due : End} {before middle now : Option (List ℕ)} {status : ℕ}
-    (text : List ℕ) → (sink_failed → whole_failed) → Appends before middle text → answers text due → IsEndPut due sink_failed middle now status
+pub ends-behind : {sink_failed whole_failed : Type 0} {answers : List ℕ → End → Type 0} {due : End}
+    {before middle now : Option (List ℕ)} {status : ℕ}
+    (text : List ℕ) → (sink_failed → whole_failed) → Appends before middle text → answers text due
+    → IsEndPut due sink_failed middle now status
     → EndsAs answers whole_failed before now status
 ends-behind {due = due} text fails put is (end, end_is, more) = record {
   text = text;
@@ -46,8 +57,10 @@ ends-behind {due = due} text fails put is (end, end_is, more) = record {
 }
 
 -- what is an answer by one account is one by a weaker one
-pub ends-weaker : {sink_failed whole_failed : Type 0} {answers others : List ℕ → End → Type 0} {before now : Option (List ℕ)} {status : ℕ}
-    → (sink_failed → whole_failed) → ((text : List ℕ) (due : End) → answers text due → others text due)
+pub ends-weaker : {sink_failed whole_failed : Type 0} {answers others : List ℕ → End → Type 0}
+    {before now : Option (List ℕ)} {status : ℕ}
+    → (sink_failed → whole_failed)
+    → ((text : List ℕ) (due : End) → answers text due → others text due)
     → EndsAs answers sink_failed before now status → EndsAs others whole_failed before now status
 ends-weaker fails weak ends = record {
   text = ends.text;
@@ -59,9 +72,11 @@ ends-weaker fails weak ends = record {
 }
 
 -- an outcome is put
-pub outcome-put : {sink_failed whole_failed : Type 0} {answers : List ℕ → End → Type 0} {before now : Option (List ℕ)} {status : ℕ} (outcome : Result Report Failure)
+pub outcome-put : {sink_failed whole_failed : Type 0} {answers : List ℕ → End → Type 0}
+    {before now : Option (List ℕ)} {status : ℕ} (outcome : Result Report Failure)
     → (sink_failed → whole_failed) → answers (text_by outcome) (end_by outcome)
-    → (end : End) × IsOrWanting (end_by outcome) end × IsPut (status_at end) (text_by outcome ++ tail_of end) sink_failed before now status
+    → (end : End) × IsOrWanting (end_by outcome) end
+    × IsPut (status_at end) (text_by outcome ++ tail_of end) sink_failed before now status
     → EndsAs answers whole_failed before now status
 outcome-put outcome fails is (end, end_is, put) = record {
   text = text_by outcome;
@@ -75,8 +90,10 @@ outcome-put outcome fails is (end, end_is, put) = record {
 -- ---- the causes of ends
 
 -- an end that is not the only line, and is not that of a failed input, has no other cause
-pub goes-on : {asked : Option Request} {met : Met} {text : List ℕ} {end : End} → is_alone end ≡ false
-    → (end ≡ Failed Input → met.reading.faults_before < met.reading.faults_after) → IsCaused asked met text end
+pub goes-on : {asked : Option Request} {met : Met} {text : List ℕ} {end : End}
+    → is_alone end ≡ false
+    → (end ≡ Failed Input → met.reading.faults_before < met.reading.faults_after)
+    → IsCaused asked met text end
 goes-on {end = end} more input = record {
   words = λ is. other (ap is_alone is);
   files = λ is. other (ap is_alone is);
@@ -96,7 +113,8 @@ Tells (suc zero) end = Unit {0}
 Tells (suc (suc zero)) end = end ≡ Failed Words
 Tells (suc (suc (suc zero))) end = Unit {0}
 Tells (suc (suc (suc (suc zero)))) end = Unit {0}
-Tells (suc (suc (suc (suc (suc zero))))) end = (end ≡ Failed (Load FailedLoad)) ⊎ ((end ≡ Failed (Load Missing)) ⊎ (end ≡ Failed Input))
+Tells (suc (suc (suc (suc (suc zero))))) end =
+    (end ≡ Failed (Load FailedLoad)) ⊎ ((end ≡ Failed (Load Missing)) ⊎ (end ≡ Failed Input))
 Tells (suc (suc (suc (suc (suc (suc zero)))))) end = ⊥
 Tells (suc (suc (suc (suc (suc (suc (suc n))))))) end = Unit {0}
 
@@ -109,22 +127,29 @@ told (Failed (Document ReportWanting)) = tt
 told _ = tt
 
 -- the status of a sink that failed tells that it did
-pub six-is-sink : {answers : List ℕ → End → Type 0} {sink_failed : Type 0} {before now : Option (List ℕ)} {status : ℕ}
+pub six-is-sink : {answers : List ℕ → End → Type 0} {sink_failed : Type 0}
+    {before now : Option (List ℕ)} {status : ℕ}
     → EndsAs answers sink_failed before now status → status ≡ sink_status → sink_failed
 six-is-sink ends six = by ends.end ends.put six
   where
-    by : {sink_failed : Type 0} {text : List ℕ} {before now : Option (List ℕ)} {status : ℕ} (end : End)
-        → IsPut (status_at end) text sink_failed before now status → status ≡ sink_status → sink_failed
+    by : {sink_failed : Type 0} {text : List ℕ} {before now : Option (List ℕ)} {status : ℕ}
+        (end : End)
+        → IsPut (status_at end) text sink_failed before now status → status ≡ sink_status
+        → sink_failed
     by end (Whole is put) six = absurd (subst (λ n. Tells n end) (sym is ∙ six) (told end))
     by end (Cut failed is put) six = failed
 
--- a status that is neither that of a sink that failed nor that of want of memory is that of the end that is due
-due-told : {answers : List ℕ → End → Type 0} {sink_failed : Type 0} {before now : Option (List ℕ)} {status : ℕ} (meant : ℕ)
-    → ¬ (meant ≡ 6) → ¬ (meant ≡ 7) → (ends : EndsAs answers sink_failed before now status) → status ≡ meant
+-- a status that is neither that of a sink that failed nor that of want of memory is that of the end
+-- that is due
+due-told : {answers : List ℕ → End → Type 0} {sink_failed : Type 0} {before now : Option (List ℕ)}
+    {status : ℕ} (meant : ℕ)
+    → ¬ (meant ≡ 6) → ¬ (meant ≡ 7) → (ends : EndsAs answers sink_failed before now status)
+    → status ≡ meant
     → Tells meant ends.due × Appends before now (ends.text ++ tail_of ends.due)
 due-told meant not_sink not_memory ends is = by ends.text ends.due ends.end ends.end_is ends.put is
   where
-    by : {sink_failed : Type 0} {before now : Option (List ℕ)} {status : ℕ} (text : List ℕ) (due end : End) → IsOrWanting due end
+    by : {sink_failed : Type 0} {before now : Option (List ℕ)} {status : ℕ} (text : List ℕ)
+        (due end : End) → IsOrWanting due end
         → IsPut (status_at end) (text ++ tail_of end) sink_failed before now status → status ≡ meant
         → Tells meant due × Appends before now (text ++ tail_of due)
     by text due end end_is (Cut failed six put) is = absurd (not_sink (sym is ∙ six))
@@ -137,17 +162,22 @@ due-told meant not_sink not_memory ends is = by ends.text ends.due ends.end ends
         )
 
 -- words of no form alone have the status 2
-pub two-has-no-form : {asked : Option Request} {met : Met} {sink_failed : Type 0} {before now : Option (List ℕ)} {status : ℕ}
+pub two-has-no-form : {asked : Option Request} {met : Met} {sink_failed : Type 0}
+    {before now : Option (List ℕ)} {status : ℕ}
     → EndsAs (IsAnswerTo asked met) sink_failed before now status → status ≡ 2 → asked ≡ None
-two-has-no-form ends two = ends.answer.caused.words (due-told 2 (omega arith) (omega arith) ends two).0
+two-has-no-form ends two =
+    ends.answer.caused.words (due-told 2 (omega arith) (omega arith) ends two).0
 
 -- files that failed, an input that failed, and a file that is not there alone have the status 5
 abbrev pub IsFive : Met → Option (List ℕ) → Option (List ℕ) → Type 0
 IsFive met before now = (met.files_before < met.files_after)
-    ⊎ ((met.reading.faults_before < met.reading.faults_after) ⊎ Appends before now (last_line (Load Missing)))
+    ⊎ ((met.reading.faults_before < met.reading.faults_after)
+    ⊎ Appends before now (last_line (Load Missing)))
 
-pub five-has-cause : {asked : Option Request} {met : Met} {sink_failed : Type 0} {before now : Option (List ℕ)} {status : ℕ}
-    → EndsAs (IsAnswerTo asked met) sink_failed before now status → status ≡ 5 → IsFive met before now
+pub five-has-cause : {asked : Option Request} {met : Met} {sink_failed : Type 0}
+    {before now : Option (List ℕ)} {status : ℕ}
+    → EndsAs (IsAnswerTo asked met) sink_failed before now status → status ≡ 5
+    → IsFive met before now
 five-has-cause {asked} {met} {before = before} {now = now} ends five = by told_is.0
   where
     told_is : Tells 5 ends.due × Appends before now (ends.text ++ tail_of ends.due)

@@ -26,13 +26,18 @@ dictionary_due files = failing failure_of (lexicon_due files)
 
 -- what is due of the file of a document
 unfoldable pub bytes_due : Option (List ℕ) → Result (List ℕ) Failure
-bytes_due file = failing (λ fault. failure_of (load_fault_of DOCUMENT_LIMIT fault)) (file_due DOCUMENT_LIMIT file)
+bytes_due file =
+    failing (λ fault. failure_of (load_fault_of DOCUMENT_LIMIT fault))
+    (file_due DOCUMENT_LIMIT file)
 
 -- what is due of a document, by a dictionary
-unfoldable pub printed_due : (Lexicon → List (List ℕ) → Printed) → Lexicon → List ℕ → Result Printed Failure
-printed_due printed lexicon document = failing document_failure (document_due printed lexicon document)
+unfoldable pub printed_due : (Lexicon → List (List ℕ) → Printed) → Lexicon → List ℕ
+    → Result Printed Failure
+printed_due printed lexicon document =
+    failing document_failure (document_due printed lexicon document)
 
--- the document is checked by the dictionary: the first thing that stops it, or what is to be printed of it
+-- the document is checked by the dictionary: the first thing that stops it, or what is to be
+-- printed of it
 unfoldable pub checked_due : (Lexicon → List (List ℕ) → Printed) → Found → Result Printed Failure
 checked_due printed found = do
   lexicon ← dictionary_due (record { aff = found.aff; dic = found.dic })
@@ -45,22 +50,38 @@ check_due found = checked_due report_of found
 
 -- the bytes that are made
 abbrev pub made_by : StartAndSize → Found
-made_by asked = record { aff = Some aff_bytes; dic = Some (dic_bytes asked.size); document = Some (text_bytes asked.start asked.size) }
+made_by asked =
+    record {
+      aff = Some aff_bytes;
+      dic = Some (dic_bytes asked.size);
+      document = Some (text_bytes asked.start asked.size);
+    }
 
--- a folder is told that has the files of the dictionary that is made, under the names that they are given in memory
+-- a folder is told that has the files of the dictionary that is made, under the names that they are
+-- given in memory
 abbrev pub HasMade : ℕ → Option Folder → Type 0
-HasMade size told = IsSomeAnd told (λ folder. (folder (codes "made.aff") ≡ Some aff_bytes) × (folder (codes "made.dic") ≡ Some (dic_bytes size)))
+HasMade size told =
+    IsSomeAnd told
+    (λ folder. (folder (codes "made.aff") ≡ Some aff_bytes)
+    × (folder (codes "made.dic") ≡ Some (dic_bytes size)))
 
 -- the words of `make` ask for a summary of what is made
 abbrev pub make_due : StartAndSize → Result Printed Failure
 make_due asked = checked_due (summary_of asked.size) (made_by asked)
 
--- what there is of these names: where a folder is told, what it has of them; where none is, anything
+-- what there is of these names: where a folder is told, what it has of them; where none is,
+-- anything
 abbrev pub IsFound : Option Folder → CheckedFiles → Found → Type 0
 IsFound None names found = Unit {0}
-IsFound (Some folder) names found = found ≡ record { aff = folder names.aff; dic = folder names.dic; document = folder names.document }
+IsFound (Some folder) names found =
+    found ≡ record {
+      aff = folder names.aff;
+      dic = folder names.dic;
+      document = folder names.document;
+    }
 
--- what there is of a file of this name: where a folder is told, what it has of it; where none is, anything
+-- what there is of a file of this name: where a folder is told, what it has of it; where none is,
+-- anything
 abbrev pub IsFileThere : Option Folder → List ℕ → Option (List ℕ) → Type 0
 IsFileThere None name file = Unit {0}
 IsFileThere (Some folder) name file = file ≡ folder name

@@ -24,9 +24,11 @@ abbrev pub sink_status : ℕ
 sink_status = 6
 
 -- how a text was put: whole, with this status, or a front of it into a sink that failed
-pub data IsPut (meant : ℕ) (text : List ℕ) (sink_failed : Type 0) (before now : Option (List ℕ)) (status : ℕ) : Type 0 where
+pub data IsPut (meant : ℕ) (text : List ℕ) (sink_failed : Type 0) (before now : Option (List ℕ))
+    (status : ℕ) : Type 0 where
   Whole : status ≡ meant → Appends before now text → IsPut meant text sink_failed before now status
-  Cut : sink_failed → status ≡ sink_status → AppendsFront before now text → IsPut meant text sink_failed before now status
+  Cut : sink_failed → status ≡ sink_status → AppendsFront before now text
+      → IsPut meant text sink_failed before now status
 
 -- an end is this one, or memory is wanting for its last line
 abbrev pub IsOrWanting : End → End → Type 0
@@ -34,10 +36,13 @@ IsOrWanting due end = IsDueOr (Failed NoMemory) (Some due) end
 
 -- what ends a call was put
 abbrev pub IsEndPut : End → Type 0 → Option (List ℕ) → Option (List ℕ) → ℕ → Type 0
-IsEndPut due sink_failed before now status = (end : End) × IsOrWanting due end × IsPut (status_at end) (tail_of end) sink_failed before now status
+IsEndPut due sink_failed before now status =
+    (end : End) × IsOrWanting due end × IsPut (status_at end) (tail_of end) sink_failed before now
+    status
 
 -- a call that may answer so, with this text and this end, was answered
-pub record EndsAs (answers : List ℕ → End → Type 0) (sink_failed : Type 0) (before now : Option (List ℕ)) (status : ℕ) : Type 0 where
+pub record EndsAs (answers : List ℕ → End → Type 0) (sink_failed : Type 0)
+    (before now : Option (List ℕ)) (status : ℕ) : Type 0 where
   pub text : List ℕ
   pub due : End
   pub answer : answers text due

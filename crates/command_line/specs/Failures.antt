@@ -4,11 +4,17 @@ use Rattle.std.specs.Fmt.{decimal}
 use Rattle.aff_lines.specs.Faults.{why_name as aff_why_name}
 use Rattle.dic_reader.specs.Faults.{why_name as dic_why_name}
 use Rattle.dictionary_swap.specs.declared.fault.LoadFault.{LoadFault}
-use Rattle.dictionary_swap.specs.declared.fault.LoadFault.TheVariants.{Failed, Missing, TooLong, Aff, Dic, NoMemory as LoadWanting}
+use Rattle.dictionary_swap.specs.declared.fault.LoadFault.TheVariants.{Failed, Missing, TooLong}
+use Rattle.dictionary_swap.specs.declared.fault.LoadFault.TheVariants.{Aff, Dic}
+use Rattle.dictionary_swap.specs.declared.fault.LoadFault.TheVariants.{NoMemory as LoadWanting}
 use Rattle.document_report.specs.declared.fault.DocumentFault.{DocumentFault}
-use Rattle.document_report.specs.declared.fault.DocumentFault.TheVariants.{NotUtf8, TooManyParagraphs, LongParagraph, NoMemory as ReportWanting}
+use Rattle.document_report.specs.declared.fault.DocumentFault.TheVariants.{NotUtf8}
+use Rattle.document_report.specs.declared.fault.DocumentFault.TheVariants.{TooManyParagraphs}
+use Rattle.document_report.specs.declared.fault.DocumentFault.TheVariants.{LongParagraph}
+use Rattle.document_report.specs.declared.fault.DocumentFault.TheVariants.{NoMemory as ReportWanting}
 use Rattle.command_line.specs.declared.failure.Failure.{Failure}
-use Rattle.command_line.specs.declared.failure.Failure.TheVariants.{Words, Load, Document, Input, Limit, NoMemory}
+use Rattle.command_line.specs.declared.failure.Failure.TheVariants.{Words, Load, Document, Input}
+use Rattle.command_line.specs.declared.failure.Failure.TheVariants.{Limit, NoMemory}
 
 -- ---- the exit status
 
@@ -38,7 +44,8 @@ status_of NoMemory = 7
 
 -- a file's fault: which file, the line, and the cause
 abbrev pub fault_line : List ℕ → ℕ → List ℕ → List ℕ
-fault_line file line why = file ++ (codes " " ++ (decimal line ++ (codes " " ++ (why ++ codes "\n"))))
+fault_line file line why =
+    file ++ (codes " " ++ (decimal line ++ (codes " " ++ (why ++ codes "\n"))))
 
 abbrev pub limit_line : ℕ → List ℕ
 limit_line limit = codes "limit " ++ (decimal limit ++ codes "\n")
@@ -81,7 +88,8 @@ document_failure (TooManyParagraphs limit) = Document (TooManyParagraphs limit)
 document_failure (LongParagraph limit) = Document (LongParagraph limit)
 document_failure ReportWanting = NoMemory
 
--- whether a failure is one of the files or of the document themselves: one is not there or too large, or something in it is wrong
+-- whether a failure is one of the files or of the document themselves: one is not there or too
+-- large, or something in it is wrong
 abbrev pub is_fault : Failure → Bool
 is_fault (Load Failed) = false
 is_fault (Load LoadWanting) = false

@@ -1,5 +1,7 @@
--- What there is to say of each form of words: whether it names files, whether it reads the input, what it may be answered, and what is whole.
-use Rattle.std.specs.Prelude.{◌≡◌, ℕ, ◌+◌, ◌==◌, ◌<◌, ◌≤◌, Bool, true, false, List, [], ◌∷◌, ◌++◌, Option, Some, None, Result, Ok, Err, if◌then◌else◌}
+-- What there is to say of each form of words: whether it names files, whether it reads the input,
+-- what it may be answered, and what is whole.
+use Rattle.std.specs.Prelude.{◌≡◌, ℕ, ◌+◌, ◌==◌, ◌<◌, ◌≤◌, Bool, true, false, List, [], ◌∷◌, ◌++◌}
+use Rattle.std.specs.Prelude.{Option, Some, None, Result, Ok, Err, if◌then◌else◌}
 use Rattle.std.specs.Bool.{OnFalse}
 use Rattle.std.specs.List.{AllByRecursion}
 use Rattle.outside.specs.Files.{Folder}
@@ -22,10 +24,12 @@ use Rattle.command_line.specs.declared.requests.Request.TheVariants.{Check, Make
 use Rattle.command_line.specs.declared.ending.End.{End}
 use Rattle.command_line.specs.declared.ending.End.TheVariants.{Quiet, Marked, Failed}
 use Rattle.command_line.specs.declared.failure.Failure.{Failure}
-use Rattle.command_line.specs.declared.failure.Failure.TheVariants.{Words, Load, Document, Input, Limit, NoMemory}
+use Rattle.command_line.specs.declared.failure.Failure.TheVariants.{Words, Load, Document, Input}
+use Rattle.command_line.specs.declared.failure.Failure.TheVariants.{Limit, NoMemory}
 use Rattle.input_lines.specs.declared.limits.TheConstants.{INPUT_LIMIT, LINE_LIMIT}
 
--- What a call meets outside: what the folder tells, how often the files had failed before the call and behind it, and what was read of the input.
+-- What a call meets outside: what the folder tells, how often the files had failed before the call
+-- and behind it, and what was read of the input.
 pub record Met : Type 0 where
   pub folder : Option Folder
   pub files_before : ℕ
@@ -60,7 +64,8 @@ pub record AreFirstLines (text front : List ℕ) : Type 0 where
   pub begins : text ≡ front ++ rest
   pub whole : is_whole front ≡ true
 
--- the lines that may stand before it is told that memory is wanting: those of the report. A failure is one line and none of it.
+-- the lines that may stand before it is told that memory is wanting: those of the report. A failure
+-- is one line and none of it.
 abbrev pub lines_before : Result Printed Failure → List ℕ
 lines_before (Ok printed) = printed.text
 lines_before (Err failure) = []
@@ -69,32 +74,41 @@ lines_before (Err failure) = []
 abbrev pub end_printed : Printed → End
 end_printed printed = if printed.marks == 0 then Quiet else Marked
 
--- how a report may end where this is due: it is printed, or refused as is due, or the files failed, or memory was wanting
+-- how a report may end where this is due: it is printed, or refused as is due, or the files failed,
+-- or memory was wanting
 pub data IsReport (due : Result Printed Failure) (text : List ℕ) (end : End) : Type 0 where
-  AllPrinted : (printed : Printed) → due ≡ Ok printed → text ≡ printed.text → end ≡ end_printed printed → IsReport due text end
-  Refused : (failure : Failure) → is_fault failure ≡ true → due ≡ Err failure → end ≡ Failed failure → IsReport due text end
+  AllPrinted : (printed : Printed) → due ≡ Ok printed → text ≡ printed.text
+      → end ≡ end_printed printed → IsReport due text end
+  Refused : (failure : Failure) → is_fault failure ≡ true → due ≡ Err failure → end ≡ Failed failure
+      → IsReport due text end
   FilesFailed : end ≡ Failed (Load FailedLoad) → IsReport due text end
   Wanting : end ≡ Failed NoMemory → AreFirstLines (lines_before due) text → IsReport due text end
 
 -- all of a report is printed, or memory was wanting
 pub data IsWholeReport (printed : Printed) (text : List ℕ) (end : End) : Type 0 where
   AllOfIt : text ≡ printed.text → end ≡ end_printed printed → IsWholeReport printed text end
-  SomeOfIt : end ≡ Failed NoMemory → AreFirstLines printed.text text → IsWholeReport printed text end
+  SomeOfIt : end ≡ Failed NoMemory → AreFirstLines printed.text text
+      → IsWholeReport printed text end
 
--- a form of words that asks for a report, by what may be due of what is met; where only one report may be, and the files do not fail, that one is whole
+-- a form of words that asks for a report, by what may be due of what is met; where only one report
+-- may be, and the files do not fail, that one is whole
 abbrev pub report_form : Bool → (Met → Result Printed Failure → Type 0) → Form
 report_form names_files may_be_due = record {
   names_files = names_files;
   reads_input = false;
-  answers = λ met text end. (due : Result Printed Failure) × may_be_due met due × IsReport due text end;
-  whole = λ met text end. (printed : Printed) → ((due : Result Printed Failure) → may_be_due met due → due ≡ Ok printed)
+  answers = λ met text end. (due : Result Printed Failure) × may_be_due met due
+      × IsReport due text end;
+  whole = λ met text end. (printed : Printed)
+      → ((due : Result Printed Failure) → may_be_due met due → due ≡ Ok printed)
       → met.files_after ≡ met.files_before → IsWholeReport printed text end;
 }
 
 -- ---- forms that begin a dialogue
 
--- these lines were replied to so, by a console that opens with a dictionary, and the files failed as often at least as was told
-pub record AreReplied (met : Met) (lexicon : Lexicon) (lines : List (List ℕ)) (said : List ℕ) : Type 0 where
+-- these lines were replied to so, by a console that opens with a dictionary, and the files failed
+-- as often at least as was told
+pub record AreReplied (met : Met) (lexicon : Lexicon) (lines : List (List ℕ)) (said : List ℕ) : Type
+    0 where
   pub replies : List Reply
   pub said_is : said ≡ written_of replies
   pub transcript : IsTranscript 0 met.folder lexicon lines replies
@@ -113,20 +127,24 @@ end_of reading.LongLine = Some (Failed (Limit LINE_LIMIT))
 end_of reading.NoMemory = Some (Failed NoMemory)
 end_of reading.SinkFailed = None
 
--- a console that has opened with a dictionary has replied so, and then the reading of the input ended
+-- a console that has opened with a dictionary has replied so, and then the reading of the input
+-- ended
 pub record IsDialogue (met : Met) (lexicon : Lexicon) (text : List ℕ) (end : End) : Type 0 where
   pub ended : ReadingEnd
   pub end_is : end_of ended ≡ Some end
   pub is : HasReplied met lexicon ended text
 
--- how the words of `edit` may be answered: the console that opens has replied; or before that it is due that the dictionary is refused, the files
--- failed, or memory was wanting
+-- how the words of `edit` may be answered: the console that opens has replied; or before that it is
+-- due that the dictionary is refused, the files failed, or memory was wanting
 pub data IsEdited (met : Met) (names : DictionaryNamed) (text : List ℕ) (end : End) : Type 0 where
-  Opened : (there : DictionaryFiles) (lexicon : Lexicon) → IsThere met.folder names.aff names.dic there → dictionary_due there ≡ Ok lexicon
+  Opened : (there : DictionaryFiles) (lexicon : Lexicon)
+      → IsThere met.folder names.aff names.dic there → dictionary_due there ≡ Ok lexicon
       → IsDialogue met lexicon text end → IsEdited met names text end
-  NotOpened : (there : DictionaryFiles) (failure : Failure) → IsThere met.folder names.aff names.dic there → dictionary_due there ≡ Err failure
+  NotOpened : (there : DictionaryFiles) (failure : Failure)
+      → IsThere met.folder names.aff names.dic there → dictionary_due there ≡ Err failure
       → end ≡ Failed failure → text ≡ [] → IsUntouched met.reading → IsEdited met names text end
-  FilesFailedFirst : end ≡ Failed (Load FailedLoad) → IsUntouched met.reading → IsEdited met names text end
+  FilesFailedFirst : end ≡ Failed (Load FailedLoad) → IsUntouched met.reading
+      → IsEdited met names text end
   WantingFirst : end ≡ Failed NoMemory → text ≡ [] → IsEdited met names text end
 
 -- the files failed before anything was taken of the input
@@ -135,8 +153,10 @@ FailedFirst met = (met.files_before < met.files_after) × IsUntouched met.readin
 
 -- all lines were replied to, or memory was wanting
 pub data IsWholeDialogue (met : Met) (lexicon : Lexicon) (text : List ℕ) (end : End) : Type 0 where
-  AllReplied : end ≡ Quiet → HasReplied met lexicon reading.Finished text → IsWholeDialogue met lexicon text end
-  SomeReplied : end ≡ Failed NoMemory → HasReplied met lexicon reading.NoMemory text → IsWholeDialogue met lexicon text end
+  AllReplied : end ≡ Quiet → HasReplied met lexicon reading.Finished text
+      → IsWholeDialogue met lexicon text end
+  SomeReplied : end ≡ Failed NoMemory → HasReplied met lexicon reading.NoMemory text
+      → IsWholeDialogue met lexicon text end
   NoneReplied : end ≡ Failed NoMemory → text ≡ [] → IsWholeDialogue met lexicon text end
 
 -- the folder has the dictionary, and the input passes no limit
@@ -161,7 +181,8 @@ form_of None = record {
 }
 -- `check AFF DIC FILE`
 form_of (Some (Check names)) =
-    report_form true (λ met due. (found : Found) × IsFound met.folder names found × (due ≡ check_due found))
+    report_form true
+    (λ met due. (found : Found) × IsFound met.folder names found × (due ≡ check_due found))
 -- `make START SIZE`
 form_of (Some (Make asked)) = report_form false (λ met due. due ≡ make_due asked)
 -- `edit AFF DIC`
@@ -191,8 +212,10 @@ pub record IsCaused (asked : Option Request) (met : Met) (text : List ℕ) (end 
   pub input : end ≡ Failed Input → met.reading.faults_before < met.reading.faults_after
   pub alone : is_alone end ≡ true → text ≡ []
 
--- what words may be answered: what their form may be, with its cause; what the form does not need stays untouched
-pub record IsAnswerTo (asked : Option Request) (met : Met) (text : List ℕ) (end : End) : Type 0 where
+-- what words may be answered: what their form may be, with its cause; what the form does not need
+-- stays untouched
+pub record IsAnswerTo (asked : Option Request) (met : Met) (text : List ℕ) (end : End) : Type
+    0 where
   pub answer : (form_of asked).answers met text end
   pub caused : IsCaused asked met text end
   pub input : OnFalse (form_of asked).reads_input (IsUntouched met.reading)

@@ -7,7 +7,8 @@ pub record CheckedFiles : Type 0 where
   pub dic : List ℕ
   pub document : List ℕ
 
--- what the words of `make` ask for: a dictionary and a text of this size, whose words are drawn from this start on
+-- what the words of `make` ask for: a dictionary and a text of this size, whose words are drawn
+-- from this start on
 pub record StartAndSize : Type 0 where
   pub start : ℕ
   pub size : ℕ

@@ -37,9 +37,11 @@ impl End {
     }
 }
 
-/// Writes the last line of a call, if it has one, and gives the exit status; or those of want of memory, if there is none for the line.
+/// Writes the last line of a call, if it has one, and gives the exit status; or those of want of
+/// memory, if there is none for the line.
 pub fn put_end<K: Sink>(alloc: Global, out: &mut K, end: End) -> u8
-    ensures puts { IsEndPut end (K.faults out.old < K.faults out.new) (K.written out.old) (K.written out.new) result }
+    ensures puts { IsEndPut end (K.faults out.old < K.faults out.new) (K.written out.old)
+        (K.written out.new) result }
     ensures count { K.faults out.old ≤ K.faults out.new }
 {
     match end {
@@ -49,7 +51,8 @@ pub fn put_end<K: Sink>(alloc: Global, out: &mut K, end: End) -> u8
 }
 
 fn put_line<K: Sink>(alloc: Global, out: &mut K, failure: Failure) -> u8
-    ensures puts { IsEndPut (End.Failed failure) (K.faults out.old < K.faults out.new) (K.written out.old) (K.written out.new) result }
+    ensures puts { IsEndPut (End.Failed failure) (K.faults out.old < K.faults out.new)
+        (K.written out.old) (K.written out.new) result }
     ensures count { K.faults out.old ≤ K.faults out.new }
 {
     let mut line = String::new(alloc);
@@ -62,7 +65,8 @@ fn put_line<K: Sink>(alloc: Global, out: &mut K, failure: Failure) -> u8
 /// Writes that memory is wanting, also for a call that could not begin, and gives the exit status.
 #[tactic(auto, unfolding(crate::specs::Failures::last_line))]
 pub fn put_wanting<K: Sink>(out: &mut K) -> u8
-    ensures puts { IsPut (status_at (End.Failed Failure.NoMemory)) (tail_of (End.Failed Failure.NoMemory)) (K.faults out.old < K.faults out.new)
+    ensures puts { IsPut (status_at (End.Failed Failure.NoMemory))
+        (tail_of (End.Failed Failure.NoMemory)) (K.faults out.old < K.faults out.new)
         (K.written out.old) (K.written out.new) result }
     ensures count { K.faults out.old ≤ K.faults out.new }
 {
@@ -71,7 +75,8 @@ pub fn put_wanting<K: Sink>(out: &mut K) -> u8
 
 /// Writes a text, and gives the status or that of a sink that failed.
 pub fn put<K: Sink>(out: &mut K, text: &[u8], status: u8) -> u8
-    ensures puts { IsPut status text.now (K.faults out.old < K.faults out.new) (K.written out.old) (K.written out.new) result }
+    ensures puts { IsPut status text.now (K.faults out.old < K.faults out.new) (K.written out.old)
+        (K.written out.new) result }
     ensures count { K.faults out.old ≤ K.faults out.new }
 {
     match out.put(text) {
@@ -83,7 +88,8 @@ pub fn put<K: Sink>(out: &mut K, text: &[u8], status: u8) -> u8
 /// Writes a report, or the last line that tells why there is none, and gives the exit status.
 pub fn put_outcome<K: Sink>(alloc: Global, out: &mut K, outcome: Result<Report, Failure>) -> u8
     ensures puts { (end : End) × IsOrWanting (end_by outcome) end
-        × IsPut (status_at end) (text_by outcome ++ tail_of end) (K.faults out.old < K.faults out.new) (K.written out.old) (K.written out.new) result }
+        × IsPut (status_at end) (text_by outcome ++ tail_of end)
+        (K.faults out.old < K.faults out.new) (K.written out.old) (K.written out.new) result }
     ensures count { K.faults out.old ≤ K.faults out.new }
 {
     match outcome {
@@ -93,7 +99,8 @@ pub fn put_outcome<K: Sink>(alloc: Global, out: &mut K, outcome: Result<Report, 
 }
 
 fn put_report<K: Sink>(out: &mut K, report: &Report) -> u8
-    ensures puts { IsPut (status_at (end_by (Ok report.now))) (string_bytes report.now.text) (K.faults out.old < K.faults out.new)
+    ensures puts { IsPut (status_at (end_by (Ok report.now))) (string_bytes report.now.text)
+        (K.faults out.old < K.faults out.new)
         (K.written out.old) (K.written out.new) result }
     ensures count { K.faults out.old ≤ K.faults out.new }
 {

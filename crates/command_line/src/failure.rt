@@ -3,7 +3,9 @@
 ghost use Rattle.std.specs.Prelude.{◌≡◌, ◌++◌, OnOk};
 ghost use Rattle.std.specs.String.{string_bytes};
 ghost use Rattle.command_line.specs.declared.failure.Failure.TheVariants.{NoMemory as OutOfMemory};
-ghost use Rattle.command_line.specs.Failures.{document_failure, document_line, document_status, failure_of, fault_line, last_line, limit_line, load_line, load_status, status_of};
+ghost use Rattle.command_line.specs.Failures.{document_failure, document_line, document_status};
+ghost use Rattle.command_line.specs.Failures.{failure_of, fault_line, last_line, limit_line};
+ghost use Rattle.command_line.specs.Failures.{load_line, load_status, status_of};
 
 use dictionary_swap::LoadFault;
 use document_report::DocumentFault;
@@ -105,7 +107,8 @@ fn push_document_line(text: &mut String, fault: DocumentFault) -> Result<(), All
 
 /// Adds the line of a fault of a file.
 fn push_fault(text: &mut String, file: &str, line: u64, why: &str) -> Result<(), AllocError>
-    ensures { OnOk result (string_bytes text.new ≡ string_bytes text.old ++ fault_line file.now line why.now) }
+    ensures { OnOk result
+        (string_bytes text.new ≡ string_bytes text.old ++ fault_line file.now line why.now) }
 {
     write!(text, "{file} {line} {why}\n")
 }

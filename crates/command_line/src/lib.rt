@@ -1,4 +1,5 @@
-//! What the words of a command line ask for: each form of words with what it does, and how a call ends.
+//! What the words of a command line ask for: each form of words with what it does, and how a call
+//! ends.
 #![tactic(auto)]
 
 mod ending;

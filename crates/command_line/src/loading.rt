@@ -38,8 +38,8 @@ pub fn load_speller<F: Files>(
     }
 }
 
-/// The dictionary of these two files, to be asked. It is shared at once, since a function that holds a whole dictionary beside other
-/// values takes minutes to prove.
+/// The dictionary of these two files, to be asked. It is shared at once, since a function that
+/// holds a whole dictionary beside other values takes minutes to prove.
 pub fn load_judge<F: Files>(
     alloc: Global,
     files: &mut F,

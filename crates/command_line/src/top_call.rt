@@ -31,8 +31,9 @@ pub struct Ended {
     pub status: u8,
 }
 
-/// Does what the words ask for, and tells how it ended. `words` are the arguments without the program's name;
-/// everything that is printed goes to `out`. The gate serves commands that are not built yet.
+/// Does what the words ask for, and tells how it ended. `words` are the arguments without the
+/// program's name; everything that is printed goes to `out`. The gate serves commands that are not
+/// built yet.
 pub fn run<R, F, S, K, G>(
     _rt: &R,
     alloc: Global,
@@ -59,26 +60,29 @@ where
         faults_before = S.Source.faults input.old;
         faults_after = S.Source.faults input.new;
       };
-    })) (K.Sink.faults out.old < K.Sink.faults out.new) (K.written out.old) (K.written out.new) result.status }
+    })) (K.Sink.faults out.old < K.Sink.faults out.new) (K.written out.old) (K.written out.new)
+        result.status }
 
-    // If the sink does not fail, the answer is whole as the form of the words says: where nothing else fails and no limit is passed, all
-    // is printed, or memory was wanting.
-    ensures complete { K.Sink.faults out.new ≡ K.Sink.faults out.old → EndsAs ((form_of (asked_in (map string_bytes words.now))).whole (record {
-      folder = F.told files.old;
-      files_before = F.Files.faults files.old;
-      files_after = F.Files.faults files.new;
-      reading = record {
-        before = S.left input.old;
-        after = S.left input.new;
-        faults_before = S.Source.faults input.old;
-        faults_after = S.Source.faults input.new;
-      };
-    })) ⊥ (K.written out.old) (K.written out.new) result.status }
+    // If the sink does not fail, the answer is whole as the form of the words says: where nothing
+    // else fails and no limit is passed, all is printed, or memory was wanting.
+    ensures complete { K.Sink.faults out.new ≡ K.Sink.faults out.old
+        → EndsAs ((form_of (asked_in (map string_bytes words.now))).whole (record {
+          folder = F.told files.old;
+          files_before = F.Files.faults files.old;
+          files_after = F.Files.faults files.new;
+          reading = record {
+            before = S.left input.old;
+            after = S.left input.new;
+            faults_before = S.Source.faults input.old;
+            faults_after = S.Source.faults input.new;
+          };
+        })) ⊥ (K.written out.old) (K.written out.new) result.status }
 
     // What a reader may take from these alone, whatever is told.
     ensures no_form { result.status ≡ 2 → asked_in (map string_bytes words.now) ≡ None }
     ensures failed { result.status ≡ 5 → (F.Files.faults files.old < F.Files.faults files.new)
-        ⊎ ((S.Source.faults input.old < S.Source.faults input.new) ⊎ Appends (K.written out.old) (K.written out.new) (last_line (Load Missing))) }
+        ⊎ ((S.Source.faults input.old < S.Source.faults input.new)
+        ⊎ Appends (K.written out.old) (K.written out.new) (last_line (Load Missing))) }
     ensures sink { result.status ≡ sink_status → K.Sink.faults out.old < K.Sink.faults out.new }
 
     // What stays.
@@ -103,21 +107,24 @@ where
     R: Threads + Sync,
     F: Files,
     K: Sink,
-    // What was written and the status are what the words may be answered by what is met outside, without an input.
-    ensures due { EndsAs (IsAnswerTo (without_input (asked_in (map string_bytes words.now))) (record {
-      folder = F.told files.old;
-      files_before = F.faults files.old;
-      files_after = F.faults files.new;
-      reading = record { before = None; after = None; faults_before = 0; faults_after = 0 };
-    })) (K.faults out.old < K.faults out.new) (K.written out.old) (K.written out.new) result }
+    // What was written and the status are what the words may be answered by what is met outside,
+    // without an input.
+    ensures due { EndsAs
+        (IsAnswerTo (without_input (asked_in (map string_bytes words.now))) (record {
+          folder = F.told files.old;
+          files_before = F.faults files.old;
+          files_after = F.faults files.new;
+          reading = record { before = None; after = None; faults_before = 0; faults_after = 0 };
+        })) (K.faults out.old < K.faults out.new) (K.written out.old) (K.written out.new) result }
 
     // If the sink does not fail, the answer is whole as the form of the words says.
-    ensures complete { K.faults out.new ≡ K.faults out.old → EndsAs ((form_of (without_input (asked_in (map string_bytes words.now)))).whole (record {
-      folder = F.told files.old;
-      files_before = F.faults files.old;
-      files_after = F.faults files.new;
-      reading = record { before = None; after = None; faults_before = 0; faults_after = 0 };
-    })) ⊥ (K.written out.old) (K.written out.new) result }
+    ensures complete { K.faults out.new ≡ K.faults out.old
+        → EndsAs ((form_of (without_input (asked_in (map string_bytes words.now)))).whole (record {
+          folder = F.told files.old;
+          files_before = F.faults files.old;
+          files_after = F.faults files.new;
+          reading = record { before = None; after = None; faults_before = 0; faults_after = 0 };
+        })) ⊥ (K.written out.old) (K.written out.new) result }
 
     // What a reader may take from these alone, whatever is told.
     ensures no_form { result ≡ 2 → without_input (asked_in (map string_bytes words.now)) ≡ None }
@@ -152,18 +159,20 @@ fn answer<F: Files, S: Source, K: Sink>(
         faults_before = S.Source.faults input.old;
         faults_after = S.Source.faults input.new;
       };
-    })) (K.Sink.faults out.old < K.Sink.faults out.new) (K.written out.old) (K.written out.new) result }
-    ensures complete { K.Sink.faults out.new ≡ K.Sink.faults out.old → EndsAs ((form_of request.entry).whole (record {
-      folder = F.told files.old;
-      files_before = F.Files.faults files.old;
-      files_after = F.Files.faults files.new;
-      reading = record {
-        before = S.left input.old;
-        after = S.left input.new;
-        faults_before = S.Source.faults input.old;
-        faults_after = S.Source.faults input.new;
-      };
-    })) ⊥ (K.written out.old) (K.written out.new) result }
+    })) (K.Sink.faults out.old < K.Sink.faults out.new) (K.written out.old) (K.written out.new)
+        result }
+    ensures complete { K.Sink.faults out.new ≡ K.Sink.faults out.old
+        → EndsAs ((form_of request.entry).whole (record {
+          folder = F.told files.old;
+          files_before = F.Files.faults files.old;
+          files_after = F.Files.faults files.new;
+          reading = record {
+            before = S.left input.old;
+            after = S.left input.new;
+            faults_before = S.Source.faults input.old;
+            faults_after = S.Source.faults input.new;
+          };
+        })) ⊥ (K.written out.old) (K.written out.new) result }
     ensures same { F.told files.new ≡ F.told files.old }
     ensures input_count { S.Source.faults input.old ≤ S.Source.faults input.new }
     ensures files_count { F.Files.faults files.old ≤ F.Files.faults files.new }
@@ -180,13 +189,15 @@ fn answer<F: Files, S: Source, K: Sink>(
 /// Tells that the words are of no form.
 fn tell_words<K: Sink>(alloc: Global, out: &mut K) -> u8
     // Whatever there is outside, which stays untouched.
-    ensures due { (folder : Option Folder) (files : ℕ) (reading : Reading) → IsUntouched reading → EndsAs (IsAnswerTo None (record {
-      folder = folder;
-      files_before = files;
-      files_after = files;
-      reading = reading;
-    })) (K.faults out.old < K.faults out.new) (K.written out.old) (K.written out.new) result }
-    ensures complete { (met : Met) → K.faults out.new ≡ K.faults out.old → EndsAs ((form_of None).whole met) ⊥ (K.written out.old) (K.written out.new) result }
+    ensures due { (folder : Option Folder) (files : ℕ) (reading : Reading) → IsUntouched reading
+        → EndsAs (IsAnswerTo None (record {
+          folder = folder;
+          files_before = files;
+          files_after = files;
+          reading = reading;
+        })) (K.faults out.old < K.faults out.new) (K.written out.old) (K.written out.new) result }
+    ensures complete { (met : Met) → K.faults out.new ≡ K.faults out.old
+        → EndsAs ((form_of None).whole met) ⊥ (K.written out.old) (K.written out.new) result }
     ensures sink_count { K.faults out.old ≤ K.faults out.new }
 {
     put_end(alloc, out, End::Failed(Failure::Words))

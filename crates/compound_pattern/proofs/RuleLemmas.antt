@@ -1,5 +1,7 @@
 -- The rule that a text is, from its items.
-use Rattle.std.proofs.Common.{◌≡◌, ℕ, ◌<◌, Bool, true, false, cond, List, [], ◌∷◌, ◌++◌, length, map, Option, Some, None, option_and_then, Result, Ok, Err, ◌↔◌, refl, sym, ap, ◌∙◌, append-nil, arith}
+use Rattle.std.proofs.Common.{◌≡◌, ℕ, ◌<◌, Bool, true, false, cond, List, [], ◌∷◌, ◌++◌, length}
+use Rattle.std.proofs.Common.{map, Option, Some, None, option_and_then, Result, Ok, Err, ◌↔◌, refl}
+use Rattle.std.proofs.Common.{sym, ap, ◌∙◌, append-nil, arith}
 use Rattle.std.specs.Option.{option_map, ok_or}
 use Rattle.std.specs.Str.{chars, IsUtf8, encode_utf8_all}
 use Rattle.std.proofs.lemmas.Str.{encodes-chars}
@@ -9,54 +11,73 @@ use Rattle.spell_types.specs.declared.flags.FlagKind.{FlagKind}
 use Rattle.spell_types.specs.declared.patterns.PatternStep.{PatternStep}
 use Rattle.compound_pattern.specs.declared.reading.PatternFault.{PatternFault}
 use Rattle.compound_pattern.specs.declared.reading.PatternFault.TheVariants.{BadPattern, BadFlag}
-use Rattle.compound_pattern.specs.PatternTexts.{Item, flag_text, step_of, IsWrittenBy, ReadsPattern, HasBadFlag, items_of, with_first, steps_of, rule_of, pattern_of}
-use Rattle.compound_pattern.proofs.ItemLemmas.{items_of-nil, items_of-written, written-items_of, some_items}
+use Rattle.compound_pattern.specs.PatternTexts.{Item, flag_text, step_of, IsWrittenBy, ReadsPattern}
+use Rattle.compound_pattern.specs.PatternTexts.{HasBadFlag, items_of, with_first, steps_of, rule_of}
+use Rattle.compound_pattern.specs.PatternTexts.{pattern_of}
+use Rattle.compound_pattern.proofs.ItemLemmas.{items_of-nil, items_of-written, written-items_of}
+use Rattle.compound_pattern.proofs.ItemLemmas.{some_items}
 
 -- ---- the steps of items
-map-steps_of : (kind : FlagKind) (items : List Item) (steps : List PatternStep) → map (step_of kind) items ≡ map (λ step. Some step) steps → steps_of kind items ≡ Some steps
+map-steps_of : (kind : FlagKind) (items : List Item) (steps : List PatternStep)
+    → map (step_of kind) items ≡ map (λ step. Some step) steps → steps_of kind items ≡ Some steps
 map-steps_of kind [] [] each = refl
 map-steps_of kind [] (step ∷ steps) each = absurd (cc)
 map-steps_of kind (item ∷ more) [] each = absurd (cc)
 map-steps_of kind (item ∷ more) (step ∷ steps) each =
     let own : step_of kind item ≡ Some step = cc in
     let others : map (step_of kind) more ≡ map (λ s. Some s) steps = cc in
-    ap (option_and_then (λ s. with_first s (steps_of kind more))) own ∙ ap (with_first step) (map-steps_of kind more steps others)
+    ap (option_and_then (λ s. with_first s (steps_of kind more))) own
+    ∙ ap (with_first step) (map-steps_of kind more steps others)
 
 -- ---- what the items of a text are told to be
 -- a text of these items
-told-items : (kind : FlagKind) (text : List ℕ) (items : List Item) → IsWrittenBy kind text items → items_of kind (chars text) ≡ Some items
+told-items : (kind : FlagKind) (text : List ℕ) (items : List Item) → IsWrittenBy kind text items
+    → items_of kind (chars text) ≡ Some items
 told-items kind text items is = ap (items_of kind) is.joined ∙ items_of-written kind items is.right
 
-rule_of-some : (kind : FlagKind) (items : List Item) → 0 < length items → rule_of kind (Some items) ≡ ok_or (steps_of kind items) BadFlag
+rule_of-some : (kind : FlagKind) (items : List Item) → 0 < length items
+    → rule_of kind (Some items) ≡ ok_or (steps_of kind items) BadFlag
 rule_of-some kind [] some = absurd (omega (arith, some))
 rule_of-some kind (item ∷ more) some = refl
 
-told : (kind : FlagKind) (text : List ℕ) (items : List Item) → IsWrittenBy kind text items → pattern_of kind text ≡ ok_or (steps_of kind items) BadFlag
+told : (kind : FlagKind) (text : List ℕ) (items : List Item) → IsWrittenBy kind text items
+    → pattern_of kind text ≡ ok_or (steps_of kind items) BadFlag
 unfolding pattern_of
-told kind text items is = ap (rule_of kind) (told-items kind text items is) ∙ rule_of-some kind items is.some
+told kind text items is =
+    ap (rule_of kind) (told-items kind text items is) ∙ rule_of-some kind items is.some
 
 -- what the steps of items come to
 data Come (kind : FlagKind) (items : List Item) : Type 0 where
-  all : (steps : List PatternStep) → map (step_of kind) items ≡ map (λ step. Some step) steps → Come kind items
+  all : (steps : List PatternStep) → map (step_of kind) items ≡ map (λ step. Some step) steps
+      → Come kind items
   not_all : (front : List Item) (item : Item) (more : List Item) → items ≡ front ++ item ∷ more
       → one_flag kind (encode_utf8_all (flag_text item.flag)) ≡ None → Come kind items
 
 come : (kind : FlagKind) (items : List Item) → Come kind items
 come kind [] = all [] refl
-come kind (item ∷ more) = by (one_flag kind (encode_utf8_all (flag_text item.flag))) refl (come kind more)
+come kind (item ∷ more) =
+    by (one_flag kind (encode_utf8_all (flag_text item.flag))) refl (come kind more)
   where
-    by : (o : Option Flag) → one_flag kind (encode_utf8_all (flag_text item.flag)) ≡ o → Come kind more → Come kind (item ∷ more)
+    by : (o : Option Flag) → one_flag kind (encode_utf8_all (flag_text item.flag)) ≡ o
+        → Come kind more → Come kind (item ∷ more)
     by None is rest = not_all [] item more refl is
     by (Some flag) is (all steps each) =
         let own : PatternStep = record { flag = flag; times = item.times } in
-        all (own ∷ steps) (ap (λ o. option_map (λ f. record { flag = f; times = item.times }) o ∷ map (step_of kind) more) is ∙ ap (λ xs. Some own ∷ xs) each)
-    by (Some flag) is (not_all front other rest place bad) = not_all (item ∷ front) other rest (ap (λ xs. item ∷ xs) place) bad
+        all (own ∷ steps)
+        (ap (λ o. option_map (λ f. record { flag = f; times = item.times }) o
+        ∷ map (step_of kind) more) is ∙ ap (λ xs. Some own ∷ xs) each)
+    by (Some flag) is (not_all front other rest place bad) =
+        not_all (item ∷ front) other rest (ap (λ xs. item ∷ xs) place) bad
 
-steps_of-bad : (kind : FlagKind) (front : List Item) (item : Item) (more : List Item) → one_flag kind (encode_utf8_all (flag_text item.flag)) ≡ None → steps_of kind (front ++ item ∷ more) ≡ None
+steps_of-bad : (kind : FlagKind) (front : List Item) (item : Item) (more : List Item)
+    → one_flag kind (encode_utf8_all (flag_text item.flag)) ≡ None
+    → steps_of kind (front ++ item ∷ more) ≡ None
 steps_of-bad kind [] item more bad =
-    ap (λ o. option_and_then (λ step. with_first step (steps_of kind more)) (option_map (λ f. record { flag = f; times = item.times }) o)) bad
+    ap (λ o. option_and_then (λ step. with_first step (steps_of kind more))
+    (option_map (λ f. record { flag = f; times = item.times }) o)) bad
 steps_of-bad kind (other ∷ front) item more bad =
-    ap (λ o. option_and_then (λ step. with_first step o) (step_of kind other)) (steps_of-bad kind front item more bad) ∙ lost (step_of kind other)
+    ap (λ o. option_and_then (λ step. with_first step o) (step_of kind other))
+    (steps_of-bad kind front item more bad) ∙ lost (step_of kind other)
   where
     lost : (o : Option PatternStep) → option_and_then (λ step. with_first step None) o ≡ None
     lost None = refl
@@ -79,16 +100,25 @@ written_or_not kind text = by (items_of kind (chars text)) refl
         let parts = written-items_of kind (item ∷ more) (chars text) is in
         by_items (item ∷ more) (record { some = omega arith; right = parts.1; joined = parts.0 })
 
-pub pattern_of-read : (kind : FlagKind) (text : List ℕ) (steps : List PatternStep) → (pattern_of kind text ≡ Ok steps) ↔ ReadsPattern kind text steps
+pub pattern_of-read : (kind : FlagKind) (text : List ℕ) (steps : List PatternStep)
+    → (pattern_of kind text ≡ Ok steps) ↔ ReadsPattern kind text steps
 pattern_of-read kind text steps = (there (written_or_not kind text), back)
   where
-    by : (items : List Item) → IsWrittenBy kind text items → Come kind items → pattern_of kind text ≡ Ok steps → ReadsPattern kind text steps
+    by : (items : List Item) → IsWrittenBy kind text items → Come kind items
+        → pattern_of kind text ≡ Ok steps → ReadsPattern kind text steps
     by items is (all made each) same =
-        let read = told kind text items is ∙ ap (λ o. ok_or o BadFlag) (map-steps_of kind items made each) in
+        let read = told kind text items is
+        ∙ ap (λ o. ok_or o BadFlag) (map-steps_of kind items made each) in
         let steps_same : made ≡ steps = cc in
-        record { items = items; written_by = is; each = each ∙ ap (map (λ step. Some step)) steps_same }
+        record {
+          items = items;
+          written_by = is;
+          each = each
+              ∙ ap (map (λ step. Some step)) steps_same;
+        }
     by items is (not_all front item more place bad) same =
-        let read = told kind text items is ∙ ap (λ xs. ok_or (steps_of kind xs) BadFlag) place ∙ ap (λ o. ok_or o BadFlag) (steps_of-bad kind front item more bad) in
+        let read = told kind text items is ∙ ap (λ xs. ok_or (steps_of kind xs) BadFlag) place
+        ∙ ap (λ o. ok_or o BadFlag) (steps_of-bad kind front item more bad) in
         absurd (cc)
 
     there : Written kind text → pattern_of kind text ≡ Ok steps → ReadsPattern kind text steps
@@ -96,31 +126,47 @@ pattern_of-read kind text steps = (there (written_or_not kind text), back)
     there (by_none fault) same = absurd (cc)
 
     back : ReadsPattern kind text steps → pattern_of kind text ≡ Ok steps
-    back reads = told kind text reads.items reads.written_by ∙ ap (λ o. ok_or o BadFlag) (map-steps_of kind reads.items steps reads.each)
+    back reads = told kind text reads.items reads.written_by
+        ∙ ap (λ o. ok_or o BadFlag) (map-steps_of kind reads.items steps reads.each)
 
-pub pattern_of-bad_pattern : (kind : FlagKind) (text : List ℕ) → (pattern_of kind text ≡ Err BadPattern) ↔ ((items : List Item) → IsWrittenBy kind text items → ⊥)
+pub pattern_of-bad_pattern : (kind : FlagKind) (text : List ℕ)
+    → (pattern_of kind text ≡ Err BadPattern)
+    ↔ ((items : List Item) → IsWrittenBy kind text items → ⊥)
 pattern_of-bad_pattern kind text = (there, back (written_or_not kind text))
   where
     by : (o : Option (List PatternStep)) → ok_or o BadFlag ≡ Err BadPattern → ⊥
     by None same = cc
     by (Some steps) same = cc
 
-    there : pattern_of kind text ≡ Err BadPattern → (items : List Item) → IsWrittenBy kind text items → ⊥
+    there : pattern_of kind text ≡ Err BadPattern → (items : List Item)
+        → IsWrittenBy kind text items → ⊥
     there same items is = by (steps_of kind items) (sym (told kind text items is) ∙ same)
 
-    back : Written kind text → ((items : List Item) → IsWrittenBy kind text items → ⊥) → pattern_of kind text ≡ Err BadPattern
+    back : Written kind text → ((items : List Item) → IsWrittenBy kind text items → ⊥)
+        → pattern_of kind text ≡ Err BadPattern
     back (by_items items is) none = absurd (none items is)
     back (by_none fault) none = fault
 
-pub pattern_of-bad_flag : (kind : FlagKind) (text : List ℕ) → (pattern_of kind text ≡ Err BadFlag) ↔ HasBadFlag kind text
+pub pattern_of-bad_flag : (kind : FlagKind) (text : List ℕ) → (pattern_of kind text ≡ Err BadFlag)
+    ↔ HasBadFlag kind text
 pattern_of-bad_flag kind text = (there (written_or_not kind text), back)
   where
-    by : (items : List Item) → IsWrittenBy kind text items → Come kind items → pattern_of kind text ≡ Err BadFlag → HasBadFlag kind text
+    by : (items : List Item) → IsWrittenBy kind text items → Come kind items
+        → pattern_of kind text ≡ Err BadFlag → HasBadFlag kind text
     by items is (all made each) same =
-        let read = told kind text items is ∙ ap (λ o. ok_or o BadFlag) (map-steps_of kind items made each) in
+        let read = told kind text items is
+        ∙ ap (λ o. ok_or o BadFlag) (map-steps_of kind items made each) in
         absurd (cc)
     by items is (not_all front item more place bad) same =
-        record { items = items; written_by = is; front = front; item = item; more = more; place = place; bad = bad }
+        record {
+          items = items;
+          written_by = is;
+          front = front;
+          item = item;
+          more = more;
+          place = place;
+          bad = bad;
+        }
 
     there : Written kind text → pattern_of kind text ≡ Err BadFlag → HasBadFlag kind text
     there (by_items items is) same = by items is (come kind items) same
@@ -128,17 +174,22 @@ pattern_of-bad_flag kind text = (there (written_or_not kind text), back)
 
     back : HasBadFlag kind text → pattern_of kind text ≡ Err BadFlag
     back has =
-        told kind text has.items has.written_by ∙ ap (λ xs. ok_or (steps_of kind xs) BadFlag) has.place
+        told kind text has.items has.written_by
+        ∙ ap (λ xs. ok_or (steps_of kind xs) BadFlag) has.place
         ∙ ap (λ o. ok_or o BadFlag) (steps_of-bad kind has.front has.item has.more has.bad)
 
 -- ---- a text that is read item by item
--- what is told where some steps are made, and whether the items so far were all flags, and these are the others
-abbrev pub told_after : FlagKind → Bool → List PatternStep → Option (List Item) → Result (List PatternStep) PatternFault
+-- what is told where some steps are made, and whether the items so far were all flags, and these
+-- are the others
+abbrev pub told_after : FlagKind → Bool → List PatternStep → Option (List Item)
+    → Result (List PatternStep) PatternFault
 told_after kind are_flags made None = Err BadPattern
-told_after kind true made (Some items) = ok_or (option_map (λ steps. made ++ steps) (steps_of kind items)) BadFlag
+told_after kind true made (Some items) =
+    ok_or (option_map (λ steps. made ++ steps) (steps_of kind items)) BadFlag
 told_after kind false made (Some items) = Err BadFlag
 
-begins_some : (text : List ℕ) → IsUtf8 text → 0 < length text → (c : ℕ) × (rest : List ℕ) × (chars text ≡ c ∷ rest)
+begins_some : (text : List ℕ) → IsUtf8 text → 0 < length text → (c : ℕ) × (rest : List ℕ)
+    × (chars text ≡ c ∷ rest)
 begins_some text utf8 some = by (chars text) refl
   where
     by : (cs : List ℕ) → chars text ≡ cs → (c : ℕ) × (rest : List ℕ) × (chars text ≡ c ∷ rest)
@@ -147,26 +198,32 @@ begins_some text utf8 some = by (chars text) refl
         absurd (omega (arith, ap length empty, some))
     by (c ∷ rest) is = (c, rest, is)
 
-pub told-first : (kind : FlagKind) (text : List ℕ) → IsUtf8 text → 0 < length text → told_after kind true [] (items_of kind (chars text)) ≡ pattern_of kind text
+pub told-first : (kind : FlagKind) (text : List ℕ) → IsUtf8 text → 0 < length text
+    → told_after kind true [] (items_of kind (chars text)) ≡ pattern_of kind text
 unfolding pattern_of
 told-first kind text utf8 some = by (items_of kind (chars text)) refl
   where
-    by : (o : Option (List Item)) → items_of kind (chars text) ≡ o → told_after kind true [] o ≡ rule_of kind o
+    by : (o : Option (List Item)) → items_of kind (chars text) ≡ o
+        → told_after kind true [] o ≡ rule_of kind o
     by None is = refl
     by (Some []) is =
         let begins = begins_some text utf8 some in
         absurd (some_items kind begins.0 begins.1 (ap (items_of kind) (sym begins.2) ∙ is))
     by (Some (item ∷ more)) is = same (steps_of kind (item ∷ more))
       where
-        same : (o : Option (List PatternStep)) → ok_or (option_map (λ steps. [] ++ steps) o) BadFlag ≡ ok_or o BadFlag
+        same : (o : Option (List PatternStep)) → ok_or (option_map (λ steps. [] ++ steps) o) BadFlag
+            ≡ ok_or o BadFlag
         same None = refl
         same (Some steps) = refl
 
 -- nothing is left
-pub told-last : (kind : FlagKind) (are_flags : Bool) (made : List PatternStep) (text rest : List ℕ) → length rest ≡ 0
-    → told_after kind are_flags made (items_of kind (chars rest)) ≡ pattern_of kind text → pattern_of kind text ≡ cond are_flags (Ok made) (Err BadFlag)
+pub told-last : (kind : FlagKind) (are_flags : Bool) (made : List PatternStep) (text rest : List ℕ)
+    → length rest ≡ 0
+    → told_after kind are_flags made (items_of kind (chars rest)) ≡ pattern_of kind text
+    → pattern_of kind text ≡ cond are_flags (Ok made) (Err BadFlag)
 unfolding chars
-told-last kind are_flags made text [] none so_far = sym so_far ∙ ap (told_after kind are_flags made) (items_of-nil kind) ∙ by are_flags
+told-last kind are_flags made text [] none so_far =
+    sym so_far ∙ ap (told_after kind are_flags made) (items_of-nil kind) ∙ by are_flags
   where
     by : (b : Bool) → told_after kind b made (Some []) ≡ cond b (Ok made) (Err BadFlag)
     by true = ap (λ xs. Ok xs) (append-nil made)
@@ -174,7 +231,8 @@ told-last kind are_flags made text [] none so_far = sym so_far ∙ ap (told_afte
 told-last kind are_flags made text (b ∷ rest) none so_far = absurd (omega (arith, none))
 
 -- the empty text
-pub told-empty : (kind : FlagKind) (text : List ℕ) → length text ≡ 0 → pattern_of kind text ≡ Err BadPattern
+pub told-empty : (kind : FlagKind) (text : List ℕ) → length text ≡ 0
+    → pattern_of kind text ≡ Err BadPattern
 unfolding pattern_of chars
 told-empty kind [] none = ap (rule_of kind) (items_of-nil kind)
 told-empty kind (b ∷ text) none = absurd (omega (arith, none))

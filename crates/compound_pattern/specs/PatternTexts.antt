@@ -1,5 +1,7 @@
 -- Which compound rule a text is.
-use Rattle.std.specs.Prelude.{◌≡◌, ℕ, zero, suc, ◌+◌, ◌<◌, ◌==◌, Bool, true, false, not, ◌&&◌, ◌||◌, List, [], ◌∷◌, ◌++◌, length, map, take, drop, Option, None, Some, option_and_then, Result, Err, if◌then◌else◌}
+use Rattle.std.specs.Prelude.{◌≡◌, ℕ, zero, suc, ◌+◌, ◌<◌, ◌==◌, Bool, true, false, not, ◌&&◌, ◌||◌}
+use Rattle.std.specs.Prelude.{List, [], ◌∷◌, ◌++◌, length, map, take, drop, Option, None, Some}
+use Rattle.std.specs.Prelude.{option_and_then, Result, Err, if◌then◌else◌}
 use Rattle.std.specs.Borrow.{Bor}
 use Rattle.std.specs.List.{AllByRecursion, flat_map, list_all, position}
 use Rattle.std.specs.Option.{option_map, ok_or}
@@ -54,7 +56,8 @@ may_be_bare Num = false
 
 -- whether a character is a flag without parentheses
 abbrev pub is_bare_flag : FlagKind → ℕ → Bool
-is_bare_flag kind c = may_be_bare kind && not (opens c || (closes c || (is_star c || is_question_mark c)))
+is_bare_flag kind c =
+    may_be_bare kind && not (opens c || (closes c || (is_star c || is_question_mark c)))
 
 -- whether a flag of this type may be written so: the first `)` closes the parentheses
 abbrev pub is_right_form : FlagKind → WrittenFlag → Bool
@@ -79,9 +82,11 @@ written item = written_flag item.flag ++ sign item.times
 -- the step that an item is, if its text is one flag
 abbrev pub step_of : FlagKind → Item → Option PatternStep
 step_of kind item =
-    option_map (λ flag. record { flag = flag; times = item.times }) (one_flag kind (encode_utf8_all (flag_text item.flag)))
+    option_map (λ flag. record { flag = flag; times = item.times })
+    (one_flag kind (encode_utf8_all (flag_text item.flag)))
 
--- The text is what the items write, one behind the other: at least one item, each in a form that is right for the type.
+-- The text is what the items write, one behind the other: at least one item, each in a form that is
+-- right for the type.
 pub record IsWrittenBy (kind : FlagKind) (text : List ℕ) (items : List Item) : Type 0 where
   pub some : 0 < length items
   pub right : AllByRecursion (λ item. is_right_form kind item.flag ≡ true) items
@@ -104,14 +109,18 @@ pub record HasBadFlag (kind : FlagKind) (text : List ℕ) : Type 0 where
   pub bad : one_flag kind (encode_utf8_all (flag_text item.flag)) ≡ None
 
 -- ---- how a rule is read
--- a flag in parentheses, and how many of the characters behind the `(` write it: those before the first `)`, and that one
+-- a flag in parentheses, and how many of the characters behind the `(` write it: those before the
+-- first `)`, and that one
 abbrev pub enclosed_flag : List ℕ → Option (WrittenFlag × ℕ)
-enclosed_flag behind = option_map (λ place. (enclosed (take place behind), place + 1)) (position closes behind)
+enclosed_flag behind =
+    option_map (λ place. (enclosed (take place behind), place + 1)) (position closes behind)
 
--- the flag that begins with a character, and how many of the characters behind that one write it too
+-- the flag that begins with a character, and how many of the characters behind that one write it
+-- too
 abbrev pub first_flag : FlagKind → ℕ → List ℕ → Option (WrittenFlag × ℕ)
 first_flag kind c behind =
-    if opens c then enclosed_flag behind else (if is_bare_flag kind c then Some (bare c, 0) else None)
+    if opens c then enclosed_flag behind
+    else (if is_bare_flag kind c then Some (bare c, 0) else None)
 
 -- how many parts a flag stands for that stands before these characters
 abbrev pub times_before : List ℕ → Times
@@ -121,9 +130,11 @@ times_before (c ∷ behind) = if is_star c then Many else (if is_question_mark c
 -- the flag with its sign, and how many of the characters write both
 abbrev pub with_sign : List ℕ → WrittenFlag × ℕ → Item × ℕ
 with_sign behind (flag, read) =
-    let times = times_before (drop read behind) in (record { flag = flag; times = times }, read + length (sign times))
+    let times = times_before (drop read behind) in
+    (record { flag = flag; times = times }, read + length (sign times))
 
--- the item that begins with a character, and how many of the characters behind that one write it too
+-- the item that begins with a character, and how many of the characters behind that one write it
+-- too
 abbrev pub first_item : FlagKind → ℕ → List ℕ → Option (Item × ℕ)
 first_item kind c behind = option_map (with_sign behind) (first_flag kind c behind)
 
@@ -131,12 +142,14 @@ first_item kind c behind = option_map (with_sign behind) (first_flag kind c behi
 abbrev pub followed_by : Item → Option (List Item) → Option (List Item)
 followed_by item rest = option_map (λ items. item ∷ items) rest
 
--- the items of the text from the place behind its first characters, so many of which belong to an item already
+-- the items of the text from the place behind its first characters, so many of which belong to an
+-- item already
 abbrev pub items_behind : FlagKind → ℕ → List ℕ → Option (List Item)
 items_behind kind read [] = Some []
 items_behind kind (suc read) (c ∷ text) = items_behind kind read text
 items_behind kind zero (c ∷ text) =
-    option_and_then (λ found. followed_by found.0 (items_behind kind found.1 text)) (first_item kind c text)
+    option_and_then (λ found. followed_by found.0 (items_behind kind found.1 text))
+    (first_item kind c text)
 
 -- the items that characters write, from their front to their end
 unfoldable pub items_of : FlagKind → List ℕ → Option (List Item)
@@ -149,7 +162,8 @@ with_first step more = option_map (λ steps. step ∷ steps) more
 -- the steps that items are, if the text of each is one flag
 abbrev pub steps_of : FlagKind → List Item → Option (List PatternStep)
 steps_of kind [] = Some []
-steps_of kind (item ∷ more) = option_and_then (λ step. with_first step (steps_of kind more)) (step_of kind item)
+steps_of kind (item ∷ more) =
+    option_and_then (λ step. with_first step (steps_of kind more)) (step_of kind item)
 
 -- the rule that items are, if there are any
 abbrev pub rule_of : FlagKind → Option (List Item) → Result (List PatternStep) PatternFault
@@ -162,15 +176,19 @@ unfoldable pub pattern_of : FlagKind → List ℕ → Result (List PatternStep) 
 pattern_of kind text = rule_of kind (items_of kind (chars text))
 
 -- ---- how a reader goes on in a text
--- no flag begins the text, or this is the own text of one that does, and this is what stands behind it
+-- no flag begins the text, or this is the own text of one that does, and this is what stands behind
+-- it
 abbrev pub BeginsWith : FlagKind → List ℕ → Option (Bor (List ℕ) × Bor (List ℕ)) → Type 0
 BeginsWith kind text None = items_of kind (chars text) ≡ None
 BeginsWith kind text (Some (own, rest)) =
-    (flag : WrittenFlag) × (own.now ≡ encode_utf8_all (flag_text flag)) × (is_right_form kind flag ≡ true)
+    (flag : WrittenFlag) × (own.now ≡ encode_utf8_all (flag_text flag))
+    × (is_right_form kind flag ≡ true)
     × (chars text ≡ written_flag flag ++ chars rest.now)
 
--- no item begins the text, or this is the step of one that does, and the others are those of this rest
+-- no item begins the text, or this is the step of one that does, and the others are those of this
+-- rest
 abbrev pub GoesOn : FlagKind → List ℕ → Option (Option PatternStep × Bor (List ℕ)) → Type 0
 GoesOn kind text None = items_of kind (chars text) ≡ None
 GoesOn kind text (Some (step, rest)) =
-    (item : Item) × (step ≡ step_of kind item) × (items_of kind (chars text) ≡ followed_by item (items_of kind (chars rest.now)))
+    (item : Item) × (step ≡ step_of kind item)
+    × (items_of kind (chars text) ≡ followed_by item (items_of kind (chars rest.now)))

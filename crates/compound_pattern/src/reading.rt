@@ -1,12 +1,16 @@
 //! The text of a compound rule, read.
 
-ghost use Rattle.std.specs.Prelude.{◌≡◌, ◌≢◌, ◌↔◌, ℕ, ◌<◌, ◌≤◌, List, [], ◌∷◌, ◌++◌, length, All, Ok, Err, Some, None, IfNone, IfSome, IfOk, IfErr, option_and_then};
+ghost use Rattle.std.specs.Prelude.{◌≡◌, ◌≢◌, ◌↔◌, ℕ, ◌<◌, ◌≤◌, List, [], ◌∷◌, ◌++◌, length, All};
+ghost use Rattle.std.specs.Prelude.{Ok, Err, Some, None, IfNone, IfSome, IfOk, IfErr};
+ghost use Rattle.std.specs.Prelude.{option_and_then};
 ghost use Rattle.std.specs.Char.{encode_utf8};
 ghost use Rattle.std.specs.Str.{chars};
 ghost use Rattle.spell_types.specs.declared.flags.FlagKind.{FlagKind};
 ghost use Rattle.spell_types.specs.declared.patterns.PatternStep.{PatternStep};
 ghost use Rattle.spell_types.specs.Flags.{IsOrdinary};
-ghost use Rattle.compound_pattern.specs.PatternTexts.{Item, IsWrittenBy, ReadsPattern, HasBadFlag, BeginsWith, GoesOn, is_bare_flag, times_before, sign, pattern_of};
+ghost use Rattle.compound_pattern.specs.PatternTexts.{Item, IsWrittenBy, ReadsPattern, HasBadFlag};
+ghost use Rattle.compound_pattern.specs.PatternTexts.{BeginsWith, GoesOn, is_bare_flag};
+ghost use Rattle.compound_pattern.specs.PatternTexts.{times_before, sign, pattern_of};
 
 use flag_sets::read_one_flag;
 use lists::{Items, NoMemory};
@@ -16,8 +20,9 @@ use std::alloc::Global;
 /// Why a text is no compound rule.
 #[derive(Clone, Copy, Debug, PartialEq, Eq)]
 pub enum PatternFault {
-    /// The text is no flags with or without signs behind them: a sign follows no flag, parentheses are not both
-    /// there, a character stands where flags of the type need parentheses, or the text is empty.
+    /// The text is no flags with or without signs behind them: a sign follows no flag, parentheses
+    /// are not both there, a character stands where flags of the type need parentheses, or the text
+    /// is empty.
     BadPattern,
     /// Parentheses don't hold exactly one flag.
     BadFlag,
@@ -65,8 +70,9 @@ pub fn read_pattern(alloc: Global, kind: FlagKind, text: &str) -> Result<Pattern
     Ok(steps)
 }
 
-/// A text is a rule of some steps exactly where items write it that are these steps. Its fault is `BadPattern`
-/// exactly where no items write it, and `BadFlag` exactly where they do and the text of one of them is not one flag.
+/// A text is a rule of some steps exactly where items write it that are these steps. Its fault is
+/// `BadPattern` exactly where no items write it, and `BadFlag` exactly where they do and the text
+/// of one of them is not one flag.
 pub fn patterns_are_read()
     ensures read { (kind : FlagKind) (text : List ℕ) (steps : List PatternStep) →
         (pattern_of kind text ≡ Ok steps) ↔ ReadsPattern kind text steps }
@@ -77,8 +83,8 @@ pub fn patterns_are_read()
         (pattern_of kind text ≡ Err PatternFault.BadFlag) ↔ HasBadFlag kind text }
 {}
 
-/// The first item of a text as a step, if its text is one flag, and the text behind the item. None where no
-/// item begins the text.
+/// The first item of a text as a step, if its text is one flag, and the text behind the item. None
+/// where no item begins the text.
 fn next_step(kind: FlagKind, text: &str) -> Option<(Option<PatternStep>, &str)>
     requires { 0 < length text.now }
     ensures goes_on { GoesOn kind text.now result }

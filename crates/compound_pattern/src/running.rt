@@ -10,8 +10,9 @@ use spell_types::{FlagSet, Pattern, PatternStep, patterns_match};
 use std::alloc::Global;
 use std::marker::Model;
 
-/// Which steps of a compound rule may be next after some flag sets: for each place before a step, and for the
-/// one behind the last, whether the sets may lead there. The rule itself is kept by the caller.
+/// Which steps of a compound rule may be next after some flag sets: for each place before a step,
+/// and for the one behind the last, whether the sets may lead there. The rule itself is kept by the
+/// caller.
 #[derive(Debug, Drop)]
 pub struct States {
     kept: Vec<bool>,
@@ -64,7 +65,8 @@ fn advance_along(steps: &[PatternStep], flags: &FlagSet, states: &mut [bool])
         match_from steps.now states.new rest ≡ match_from steps.now states.old (flags.now ∷ rest) }
 {
     patterns_match();
-    // Whether the set leads from the place before to this one, and whether that place is reached and its step left out.
+    // Whether the set leads from the place before to this one, and whether that place is reached
+    // and its step left out.
     let mut arrives = false;
     let mut passes = false;
     for place in 0..states.len() {

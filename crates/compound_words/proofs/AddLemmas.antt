@@ -1,5 +1,8 @@
 -- Rows of rests, as they are filled.
-use Rattle.std.proofs.Common.{◌≡◌, ◌∙◌, refl, sym, ap, subst, ℕ, zero, suc, get_or, ◌+◌, ◌-◌, ◌^◌, ◌<◌, ◌≤◌, Bool, true, false, true≢false, cond, ◌==◌, ◌&&◌, ◌||◌, nat_eq, nat_lt, ◌⊎◌, inl, inr, List, [], ◌∷◌, ◌++◌, length, map, filter, Option, None, Some, arith, append-nil, length-append}
+use Rattle.std.proofs.Common.{◌≡◌, ◌∙◌, refl, sym, ap, subst, ℕ, zero, suc, get_or, ◌+◌, ◌-◌, ◌^◌}
+use Rattle.std.proofs.Common.{◌<◌, ◌≤◌, Bool, true, false, true≢false, cond, ◌==◌, ◌&&◌, ◌||◌}
+use Rattle.std.proofs.Common.{nat_eq, nat_lt, ◌⊎◌, inl, inr, List, [], ◌∷◌, ◌++◌, length, map}
+use Rattle.std.proofs.Common.{filter, Option, None, Some, arith, append-nil, length-append}
 use Rattle.std.specs.List.{AllByRecursion, list_any, starts_with, ends_with}
 use Rattle.std.specs.Option.{option_map_or, option_to_list}
 use Rattle.std.proofs.lemmas.Bool.{and_from, or_cases}
@@ -19,11 +22,16 @@ use Rattle.lists.specs.Laws.{each-append, each-front}
 use Rattle.compound_words.specs.declared.rests.Behind.{Behind}
 use Rattle.compound_words.specs.declared.rests.FirstPart.{FirstPart}
 use Rattle.compound_words.specs.Counting.{fewest, IsFewest, OneOf}
-use Rattle.compound_words.specs.Rests.{is_enough, stand_from, Way, ByFlags, ByRule, matches_from, holds, AreRest, Leads, Follows, count_of, IsRight, HasPart, IsRow, IsMade, IsAdded, IsAddedOnce, Known, New, Grows, HasFirsts, IsFrontOf, Piece, rests_at, may_precede, number_before, number_behind, number_at_end, number_with}
+use Rattle.compound_words.specs.Rests.{is_enough, stand_from, Way, ByFlags, ByRule, matches_from}
+use Rattle.compound_words.specs.Rests.{holds, AreRest, Leads, Follows, count_of, IsRight, HasPart}
+use Rattle.compound_words.specs.Rests.{IsRow, IsMade, IsAdded, IsAddedOnce, Known, New, Grows}
+use Rattle.compound_words.specs.Rests.{HasFirsts, IsFrontOf, Piece, rests_at, may_precede}
+use Rattle.compound_words.specs.Rests.{number_before, number_behind, number_at_end, number_with}
 use Rattle.compound_words.specs.Pieces.{AreParts, EndsBefore, IsGivenAs, is_cut_by, may_begin}
 use Rattle.compound_words.proofs.PieceLemmas.{joined-begins}
 use Rattle.compound_words.proofs.CountLemmas.{fewest-same, fewest-list}
-use Rattle.compound_words.proofs.RestLemmas.{IsBefore, given-some, count-within, none-written, behind-first, rest-tail, rest-joint, rest-cons}
+use Rattle.compound_words.proofs.RestLemmas.{IsBefore, given-some, count-within, none-written}
+use Rattle.compound_words.proofs.RestLemmas.{behind-first, rest-tail, rest-joint, rest-cons}
 use Rattle.compound_words.proofs.LeadLemmas.{number-right}
 
 -- ---- one of a list
@@ -36,10 +44,12 @@ pub one-right : {X : Type 0} (P : X → Type 0) (xs ys : List X) → OneOf P ys 
 one-right P [] ys one = one
 one-right P (x ∷ xs) ys one = inr (one-right P xs ys one)
 
-pub one-at : {X : Type 0} (P : X → Type 0) (xs : List X) (place : ℕ) (d : X) → place < length xs → P (get_or xs place d) → OneOf P xs
+pub one-at : {X : Type 0} (P : X → Type 0) (xs : List X) (place : ℕ) (d : X) → place < length xs
+    → P (get_or xs place d) → OneOf P xs
 one-at P [] place d within holds = absurd (omega (arith, within))
 one-at P (x ∷ xs) zero d within holds = inl holds
-one-at P (x ∷ xs) (suc place) d within holds = inr (one-at P xs place d (omega (arith, within)) holds)
+one-at P (x ∷ xs) (suc place) d within holds =
+    inr (one-at P xs place d (omega (arith, within)) holds)
 
 pub one-cases : {X : Type 0} (P : X → Type 0) (xs ys : List X) → OneOf P (xs ++ ys)
     → OneOf P xs ⊎ OneOf P ys
@@ -72,7 +82,8 @@ grows-twice a rules here text before middle now one two =
     }
 
 -- a row once a part was looked at
-pub record IsGrown (a : Asked) (rules : List (List PatternStep)) (here : Place) (text : List ℕ) (part : Part) (before now : List FirstPart) : Type 0 where
+pub record IsGrown (a : Asked) (rules : List (List PatternStep)) (here : Place) (text : List ℕ)
+    (part : Part) (before now : List FirstPart) : Type 0 where
   pub grows : Grows a rules here text before now
   pub has : (more : List Part) (way : Way) → AreRest a text (part ∷ more)
       → holds a rules here way (part ∷ more) ≡ true → HasPart part now
@@ -121,9 +132,11 @@ added-grown law a rules here place text part behind before now is added =
             (subst (IsFewest (Leads a text (holds a rules here way) part)) (sym (has.numbers way))
             (number-right law a rules here place text part behind is way))
 
-pub once-grown : MatchesOneByOne → (a : Asked) (rules : List (List PatternStep)) (here place : Place)
+pub once-grown : MatchesOneByOne
+    → (a : Asked) (rules : List (List PatternStep)) (here place : Place)
     (text : List ℕ) (part : Part) (behind : Behind) (before now : List FirstPart)
-    → IsBefore a rules here place text part behind → IsAddedOnce a rules place part behind before now
+    → IsBefore a rules here place text part behind
+    → IsAddedOnce a rules place part behind before now
     → IsGrown a rules here text part before now
 once-grown law a rules here place text part behind before now is (Known has same) = record {
   grows = subst (Grows a rules here text before) (sym same) (grows-same a rules here text before);
@@ -133,7 +146,8 @@ once-grown law a rules here place text part behind before now is (New added) =
     added-grown law a rules here place text part behind before now is added
 
 -- ---- the parts that are left to look at
-pub record AreLeft (a : Asked) (rules : List (List PatternStep)) (here : Place) (text : List ℕ) (piece : Piece) (parts : List Part) (before row : List FirstPart) : Type 0 where
+pub record AreLeft (a : Asked) (rules : List (List PatternStep)) (here : Place) (text : List ℕ)
+    (piece : Piece) (parts : List Part) (before row : List FirstPart) : Type 0 where
   pub given : AllByRecursion (IsGivenAs a piece.before piece.front) parts
   pub grows : Grows a rules here text before row
   pub has : (part : Part) (more : List Part) (way : Way) → IsGivenAs a piece.before piece.front part
@@ -141,7 +155,8 @@ pub record AreLeft (a : Asked) (rules : List (List PatternStep)) (here : Place) 
       → AreRest a text (part ∷ more) → holds a rules here way (part ∷ more) ≡ true
       → OneOf (λ other. other ≡ part) parts ⊎ HasPart part row
 
-pub left-all : (a : Asked) (rules : List (List PatternStep)) (here : Place) (text : List ℕ) (piece : Piece) (parts : List Part) (row : List FirstPart)
+pub left-all : (a : Asked) (rules : List (List PatternStep)) (here : Place) (text : List ℕ)
+    (piece : Piece) (parts : List Part) (row : List FirstPart)
     → AreParts a piece.before piece.front piece.following piece.rests parts
     → AreLeft a rules here text piece parts row row
 left-all a rules here text piece parts row are = record {
@@ -155,7 +170,8 @@ pub left-given : (a : Asked) (before front : List ℕ) (parts : List Part) (part
 left-given a before front parts part given = each-last (IsGivenAs a before front) parts part given
 
 -- one is looked at
-pub left-turn : (a : Asked) (rules : List (List PatternStep)) (here : Place) (text : List ℕ) (piece : Piece) (parts : List Part) (part : Part) (before middle now : List FirstPart)
+pub left-turn : (a : Asked) (rules : List (List PatternStep)) (here : Place) (text : List ℕ)
+    (piece : Piece) (parts : List Part) (part : Part) (before middle now : List FirstPart)
     → AreLeft a rules here text piece (parts ++ part ∷ []) before middle
     → IsGrown a rules here text part middle now → AreLeft a rules here text piece parts before now
 left-turn a rules here text piece parts part before middle now left grown = record {
@@ -187,7 +203,8 @@ left-turn a rules here text piece parts part before middle now left grown = reco
         either (inr (inr nil)) = absurd nil
 
 -- all were looked at
-pub left-none : (a : Asked) (rules : List (List PatternStep)) (here : Place) (text : List ℕ) (piece : Piece) (before now : List FirstPart)
+pub left-none : (a : Asked) (rules : List (List PatternStep)) (here : Place) (text : List ℕ)
+    (piece : Piece) (before now : List FirstPart)
     → AreLeft a rules here text piece [] before now → HasFirsts a rules here text piece now
 left-none a rules here text piece before now left = record {
   has =
@@ -298,11 +315,13 @@ never-cut part (row ∷ rows) = by row.replacement (never-cut part rows)
   where
     by : (put : Option (List ℕ)) → list_any (is_cut_by [] part) rows ≡ false
         → ((option_map_or (λ p. nat_lt (length p) 0 && ends_with nat_eq [] p) put false &&
-        ((length row.begin == part.off_begin) && starts_with nat_eq part.text row.begin)) || list_any (is_cut_by [] part) rows) ≡ false
+        ((length row.begin == part.off_begin) && starts_with nat_eq part.text row.begin))
+        || list_any (is_cut_by [] part) rows) ≡ false
     by None none = none
     by (Some put) none =
         ap (λ b. ((b && ends_with nat_eq [] put) &&
-        ((length row.begin == part.off_begin) && starts_with nat_eq part.text row.begin)) || list_any (is_cut_by [] part) rows) (below (length put)) ∙ none
+        ((length row.begin == part.off_begin) && starts_with nat_eq part.text row.begin))
+        || list_any (is_cut_by [] part) rows) (below (length put)) ∙ none
       where
         below : (n : ℕ) → nat_lt n 0 ≡ false
         below n = grind (arith, nat_tests)
@@ -381,7 +400,15 @@ inner-before a rules here piece part behind rests given first row some fits end 
   bound = λ more rest.
       let long = count-within a more rest.given.1 in
       let same = ap length (behind-first a text front part more given.writes rest) in
-      omega (arith, long, same, fits, length-append front text, given-some a part given.given, ap length given.writes);
+      omega (
+        arith,
+        long,
+        same,
+        fits,
+        length-append front text,
+        given-some a part given.given,
+        ap length given.writes,
+      );
 }
   where
     text : List ℕ
@@ -431,7 +458,8 @@ inner-before a rules here piece part behind rests given first row some fits end 
             from found = record {
               more = found.at.part ∷ found.holds.more;
               rest =
-                  rest-cons a text front part found.at.part found.holds.more given.given given.writes found.passed found.holds.rest;
+                  rest-cons a text front part found.at.part found.holds.more given.given
+                  given.writes found.passed found.holds.rest;
               so = found.holds.so;
               long = found.holds.long;
             }

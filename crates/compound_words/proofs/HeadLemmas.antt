@@ -1,5 +1,8 @@
 -- Rests that are enough to be looked at.
-use Rattle.std.proofs.Common.{◌≡◌, ◌∙◌, refl, sym, ap, subst, ℕ, zero, suc, ◌+◌, ◌<◌, Bool, true, false, true≢false, cond, ◌⊎◌, inl, inr, List, [], ◌∷◌, ◌++◌, length, map, filter, take, get_or, slice_get, Option, None, Some, arith, append-nil}
+use Rattle.std.proofs.Common.{◌≡◌, ◌∙◌, refl, sym, ap, subst, ℕ, zero, suc, ◌+◌, ◌<◌, Bool, true}
+use Rattle.std.proofs.Common.{false, true≢false, cond, ◌⊎◌, inl, inr, List, [], ◌∷◌, ◌++◌, length}
+use Rattle.std.proofs.Common.{map, filter, take, get_or, slice_get, Option, None, Some, arith}
+use Rattle.std.proofs.Common.{append-nil}
 use Rattle.std.specs.List.{list_any}
 use Rattle.std.specs.Borrow.{Bor}
 use Rattle.std.specs.Option.{option_map, option_to_list, is_some}
@@ -10,7 +13,8 @@ use Rattle.spell_types.specs.declared.parts.Part.{Part}
 use Rattle.spell_types.specs.Compounds.{Asked, are_joined}
 use Rattle.compound_words.specs.declared.rests.FirstPart.{FirstPart}
 use Rattle.compound_words.specs.Counting.{least, fewest, number_at, OneOf}
-use Rattle.compound_words.specs.Rests.{Way, ByFlags, ByRule, count_of, numbers_at, may_precede, picked, number_before, Covers}
+use Rattle.compound_words.specs.Rests.{Way, ByFlags, ByRule, count_of, numbers_at, may_precede}
+use Rattle.compound_words.specs.Rests.{picked, number_before, Covers}
 use Rattle.compound_words.proofs.CountLemmas.{least-none, least-assoc}
 use Rattle.compound_words.proofs.StepLemmas.{or-false}
 use Rattle.compound_words.proofs.AddLemmas.{one-left, one-right}
@@ -154,7 +158,8 @@ covers-from rest other same flags none = record { same = same; less = less }
         → list_any (list_any is_some) numbers ≡ false → numbers_at numbers rule step ≡ None
     no-numbers [] rule step none = refl
     no-numbers (own ∷ numbers) zero step none =
-        no-number own step (or-false (list_any is_some own) (list_any (list_any is_some) numbers) none).0
+        no-number own step
+        (or-false (list_any is_some own) (list_any (list_any is_some) numbers) none).0
     no-numbers (own ∷ numbers) (suc rule) step none =
         no-numbers numbers rule step
         (or-false (list_any is_some own) (list_any (list_any is_some) numbers) none).1

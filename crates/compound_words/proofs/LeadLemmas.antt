@@ -1,5 +1,8 @@
 -- How few parts there are of which one is the first.
-use Rattle.std.proofs.Common.{◌≡◌, ◌∙◌, refl, sym, ap, subst, ℕ, zero, suc, ◌+◌, ◌-◌, ◌^◌, ◌≤◌, Bool, true, false, true≢false, cond, ◌&&◌, ◌||◌, ◌⊎◌, inl, inr, List, [], ◌∷◌, length, drop, slice_get, Option, None, Some, option_and_then, arith}
+use Rattle.std.proofs.Common.{◌≡◌, ◌∙◌, refl, sym, ap, subst, ℕ, zero, suc, ◌+◌, ◌-◌, ◌^◌, ◌≤◌}
+use Rattle.std.proofs.Common.{Bool, true, false, true≢false, cond, ◌&&◌, ◌||◌, ◌⊎◌, inl, inr, List}
+use Rattle.std.proofs.Common.{[], ◌∷◌, length, drop, slice_get, Option, None, Some, option_and_then}
+use Rattle.std.proofs.Common.{arith}
 use Rattle.std.specs.Option.{option_map_or}
 use Rattle.std.proofs.lemmas.Bool.{and_parts}
 use Rattle.std.proofs.lemmas.Bool.Decides.{nat_tests}
@@ -11,10 +14,13 @@ use Rattle.spell_types.specs.declared.patterns.PatternStep.{PatternStep}
 use Rattle.spell_types.specs.Compounds.{Asked, flags_of}
 use Rattle.spell_types.specs.EntriesOf.{entry_flags}
 use Rattle.spell_types.specs.Parts.{stands_at, stands_in_rule}
-use Rattle.spell_types.specs.Patterns.{matches, fits_step, is_left_out, is_many, steps_after, MatchesOneByOne}
+use Rattle.spell_types.specs.Patterns.{matches, fits_step, is_left_out, is_many, steps_after}
+use Rattle.spell_types.specs.Patterns.{MatchesOneByOne}
 use Rattle.compound_words.specs.declared.rests.Behind.{Behind}
 use Rattle.compound_words.specs.Counting.{least, one_more, IsFewest}
-use Rattle.compound_words.specs.Rests.{stand_from, Way, ByFlags, ByRule, matches_from, holds, AreRest, Leads, Follows, number_behind, number_by_steps, number_with}
+use Rattle.compound_words.specs.Rests.{stand_from, Way, ByFlags, ByRule, matches_from, holds}
+use Rattle.compound_words.specs.Rests.{AreRest, Leads, Follows, number_behind, number_by_steps}
+use Rattle.compound_words.specs.Rests.{number_with}
 use Rattle.compound_words.proofs.CountLemmas.{fewest-same, fewest-either}
 use Rattle.compound_words.proofs.RestLemmas.{IsBefore, one-more}
 
@@ -135,7 +141,8 @@ by-steps law a rules here place text part behind before stands rule pattern foun
     (and_parts (stand_from (stands_in_rule a.lexicon) here (part ∷ l.more))
     (matches [] (flags_of a (part ∷ l.more))) l.so).1
     ∙ matches-nothing (entry_flags a.lexicon part.d) (flags_of a l.more))
-by-steps law a rules here place text part behind before stands rule pattern found (s ∷ more) step at =
+by-steps law a rules here place text part behind before stands rule pattern found (s ∷ more) step
+    at =
     fewest-same (λ n.
     ((left ≡ true) × Leads a text
     (in_steps a here more) part n) ⊎ Leads a text second part n) (Leads a text (in_steps a here

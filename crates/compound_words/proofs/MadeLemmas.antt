@@ -1,5 +1,8 @@
 -- Words that parts make up.
-use Rattle.std.proofs.Common.{◌≡◌, ◌∙◌, ◌↔◌, refl, sym, ap, subst, ℕ, zero, suc, ◌≤◌, nat_le, nat_lt, Bool, true, false, true≢false, ◌&&◌, ◌==◌, ◌||◌, ◌⊎◌, inl, inr, List, [], ◌∷◌, length, drop, slice_get, Option, None, Some, option_and_then, IsTrue, arith}
+use Rattle.std.proofs.Common.{◌≡◌, ◌∙◌, ◌↔◌, refl, sym, ap, subst, ℕ, zero, suc, ◌≤◌, nat_le}
+use Rattle.std.proofs.Common.{nat_lt, Bool, true, false, true≢false, ◌&&◌, ◌==◌, ◌||◌, ◌⊎◌, inl}
+use Rattle.std.proofs.Common.{inr, List, [], ◌∷◌, length, drop, slice_get, Option, None, Some}
+use Rattle.std.proofs.Common.{option_and_then, IsTrue, arith}
 use Rattle.std.specs.List.{AllByRecursion, list_any}
 use Rattle.std.specs.Option.{option_map_or}
 use Rattle.std.proofs.lemmas.Bool.{and_parts, and_from, or_right, or_left, or_cases}
@@ -9,7 +12,9 @@ use Rattle.spell_types.specs.declared.parts.Part.{Part}
 use Rattle.spell_types.specs.declared.parts.Place.TheVariants.{First}
 use Rattle.spell_types.specs.declared.patterns.PatternStep.{PatternStep}
 use Rattle.spell_types.specs.Cases.{is_same_word}
-use Rattle.spell_types.specs.Compounds.{Asked, IsGiven, IsMadeUp, begin_well, written, all_stand, stand_by_flags, flags_of, follows_rule, do_meet, end_well, are_few, make_up, is_made_up}
+use Rattle.spell_types.specs.Compounds.{Asked, IsGiven, IsMadeUp, begin_well, written, all_stand}
+use Rattle.spell_types.specs.Compounds.{stand_by_flags, flags_of, follows_rule, do_meet, end_well}
+use Rattle.spell_types.specs.Compounds.{are_few, make_up, is_made_up}
 use Rattle.spell_types.specs.Parts.{stands_at, stands_in_rule}
 use Rattle.spell_types.specs.Patterns.{matches}
 use Rattle.std.specs.Cmp.{both_ways}
@@ -17,7 +22,9 @@ use Rattle.spell_types.specs.JointLaws.{nat-same}
 use Rattle.lists.specs.Laws.{any-at}
 use Rattle.compound_words.specs.declared.rests.FirstPart.{FirstPart}
 use Rattle.compound_words.specs.Counting.{number_at, IsFewest}
-use Rattle.compound_words.specs.Rests.{Way, ByFlags, ByRule, is_enough, stand_from, matches_from, holds, numbers_at, AreRest, Leads, count_of, IsRight, HasPart, HasInner, AreRulesOf, is_few, has_few}
+use Rattle.compound_words.specs.Rests.{Way, ByFlags, ByRule, is_enough, stand_from, matches_from}
+use Rattle.compound_words.specs.Rests.{holds, numbers_at, AreRest, Leads, count_of, IsRight}
+use Rattle.compound_words.specs.Rests.{HasPart, HasInner, AreRulesOf, is_few, has_few}
 use Rattle.compound_words.specs.Pieces.{is_cut_by}
 use Rattle.compound_words.proofs.AddLemmas.{enough}
 
@@ -40,7 +47,8 @@ one-at test (x ∷ xs) any = by (or_cases (test x) (list_any test xs) any) (one-
         { place = suc found.place; item = found.item; at = found.at; passes = found.passes }
 
 -- a rest that is right, and of which something holds
-record IsFound (a : Asked) (rules : List (List PatternStep)) (word : List ℕ) (holds_of : FirstPart → Type 0) : Type 0 where
+record IsFound (a : Asked) (rules : List (List PatternStep)) (word : List ℕ)
+    (holds_of : FirstPart → Type 0) : Type 0 where
   rest : FirstPart
   right : IsRight a rules First word rest
   so : holds_of rest
@@ -59,7 +67,8 @@ found-any a rules word test (rest ∷ row) right any =
     by (inr any) later = later any
 
 -- a rest with the part, that is in the row
-record IsIn (a : Asked) (rules : List (List PatternStep)) (word : List ℕ) (part : Part) (row : List FirstPart) : Type 0 where
+record IsIn (a : Asked) (rules : List (List PatternStep)) (word : List ℕ) (part : Part)
+    (row : List FirstPart) : Type 0 where
   rest : FirstPart
   right : IsRight a rules First word rest
   first : rest.part ≡ part
@@ -79,7 +88,12 @@ found-part a rules word part (rest ∷ row) right (inl first) =
     }
 found-part a rules word part (rest ∷ row) right (inr has) =
     let found = found-part a rules word part row right.1 has in
-    record { rest = found.rest; right = found.right; first = found.first; any = λ test passes. or_right (test rest) (list_any test row) (found.any test passes) }
+    record {
+      rest = found.rest;
+      right = found.right;
+      first = found.first;
+      any = λ test passes. or_right (test rest) (list_any test row) (found.any test passes);
+    }
 
 -- ---- few enough
 few-less : (a : Asked) (less more : ℕ) → less ≤ more → are_few a more ≡ true → are_few a less ≡ true
@@ -161,7 +175,8 @@ way-few a rest (ByRule rule step) number starts at few =
         (ap (is_few a) is ∙ few)
 
 -- ---- the ways of whole words
--- parts that stand in a way from the first step of a rule on stand by flags, or follow one of the rules
+-- parts that stand in a way from the first step of a rule on stand by flags, or follow one of the
+-- rules
 way-stands : (a : Asked) (rules : List (List PatternStep)) (way : Way) (parts : List Part)
     → Starts way → holds a rules First way parts ≡ true
     → (stand_by_flags a First parts || list_any (follows_rule a First parts) rules) ≡ true
@@ -329,7 +344,8 @@ few-found a rules word row are right inner made = by made.parts made.given made.
             (or_left (part.off_begin == 0)
             (list_any (is_cut_by [] part) a.lexicon.affixes.joints) front) rest stands.so) in
             found.any (has_few a)
-            (rest-few part next more stands.way found.rest stands.starts rest stands.so few found.first (count_of found.rest stands.way) refl
+            (rest-few part next more stands.way found.rest stands.starts rest stands.so few
+            found.first (count_of found.rest stands.way) refl
             (subst (λ p. IsFewest (Leads a word (holds a rules First stands.way) p)
             (count_of found.rest stands.way)) found.first (found.right stands.way)))
 

@@ -1,10 +1,13 @@
 -- Numbers of rests.
-use Rattle.std.proofs.Common.{◌≡◌, refl, sym, ℕ, zero, suc, true, false, List, [], ◌∷◌, drop, slice_get, Option, None, Some, is_none, is_some, option_and_then, true≢false}
+use Rattle.std.proofs.Common.{◌≡◌, refl, sym, ℕ, zero, suc, true, false, List, [], ◌∷◌, drop}
+use Rattle.std.proofs.Common.{slice_get, Option, None, Some, is_none, is_some, option_and_then}
+use Rattle.std.proofs.Common.{true≢false}
 use Rattle.std.specs.List.{list_any}
 use Rattle.spell_types.specs.declared.patterns.PatternStep.{PatternStep}
 use Rattle.spell_types.specs.Patterns.{fits_step}
 use Rattle.compound_words.specs.Counting.{number_at}
-use Rattle.compound_words.specs.Rests.{numbers_at, number_by_rule, number_by_steps, number_behind, ByRule}
+use Rattle.compound_words.specs.Rests.{numbers_at, number_by_rule, number_by_steps, number_behind}
+use Rattle.compound_words.specs.Rests.{ByRule}
 use Rattle.compound_words.specs.declared.rests.Behind.{Behind}
 use Rattle.compound_words.proofs.StepLemmas.{no-step-from, or-false}
 

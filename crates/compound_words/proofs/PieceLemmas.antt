@@ -1,8 +1,14 @@
 -- The parts that write a piece of a word.
-use Rattle.std.proofs.Common.{◌≡◌, ◌∙◌, ◌↔◌, refl, sym, ap, subst, ℕ, zero, suc, ◌+◌, ◌-◌, ◌==◌, ◌<◌, ◌≤◌, Bool, true, false, cond, ◌&&◌, ◌||◌, ◌⊎◌, inl, inr, List, [], ◌∷◌, ◌++◌, length, map, filter, take, drop, get_or, not, nat_eq, nat_lt, Contains, Any, Option, None, Some, append-nil, append_assoc, length-append, length-drop, length-take, not-suc-le-zero, le_of_suc-le-suc, if◌then◌else◌, true≢false, arith}
+use Rattle.std.proofs.Common.{◌≡◌, ◌∙◌, ◌↔◌, refl, sym, ap, subst, ℕ, zero, suc, ◌+◌, ◌-◌, ◌==◌}
+use Rattle.std.proofs.Common.{◌<◌, ◌≤◌, Bool, true, false, cond, ◌&&◌, ◌||◌, ◌⊎◌, inl, inr, List}
+use Rattle.std.proofs.Common.{[], ◌∷◌, ◌++◌, length, map, filter, take, drop, get_or, not, nat_eq}
+use Rattle.std.proofs.Common.{nat_lt, Contains, Any, Option, None, Some, append-nil, append_assoc}
+use Rattle.std.proofs.Common.{length-append, length-drop, length-take, not-suc-le-zero}
+use Rattle.std.proofs.Common.{le_of_suc-le-suc, if◌then◌else◌, true≢false, arith}
 use Rattle.std.specs.List.{AllByRecursion, flat_map, list_any, starts_with, ends_with}
 use Rattle.std.specs.Option.{option_map_or}
-use Rattle.std.proofs.lemmas.Bool.{and_parts, and_from, or_cases, or_left, or_right, lt-ltb, ltb-true}
+use Rattle.std.proofs.lemmas.Bool.{and_parts, and_from, or_cases, or_left, or_right, lt-ltb}
+use Rattle.std.proofs.lemmas.Bool.{ltb-true}
 use Rattle.std.proofs.lemmas.Bool.Decides.{Decides-eqb, nat_tests}
 use Rattle.std.proofs.lemmas.List.{take_all, take_more, take-append-drop, take-append-le}
 use Rattle.std.proofs.lemmas.List.Elements.{Contains-append_left, Contains-append_right}
@@ -10,7 +16,9 @@ use Rattle.std.proofs.lemmas.List.Folds.{Any-from_list_any}
 use Rattle.std.proofs.lemmas.Slice.Eq.{bytes_eq-Decides, starts_is, ends_is}
 use Rattle.spell_types.specs.Cases.{is_among, is_same_word}
 use Rattle.std.proofs.Math.Seq.{drop-append_seam, take-append_seam}
-use Rattle.lists.specs.Laws.{any-contains, contains-filter, contains-flat_map, contains-head, contains-map, contains-tail, each-append, each-flat_map, each-weaker, take-joined}
+use Rattle.lists.specs.Laws.{any-contains, contains-filter, contains-flat_map, contains-head}
+use Rattle.lists.specs.Laws.{contains-map, contains-tail, each-append, each-flat_map, each-weaker}
+use Rattle.lists.specs.Laws.{take-joined}
 use Rattle.affix_strip.specs.Found.{derivations_of}
 use Rattle.spell_types.specs.declared.Lexicon.{Lexicon}
 use Rattle.spell_types.specs.declared.derivations.Derivation.{Derivation}
@@ -18,16 +26,25 @@ use Rattle.spell_types.specs.declared.joints.JointPattern.{JointPattern}
 use Rattle.spell_types.specs.declared.joints.WrittenJoint.{WrittenJoint}
 use Rattle.spell_types.specs.declared.parts.Part.{Part}
 use Rattle.spell_types.specs.CompoundLaws.{given-keeps, joined-written}
-use Rattle.spell_types.specs.Compounds.{Asked, AreJoined, IsGiven, are_joined, do_meet, is_right_in_case, kept, keeps_some, may_be_part, may_end, part_with, stretch, written}
+use Rattle.spell_types.specs.Compounds.{Asked, AreJoined, IsGiven, are_joined, do_meet}
+use Rattle.spell_types.specs.Compounds.{is_right_in_case, kept, keeps_some, may_be_part, may_end}
+use Rattle.spell_types.specs.Compounds.{part_with, stretch, written}
 use Rattle.spell_types.specs.Derivations.{Named, named, form_of}
 use Rattle.spell_types.specs.EntriesOf.{is_entry_word}
 use Rattle.spell_types.specs.JointLaws.{nat-own, nat-same, same-joint}
-use Rattle.spell_types.specs.Joints.{IsWrittenJoint, Plain, Simplified, Replaced, ends_as, fits_joint, has_entry_as_given, has_fitting, is_case, is_dup, is_joint_of, is_same_joint, is_simplified, is_triple, is_tripled, plain_joint, replaced_joint, simplified_joint}
-use Rattle.spell_types.specs.Licences.{holds_of, is_allowed, meets_signs, meets_need, meets_circumfix, is_sound, is_licensed}
+use Rattle.spell_types.specs.Joints.{IsWrittenJoint, Plain, Simplified, Replaced, ends_as}
+use Rattle.spell_types.specs.Joints.{fits_joint, has_entry_as_given, has_fitting, is_case, is_dup}
+use Rattle.spell_types.specs.Joints.{is_joint_of, is_same_joint, is_simplified, is_triple}
+use Rattle.spell_types.specs.Joints.{is_tripled, plain_joint, replaced_joint, simplified_joint}
+use Rattle.spell_types.specs.Licences.{holds_of, is_allowed, meets_signs, meets_need}
+use Rattle.spell_types.specs.Licences.{meets_circumfix, is_sound, is_licensed}
 use Rattle.spell_types.specs.Parts.{is_long_enough}
 use Rattle.compound_words.specs.declared.rests.FirstPart.{FirstPart}
 use Rattle.compound_words.specs.Counting.{OneOf}
-use Rattle.compound_words.specs.Pieces.{AreFronts, AreParts, EndsBefore, Whole, Short, Cut, IsGivenAs, cuts, end_of, has_put, is_cut_by, may_begin, parts_kept, parts_of, parts_put, parts_replaced, parts_short, parts_with, with_front}
+use Rattle.compound_words.specs.Pieces.{AreFronts, AreParts, EndsBefore, Whole, Short, Cut}
+use Rattle.compound_words.specs.Pieces.{IsGivenAs, cuts, end_of, has_put, is_cut_by, may_begin}
+use Rattle.compound_words.specs.Pieces.{parts_kept, parts_of, parts_put, parts_replaced}
+use Rattle.compound_words.specs.Pieces.{parts_short, parts_with, with_front}
 use Rattle.compound_words.specs.Rests.{AreRest, HasPart}
 
 sound-licensed : (lexicon : Lexicon) (d : Derivation) → is_sound lexicon d ≡ true
@@ -40,7 +57,8 @@ sound-licensed lexicon d sound = by (named lexicon d) sound
     by None holds = holds
     by (Some n) holds =
         (and_parts (is_allowed n)
-        (meets_need lexicon.affixes.signs.need_affix n && meets_circumfix lexicon.affixes.signs.circumfix n) holds).0
+        (meets_need lexicon.affixes.signs.need_affix n
+        && meets_circumfix lexicon.affixes.signs.circumfix n) holds).0
 
 -- the derivations of a text are the licensed ones with this form
 abbrev Members : Asked → Type 0
@@ -137,7 +155,8 @@ text-split part end off ends keeps =
 
 -- ---- each that is found writes the piece
 -- a part of the dictionary with this text, of which joints take so much off
-record HasShape (a : Asked) (off : ℕ) (joint : WrittenJoint) (text : List ℕ) (part : Part) : Type 0 where
+record HasShape (a : Asked) (off : ℕ) (joint : WrittenJoint) (text : List ℕ) (part : Part) : Type
+    0 where
   given : IsGiven a part
   same : part ≡ part_with off joint part.d text
 
@@ -172,7 +191,9 @@ module _ (a : Asked) (off : ℕ) (joint : WrittenJoint) (text : List ℕ) where
   with-shapes members =
       shapes-from (derivations_of a.lexicon text) (λ d inside. ((members text d).0 inside).1)
 
-module _ (a : Asked) (members : Members a) (before : List ℕ) (fronts : List (List ℕ)) (are : AreFronts a.lexicon before fronts) (own end : List ℕ) (joint : WrittenJoint) (off : joint.off_end ≡ length end) where
+module _ (a : Asked) (members : Members a) (before : List ℕ) (fronts : List (List ℕ))
+    (are : AreFronts a.lexicon before fronts) (own end : List ℕ) (joint : WrittenJoint)
+    (off : joint.off_end ≡ length end) where
   abbrev P : Part → Type 0
   P part = IsGivenAs a before (own ++ joint.put) part
 
@@ -217,7 +238,8 @@ end-long row put = by row.unmodified
     by true = refl
     by false = refl
 
-module _ (a : Asked) (members : Members a) (before : List ℕ) (fronts : List (List ℕ)) (are : AreFronts a.lexicon before fronts) (text : List ℕ) where
+module _ (a : Asked) (members : Members a) (before : List ℕ) (fronts : List (List ℕ))
+    (are : AreFronts a.lexicon before fronts) (text : List ℕ) where
   short-given : (following : List ℕ) → AllByRecursion (IsGivenAs a before text)
       (parts_short a fronts text following)
   unfolding parts_short
@@ -245,15 +267,18 @@ module _ (a : Asked) (members : Members a) (before : List ℕ) (fronts : List (L
       at put true ends =
           subst
           (λ t. AllByRecursion (IsGivenAs a before t)
-          (parts_kept a fronts (take (length text - length put) text) (end_of row) (replaced_joint row put)))
+          (parts_kept a fronts (take (length text - length put) text) (end_of row)
+          (replaced_joint row put)))
           (sym (ends-split text put ends))
-          (kept-given a members before fronts are (take (length text - length put) text) (end_of row)
+          (kept-given a members before fronts are (take (length text - length put) text)
+          (end_of row)
           (replaced_joint row put) (end-long row put))
 
       by : (replacement : Option (List ℕ))
           → AllByRecursion (IsGivenAs a before text)
           (option_map_or (λ put. if ends_with nat_eq text put
-          then parts_kept a fronts (take (length text - length put) text) (end_of row) (replaced_joint row put)
+          then parts_kept a fronts (take (length text - length put) text) (end_of row)
+          (replaced_joint row put)
           else []) replacement [])
       by None = tt
       by (Some put) = at put (ends_with nat_eq text put) refl
@@ -263,7 +288,8 @@ module _ (a : Asked) (members : Members a) (before : List ℕ) (fronts : List (L
   replaced-given rests row = by (list_any (cuts row) rests)
     where
       by : (cut : Bool)
-          → AllByRecursion (IsGivenAs a before text) (if cut then parts_put a fronts text row else [])
+          → AllByRecursion (IsGivenAs a before text)
+          (if cut then parts_put a fronts text row else [])
       by true = put-given row
       by false = tt
 
@@ -298,15 +324,19 @@ too-short a off joint text short = none (derivations_of a.lexicon text)
         ap (λ b. cond
         (b && (is_sound a.lexicon d &&
         (is_right_in_case a d && keeps_some
-        (part_with off joint d text)))) (part_with off joint d text ∷ shaped a off joint text ds) (shaped a off joint text ds)) short
+        (part_with off joint d text)))) (part_with off joint d text ∷ shaped a off joint text ds)
+        (shaped a off joint text ds)) short
         ∙ none ds
 
 -- ---- none is longer than all forms
-module _ (a : Asked) (members : Members a) (count : ℕ) (short : (d : Derivation) (text : List ℕ) → form_of a.lexicon d ≡ Some text → length text < count) where
+module _ (a : Asked) (members : Members a) (count : ℕ)
+    (short : (d : Derivation) (text : List ℕ) → form_of a.lexicon d ≡ Some text
+    → length text < count) where
   none-derived : (text : List ℕ) → count ≤ length text → derivations_of a.lexicon text ≡ []
   none-derived text long = by (derivations_of a.lexicon text) refl
     where
-      by : (ds : List Derivation) → derivations_of a.lexicon text ≡ ds → derivations_of a.lexicon text ≡ []
+      by : (ds : List Derivation) → derivations_of a.lexicon text ≡ ds
+          → derivations_of a.lexicon text ≡ []
       by [] is = is
       by (d ∷ ds) is =
           let inside = subst (λ found. Contains found d) (sym is) (contains-head d ds) in
@@ -322,7 +352,8 @@ module _ (a : Asked) (members : Members a) (count : ℕ) (short : (d : Derivatio
       → flat_map (λ front. parts_with a (length front) joint (front ++ (own ++ end))) fronts ≡ []
   none-cut own end joint long [] = refl
   none-cut own end joint long (front ∷ fronts) =
-      ap (λ parts. parts ++ flat_map (λ f. parts_with a (length f) joint (f ++ (own ++ end))) fronts)
+      ap (λ parts. parts ++ flat_map (λ f. parts_with a (length f) joint (f ++ (own ++ end)))
+      fronts)
       (none-with (length front) joint (front ++ (own ++ end))
       (omega (arith, long, length-append front (own ++ end))))
       ∙ none-cut own end joint long fronts
@@ -384,7 +415,9 @@ kept-among a members before fronts are end part given off ends begins =
         (subst (λ n. Contains (parts_with a n part.joint part.text) part) long
         (with-among a members part given)))
 
-module _ (a : Asked) (members : Members a) (before : List ℕ) (fronts : List (List ℕ)) (are : AreFronts a.lexicon before fronts) (text following : List ℕ) (rests : List FirstPart) where
+module _ (a : Asked) (members : Members a) (before : List ℕ) (fronts : List (List ℕ))
+    (are : AreFronts a.lexicon before fronts) (text following : List ℕ)
+    (rests : List FirstPart) where
   abbrev by_rows : List Part
   by_rows = flat_map (parts_replaced a fronts text rests) a.lexicon.affixes.joints
 
@@ -396,10 +429,12 @@ module _ (a : Asked) (members : Members a) (before : List ℕ) (fronts : List (L
   put-among row put part is some same ends =
       subst
       (λ found. Contains (option_map_or (λ p. if ends_with nat_eq text p
-      then parts_kept a fronts (take (length text - length p) text) (end_of row) (replaced_joint row p)
+      then parts_kept a fronts (take (length text - length p) text) (end_of row)
+      (replaced_joint row p)
       else []) found []) part) (sym some)
       (subst
-      (λ b. Contains (cond b (parts_kept a fronts own (end_of row) (replaced_joint row put)) []) part)
+      (λ b. Contains (cond b (parts_kept a fronts own (end_of row) (replaced_joint row put)) [])
+      part)
       (sym (ends-from text (kept part) put writes))
       (subst (λ joint. Contains (parts_kept a fronts own (end_of row) joint) part) same
       (subst (λ o. Contains (parts_kept a fronts o (end_of row) part.joint) part)
@@ -414,11 +449,13 @@ module _ (a : Asked) (members : Members a) (before : List ℕ) (fronts : List (L
       writes = sym is.writes ∙ ap (λ joint. kept part ++ joint.put) same
 
   -- what a part keeps is all that it writes
-  writes-kept : (part : Part) → IsGivenAs a before text part → part.joint.put ≡ [] → kept part ≡ text
+  writes-kept : (part : Part) → IsGivenAs a before text part → part.joint.put ≡ []
+      → kept part ≡ text
   writes-kept part is none =
       sym (append-nil (kept part)) ∙ ap (λ put. kept part ++ put) (sym none) ∙ is.writes
 
-  all-among : (part : Part) → IsGivenAs a before text part → EndsBefore a.lexicon following rests part
+  all-among : (part : Part) → IsGivenAs a before text part
+      → EndsBefore a.lexicon following rests part
       → Contains (parts_of a fronts text following rests) part
   unfolding parts_of parts_short
   all-among part is (Whole same) =
@@ -445,7 +482,8 @@ module _ (a : Asked) (members : Members a) (before : List ℕ) (fronts : List (L
       Contains-append_right (parts_kept a fronts text [] plain_joint)
       (parts_short a fronts text following ++ by_rows) part
       (Contains-append_right (parts_short a fronts text following) by_rows part
-      (contains-flat_map (parts_replaced a fronts text rests) a.lexicon.affixes.joints row part among
+      (contains-flat_map (parts_replaced a fronts text rests) a.lexicon.affixes.joints row part
+      among
       (subst (λ b. Contains (cond b (parts_put a fronts text row) []) part) (sym cut)
       (put-among row put part is some same ends))))
 
@@ -460,14 +498,18 @@ parts-are a before fronts text following rests are members = record {
 
 -- ---- the fronts of a place
 -- what the rows so far may have taken off the front of a part, and nothing
-pub record AreFrontsSoFar (before : List ℕ) (rows : List JointPattern) (index : ℕ) (fronts : List (List ℕ)) : Type 0 where
+pub record AreFrontsSoFar (before : List ℕ) (rows : List JointPattern) (index : ℕ)
+    (fronts : List (List ℕ)) : Type 0 where
   pub right : (front : List ℕ) → Contains fronts front
-      → (front ≡ []) ⊎ ((row : JointPattern) × (Contains rows row × ((has_put before row ≡ true) × (row.begin ≡ front))))
+      → (front ≡ [])
+      ⊎ ((row : JointPattern)
+      × (Contains rows row × ((has_put before row ≡ true) × (row.begin ≡ front))))
   pub nothing : Contains fronts []
   pub all : (row : JointPattern) → Contains (take index rows) row → has_put before row ≡ true
       → Contains fronts row.begin
 
-front-among : (text : List ℕ) (fronts : List (List ℕ)) → is_among fronts text ≡ true → Contains fronts text
+front-among : (text : List ℕ) (fronts : List (List ℕ)) → is_among fronts text ≡ true
+    → Contains fronts text
 front-among text [] is = absurd (true≢false (sym is))
 front-among text (front ∷ fronts) is =
     by (or_cases (is_same_word front text) (is_among fronts text) is) (front-among text fronts)
@@ -500,14 +542,16 @@ fronts-none before rows fronts same = record {
     only front (suc k, within, at) = absurd (not-suc-le-zero (le_of_suc-le-suc within))
 
 -- one row more
-module _ (before : List ℕ) (rows : List JointPattern) (index : ℕ) (row : JointPattern) (within : index < length rows) (is : row ≡ get_or rows index row) where
+module _ (before : List ℕ) (rows : List JointPattern) (index : ℕ) (row : JointPattern)
+    (within : index < length rows) (is : row ≡ get_or rows index row) where
   one-more-row : (other : JointPattern) → Contains (take (index + 1) rows) other
       → Contains (take index rows) other ⊎ (row ≡ other)
   one-more-row other among =
       last (take index rows) (subst (λ r. Contains r other)
       (take_more rows index row within ∙ ap (λ r. take index rows ++ r ∷ []) (sym is)) among)
     where
-      last : (xs : List JointPattern) → Contains (xs ++ row ∷ []) other → Contains xs other ⊎ (row ≡ other)
+      last : (xs : List JointPattern) → Contains (xs ++ row ∷ []) other → Contains xs other
+          ⊎ (row ≡ other)
       last [] (zero, inside, at) = inr at
       last [] (suc k, inside, at) = absurd (not-suc-le-zero (le_of_suc-le-suc inside))
       last (x ∷ xs) (zero, inside, at) = inl (subst (Contains (x ∷ xs)) at (contains-head x xs))
@@ -554,10 +598,13 @@ module _ (before : List ℕ) (rows : List JointPattern) (index : ℕ) (row : Joi
           → Contains xs front ⊎ (row.begin ≡ front)
       parted [] front (zero, inside, at) = inr at
       parted [] front (suc k, inside, at) = absurd (not-suc-le-zero (le_of_suc-le-suc inside))
-      parted (x ∷ xs) front (zero, inside, at) = inl (subst (Contains (x ∷ xs)) at (contains-head x xs))
-      parted (x ∷ xs) front (suc k, inside, at) = later (parted xs front (k, le_of_suc-le-suc inside, at))
+      parted (x ∷ xs) front (zero, inside, at) =
+          inl (subst (Contains (x ∷ xs)) at (contains-head x xs))
+      parted (x ∷ xs) front (suc k, inside, at) =
+          later (parted xs front (k, le_of_suc-le-suc inside, at))
         where
-          later : Contains xs front ⊎ (row.begin ≡ front) → Contains (x ∷ xs) front ⊎ (row.begin ≡ front)
+          later : Contains xs front ⊎ (row.begin ≡ front) → Contains (x ∷ xs) front
+              ⊎ (row.begin ≡ front)
           later (inl among) = inl (contains-tail x front xs among)
           later (inr same) = inr same
 
@@ -565,13 +612,17 @@ module _ (before : List ℕ) (rows : List JointPattern) (index : ℕ) (row : Joi
       among-rows = (index, within, sym is)
 
       right : (front : List ℕ) → Contains fronts front ⊎ (row.begin ≡ front)
-          → (front ≡ []) ⊎ ((r : JointPattern) × (Contains rows r × ((has_put before r ≡ true) × (r.begin ≡ front))))
+          → (front ≡ [])
+          ⊎ ((r : JointPattern)
+          × (Contains rows r × ((has_put before r ≡ true) × (r.begin ≡ front))))
       right front (inl among) = so_far.right front among
       right front (inr same) = inr (row, (among-rows, (put, same)))
 
       by : (other : JointPattern) → has_put before other ≡ true
-          → Contains (take index rows) other ⊎ (row ≡ other) → Contains (fronts ++ row.begin ∷ []) other.begin
-      by other has (inl among) = Contains-append_left fronts (row.begin ∷ []) other.begin (so_far.all other among has)
+          → Contains (take index rows) other ⊎ (row ≡ other)
+          → Contains (fronts ++ row.begin ∷ []) other.begin
+      by other has (inl among) =
+          Contains-append_left fronts (row.begin ∷ []) other.begin (so_far.all other among has)
       by other has (inr same) =
           subst (λ r. Contains (fronts ++ row.begin ∷ []) r.begin) same
           (Contains-append_right fronts (row.begin ∷ []) row.begin (contains-head row.begin []))
@@ -581,16 +632,21 @@ module _ (before : List ℕ) (rows : List JointPattern) (index : ℕ) (row : Joi
   fronts-turn fronts so_far = by (has_put before row && not (is_among fronts row.begin)) refl
     where
       by : (new : Bool) → (has_put before row && not (is_among fronts row.begin)) ≡ new
-          → AreFrontsSoFar before rows (index + 1) (if new then fronts ++ row.begin ∷ [] else fronts)
-      by true is = fronts-more fronts (and_parts (has_put before row) (not (is_among fronts row.begin)) is).0 so_far
+          → AreFrontsSoFar before rows (index + 1)
+          (if new then fronts ++ row.begin ∷ [] else fronts)
+      by true is =
+          fronts-more fronts (and_parts (has_put before row) (not (is_among fronts row.begin)) is).0
+          so_far
       by false is = fronts-kept fronts is so_far
 
 pub fronts-whole : (lexicon : Lexicon) (before : List ℕ) (index : ℕ) (fronts : List (List ℕ))
-    → length lexicon.affixes.joints ≤ index → AreFrontsSoFar before lexicon.affixes.joints index fronts
+    → length lexicon.affixes.joints ≤ index
+    → AreFrontsSoFar before lexicon.affixes.joints index fronts
     → AreFronts lexicon before fronts
 fronts-whole lexicon before index fronts past so_far = record {
   right = λ front among part long starts. right front part long starts (so_far.right front among);
-  all = λ part begins. all part (or_cases (part.off_begin == 0) (list_any (is_cut_by before part) rows) begins);
+  all = λ part begins.
+      all part (or_cases (part.off_begin == 0) (list_any (is_cut_by before part) rows) begins);
 }
   where
     rows : List JointPattern
@@ -598,7 +654,9 @@ fronts-whole lexicon before index fronts past so_far = record {
 
     right : (front : List ℕ) (part : Part) → part.off_begin ≡ length front
         → starts_with nat_eq part.text front ≡ true
-        → (front ≡ []) ⊎ ((row : JointPattern) × (Contains rows row × ((has_put before row ≡ true) × (row.begin ≡ front))))
+        → (front ≡ [])
+        ⊎ ((row : JointPattern)
+        × (Contains rows row × ((has_put before row ≡ true) × (row.begin ≡ front))))
         → may_begin lexicon before part ≡ true
     right front part long starts (inl none) =
         or_left (part.off_begin == 0) (list_any (is_cut_by before part) rows)
@@ -624,10 +682,13 @@ fronts-whole lexicon before index fronts past so_far = record {
         ((length row.begin == part.off_begin) && starts_with nat_eq part.text row.begin) cut in
         let rest = and_parts (length row.begin == part.off_begin)
         (starts_with nat_eq part.text row.begin) halves.1 in
-        let long : part.off_begin ≡ length row.begin = sym (nat-same (length row.begin) part.off_begin rest.0) in (
+        let long : part.off_begin ≡ length row.begin =
+        sym (nat-same (length row.begin) part.off_begin rest.0) in (
           row.begin,
           (
-            so_far.all row (subst (λ those. Contains those row) (sym (take_all index rows past)) (k, within, at)) halves.0,
+            so_far.all row
+                (subst (λ those. Contains those row) (sym (take_all index rows past))
+                (k, within, at)) halves.0,
             (
               long,
               ap (λ n. take n part.text) long
@@ -637,7 +698,8 @@ fronts-whole lexicon before index fronts past so_far = record {
           ),
         )
 
-    all : (part : Part) → ((part.off_begin == 0) ≡ true) ⊎ (list_any (is_cut_by before part) rows ≡ true)
+    all : (part : Part) → ((part.off_begin == 0) ≡ true)
+        ⊎ (list_any (is_cut_by before part) rows ≡ true)
         → (front : List ℕ) × (Contains fronts front × ((part.off_begin ≡ length front)
         × (take part.off_begin part.text ≡ front)))
     all part (inl none) =
@@ -660,7 +722,8 @@ fits-sides lexicon x d y e row fits =
     let halves =
     and_parts (ends_as row lexicon x d)
     (starts_with nat_eq y row.begin &&
-    (has_entry_as_given row.end_flag lexicon d && has_entry_as_given row.begin_flag lexicon e)) fits in (
+    (has_entry_as_given row.end_flag lexicon d && has_entry_as_given row.begin_flag lexicon e))
+    fits in (
       by row.unmodified halves.0,
       (and_parts (starts_with nat_eq y row.begin)
           (has_entry_as_given row.end_flag lexicon d && has_entry_as_given row.begin_flag lexicon e)
@@ -785,7 +848,8 @@ cut-among : (row : JointPattern) (next : Part) (rests : List FirstPart) → HasP
 cut-among row next [] has long starts = absurd has
 cut-among row next (rest ∷ rests) (inl same) long starts =
     or_left (cuts row rest) (list_any (cuts row) rests)
-    (and_from (length row.begin == rest.part.off_begin) (starts_with nat_eq rest.part.text row.begin)
+    (and_from (length row.begin == rest.part.off_begin)
+    (starts_with nat_eq rest.part.text row.begin)
     (ap (λ p. length row.begin == p.off_begin) same ∙ long)
     (ap (λ p. starts_with nat_eq p.text row.begin) same ∙ starts))
 cut-among row next (rest ∷ rests) (inr has) long starts =

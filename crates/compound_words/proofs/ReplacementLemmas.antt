@@ -1,5 +1,7 @@
 -- Words that pairs make, and which of them stand alone.
-use Rattle.std.proofs.Common.{◌≡◌, ◌∙◌, refl, sym, ap, ap₂, ℕ, zero, suc, ◌+◌, ◌<◌, Bool, true, false, cond, ◌&&◌, ◌||◌, not, List, [], ◌∷◌, map, get_or, length, not-suc-le-zero, le_of_suc-le-suc}
+use Rattle.std.proofs.Common.{◌≡◌, ◌∙◌, refl, sym, ap, ap₂, ℕ, zero, suc, ◌+◌, ◌<◌, Bool, true}
+use Rattle.std.proofs.Common.{false, cond, ◌&&◌, ◌||◌, not, List, [], ◌∷◌, map, get_or, length}
+use Rattle.std.proofs.Common.{not-suc-le-zero, le_of_suc-le-suc}
 use Rattle.std.specs.List.{filter, flat_map, list_any, range_with_len}
 use Rattle.std.proofs.lemmas.List.Folds.{list_any_at, list_any-append}
 use Rattle.std.proofs.lemmas.Slice.Eq.{bytes_eq-Decides}

@@ -1,5 +1,7 @@
 -- Lists of parts that write the rest of a word, and how few parts they have.
-use Rattle.std.proofs.Common.{◌≡◌, ◌∙◌, refl, sym, ap, subst, ℕ, ◌+◌, ◌-◌, ◌^◌, ◌<◌, ◌≤◌, min, Bool, true, ◌&&◌, List, [], ◌∷◌, ◌++◌, length, Option, None, Some, arith, length-append}
+use Rattle.std.proofs.Common.{◌≡◌, ◌∙◌, refl, sym, ap, subst, ℕ, ◌+◌, ◌-◌, ◌^◌, ◌<◌, ◌≤◌, min, Bool}
+use Rattle.std.proofs.Common.{true, ◌&&◌, List, [], ◌∷◌, ◌++◌, length, Option, None, Some, arith}
+use Rattle.std.proofs.Common.{length-append}
 use Rattle.std.specs.List.{AllByRecursion}
 use Rattle.std.proofs.lemmas.Bool.{and_parts, and_from}
 use Rattle.std.proofs.lemmas.List.{append_cancel_left}
@@ -71,7 +73,8 @@ rest-cons a text front part next more given is joint rest = record {
 
 -- ---- what a part at its place adds
 -- what is known of a part and of what stands behind it
-pub record IsBefore (a : Asked) (rules : List (List PatternStep)) (here place : Place) (text : List ℕ) (part : Part) (behind : Behind) : Type 0 where
+pub record IsBefore (a : Asked) (rules : List (List PatternStep)) (here place : Place)
+    (text : List ℕ) (part : Part) (behind : Behind) : Type 0 where
   pub stands : (stands : Derivation → Place → Bool) (more : List Part)
       → AreRest a text (part ∷ more) → stand_from stands here (part ∷ more)
       ≡ (stands part.d place && stand_from stands Middle more)

@@ -1,5 +1,8 @@
 -- The rows of a word.
-use Rattle.std.proofs.Common.{◌≡◌, ◌∙◌, refl, sym, ap, subst, ℕ, zero, suc, ◌+◌, ◌-◌, ◌^◌, ◌<◌, ◌≤◌, Bool, true, false, true≢false, cond, ◌&&◌, ◌==◌, slice_get, ◌⊎◌, inl, inr, List, [], ◌∷◌, ◌++◌, length, take, drop, get_or, Option, None, Some, arith, append-nil, length-drop}
+use Rattle.std.proofs.Common.{◌≡◌, ◌∙◌, refl, sym, ap, subst, ℕ, zero, suc, ◌+◌, ◌-◌, ◌^◌, ◌<◌, ◌≤◌}
+use Rattle.std.proofs.Common.{Bool, true, false, true≢false, cond, ◌&&◌, ◌==◌, slice_get, ◌⊎◌, inl}
+use Rattle.std.proofs.Common.{inr, List, [], ◌∷◌, ◌++◌, length, take, drop, get_or, Option, None}
+use Rattle.std.proofs.Common.{Some, arith, append-nil, length-drop}
 use Rattle.std.specs.List.{AllByRecursion}
 use Rattle.std.specs.Option.{option_map_or}
 use Rattle.std.proofs.lemmas.Bool.{cases_lt, and_parts, and_from, or_cases}
@@ -15,11 +18,14 @@ use Rattle.spell_types.specs.declared.flags.Flag.{Flag}
 use Rattle.spell_types.specs.Compounds.{Asked, stretch, written, all_stand, flags_of}
 use Rattle.spell_types.specs.EntriesOf.{entry_flags}
 use Rattle.spell_types.specs.Parts.{stands_at, stands_in_rule}
-use Rattle.spell_types.specs.Patterns.{matches, fits_step, is_left_out, is_many, steps_after, MatchesOneByOne}
+use Rattle.spell_types.specs.Patterns.{matches, fits_step, is_left_out, is_many, steps_after}
+use Rattle.spell_types.specs.Patterns.{MatchesOneByOne}
 use Rattle.compound_words.specs.declared.rests.FirstPart.{FirstPart}
 use Rattle.compound_words.specs.declared.rests.Row.{Row}
 use Rattle.compound_words.specs.Counting.{OneOf}
-use Rattle.compound_words.specs.Rests.{Way, ByFlags, ByRule, matches_from, is_enough, stand_from, holds, AreRest, IsRight, HasPart, IsRow, IsRowAt, AreRows, AreHeads, Grows, HasFirsts, HasInner, Piece}
+use Rattle.compound_words.specs.Rests.{Way, ByFlags, ByRule, matches_from, is_enough, stand_from}
+use Rattle.compound_words.specs.Rests.{holds, AreRest, IsRight, HasPart, IsRow, IsRowAt, AreRows}
+use Rattle.compound_words.specs.Rests.{AreHeads, Grows, HasFirsts, HasInner, Piece}
 use Rattle.compound_words.specs.Pieces.{EndsBefore, Whole, may_begin}
 use Rattle.compound_words.proofs.PieceLemmas.{joined-begins, joined-ends, last-whole}
 use Rattle.lists.specs.Laws.{each-append, each-weaker}
@@ -188,7 +194,8 @@ rows-none a rules word from rows rests are is none = record {
       each-weaker (IsRowAt a rules word from) (IsRowAt a rules word (from - 1))
       (rows-weaker a rules word from) rows are.right;
   all =
-      λ place part more way after inside begins rest so. by place part more way after inside begins rest so (cases_lt from place);
+      λ place part more way after inside begins rest so. by place part more way after inside begins
+      rest so (cases_lt from place);
 }
   where
     by : (place : ℕ) (part : Part) (more : List Part) (way : Way) → from - 1 < place
@@ -218,13 +225,15 @@ rows-more a rules word from rows row at are some inside is enough = record {
         record {
           after = omega (arith, some, at);
           inside = omega (arith, inside, at);
-          is = subst (λ place. IsRow a rules (take place word) (drop place word) row.rests) (sym at) is;
+          is = subst (λ place. IsRow a rules (take place word) (drop place word) row.rests) (sym at)
+              is;
           enough = enough;
         },
         tt,
       );
   all =
-      λ place part more way after within begins rest so. by place part more way after within begins rest so (cases_lt from place);
+      λ place part more way after within begins rest so. by place part more way after within begins
+      rest so (cases_lt from place);
 }
   where
     by : (place : ℕ) (part : Part) (more : List Part) (way : Way) → from - 1 < place
@@ -250,7 +259,8 @@ row-at a rules word from (row ∷ rows) (suc place) d within each =
     row-at a rules word from rows place d (omega (arith, within)) each.1
 
 -- the rests are there whose second part begins at the place of one of the first rows
-pub record AreSoFar (a : Asked) (rules : List (List PatternStep)) (here : Place) (word : List ℕ) (from : ℕ) (rows : List Row) (index : ℕ) (before now : List FirstPart) : Type 0 where
+pub record AreSoFar (a : Asked) (rules : List (List PatternStep)) (here : Place) (word : List ℕ)
+    (from : ℕ) (rows : List Row) (index : ℕ) (before now : List FirstPart) : Type 0 where
   pub grows : Grows a rules here (drop from word) before now
   pub has : (part next : Part) (more : List Part) (way : Way)
       → may_begin a.lexicon (take from word) part ≡ true
@@ -275,14 +285,16 @@ piece-whole word from place after =
     ∙ take-append-drop (place - from) (drop from word)
 
 -- what is known of the parts behind a first one
-record IsNext (a : Asked) (rules : List (List PatternStep)) (word : List ℕ) (place : ℕ) (next : Part) (more : List Part) : Type 0 where
+record IsNext (a : Asked) (rules : List (List PatternStep)) (word : List ℕ) (place : ℕ)
+    (next : Part) (more : List Part) : Type 0 where
   way : Way
   begins : may_begin a.lexicon (take place word) next ≡ true
   rest : AreRest a (drop place word) (next ∷ more)
   so : holds a rules Middle way (next ∷ more) ≡ true
 
 next-at : MatchesOneByOne → (a : Asked) (rules : List (List PatternStep)) (here : Place)
-    (word : List ℕ) (from : ℕ) (part next : Part) (more : List Part) (way : Way) → from ≤ length word
+    (word : List ℕ) (from : ℕ) (part next : Part) (more : List Part) (way : Way)
+    → from ≤ length word
     → may_begin a.lexicon (take from word) part ≡ true
     → AreRest a (drop from word) (part ∷ next ∷ more)
     → holds a rules here way (part ∷ next ∷ more) ≡ true
@@ -306,7 +318,9 @@ next-at law a rules here word from part next more way within begins rest so =
     }
 
 -- the places of rows so far, and one more
-pub rows-one-more : MatchesOneByOne → (a : Asked) (rules : List (List PatternStep)) (here : Place) (word : List ℕ) (from : ℕ) (rows : List Row) (index : ℕ) (item d : Row) (before middle now : List FirstPart)
+pub rows-one-more : MatchesOneByOne → (a : Asked) (rules : List (List PatternStep)) (here : Place)
+    (word : List ℕ) (from : ℕ) (rows : List Row) (index : ℕ) (item d : Row)
+    (before middle now : List FirstPart)
     → from ≤ length word → index < length rows → item ≡ get_or rows index d
     → AllByRecursion (IsRowAt a rules word from) rows
     → Grows a rules here
@@ -315,14 +329,15 @@ pub rows-one-more : MatchesOneByOne → (a : Asked) (rules : List (List PatternS
     (piece_to word from item) now
     → AreSoFar a rules here word from rows index before middle
     → AreSoFar a rules here word from rows (index + 1) before now
-rows-one-more law a rules here word from rows index item d before middle now inside within at right grows firsts so_far = record {
-  grows = grows-twice a rules here (drop from word) before middle now so_far.grows grown;
-  has =
-      λ part next more way begins rest so one. by part next more way begins rest so
-      (one-cases (λ row. row.place ≡ from + length (stretch part)) (take index rows) (item ∷ [])
-      (subst (OneOf (λ row. row.place ≡ from + length (stretch part)))
-      (take_more rows index d within ∙ ap (λ row. take index rows ++ row ∷ []) (sym at)) one));
-}
+rows-one-more law a rules here word from rows index item d before middle now inside within at right
+    grows firsts so_far = record {
+      grows = grows-twice a rules here (drop from word) before middle now so_far.grows grown;
+      has =
+          λ part next more way begins rest so one. by part next more way begins rest so
+          (one-cases (λ row. row.place ≡ from + length (stretch part)) (take index rows) (item ∷ [])
+          (subst (OneOf (λ row. row.place ≡ from + length (stretch part)))
+          (take_more rows index d within ∙ ap (λ row. take index rows ++ row ∷ []) (sym at)) one));
+    }
   where
     is : IsRowAt a rules word from item
     is =
@@ -374,7 +389,8 @@ pub rows-all : MatchesOneByOne → (a : Asked) (rules : List (List PatternStep))
     → from ≤ length word → length rows ≤ index → AreRows a rules word from rows
     → AreSoFar a rules here word from rows index before now
     → HasInner a rules here (take from word) (drop from word) now
-rows-all law a rules here word from rows index before now within past are so_far part next more way begins rest so =
+rows-all law a rules here word from rows index before now within past are so_far part next more way
+    begins rest so =
     let some = given-some a part rest.given.0 in
     let place = from + length (stretch part) in
     let after = next-at law a rules here word from part next more way within begins rest so in
@@ -403,7 +419,9 @@ row-whole a rules before text front start middle now none same grows firsts grow
         → HasPart part now
     all part [] way begins rest so =
         grown.kept part
-        ((subst (λ t. HasFirsts a rules Middle t (record { before = before; front = t; following = []; rests = [] }) middle) same firsts).has part [] way begins
+        ((subst (λ t. HasFirsts a rules Middle t
+        (record { before = before; front = t; following = []; rests = [] }) middle) same
+        firsts).has part [] way begins
         (Whole (last-whole a part rest.ends))
         (sym (append-nil (stretch part)) ∙ rest.joined) rest so)
     all part (next ∷ more) way begins rest so = inner part next more way begins rest so

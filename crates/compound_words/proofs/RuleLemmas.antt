@@ -1,5 +1,8 @@
 -- Rules that no part of a dictionary follows.
-use Rattle.std.proofs.Common.{◌≡◌, ◌∙◌, ◌↔◌, refl, sym, nat_le, ap, subst, ℕ, zero, suc, Bool, true, false, true≢false, cond, ◌&&◌, ◌||◌, ◌==◌, ◌+◌, ◌<◌, ◌++◌, get_or, take, ◌⊎◌, inl, inr, List, [], ◌∷◌, filter, length, slice_get, Option, None, Some, is_some, IsTrue, arith}
+use Rattle.std.proofs.Common.{◌≡◌, ◌∙◌, ◌↔◌, refl, sym, nat_le, ap, subst, ℕ, zero, suc, Bool, true}
+use Rattle.std.proofs.Common.{false, true≢false, cond, ◌&&◌, ◌||◌, ◌==◌, ◌+◌, ◌<◌, ◌++◌, get_or}
+use Rattle.std.proofs.Common.{take, ◌⊎◌, inl, inr, List, [], ◌∷◌, filter, length, slice_get, Option}
+use Rattle.std.proofs.Common.{None, Some, is_some, IsTrue, arith}
 use Rattle.std.specs.BTreeSet.{BTreeSet}
 use Rattle.std.specs.List.{AllByRecursion, list_any}
 use Rattle.std.specs.Option.{option_map_or}
@@ -14,12 +17,16 @@ use Rattle.spell_types.specs.declared.parts.Part.{Part}
 use Rattle.spell_types.specs.declared.parts.Place.TheVariants.{First, Middle}
 use Rattle.spell_types.specs.declared.patterns.PatternStep.{PatternStep}
 use Rattle.spell_types.specs.Cases.{is_same_word}
-use Rattle.spell_types.specs.Compounds.{Asked, begin_well, IsGiven, IsMadeUp, written, all_stand, stand_by_flags, flags_of, follows_rule, do_meet, end_well, are_few, make_up, is_made_up}
+use Rattle.spell_types.specs.Compounds.{Asked, begin_well, IsGiven, IsMadeUp, written, all_stand}
+use Rattle.spell_types.specs.Compounds.{stand_by_flags, flags_of, follows_rule, do_meet, end_well}
+use Rattle.spell_types.specs.Compounds.{are_few, make_up, is_made_up}
 use Rattle.spell_types.specs.Derivations.{Named, named}
 use Rattle.spell_types.specs.Licences.{holds_of, some_carry, has_some_with}
 use Rattle.spell_types.specs.EntriesOf.{entry_flags}
-use Rattle.spell_types.specs.Parts.{has_right_entry, is_not_forbidden_at, are_affixes_permitted_at, are_suffixes_few_at, stands_at, stands_in_rule}
-use Rattle.spell_types.specs.Patterns.{matches, fits_step, is_left_out, steps_after, MatchesOneByOne}
+use Rattle.spell_types.specs.Parts.{has_right_entry, is_not_forbidden_at, are_affixes_permitted_at}
+use Rattle.spell_types.specs.Parts.{are_suffixes_few_at, stands_at, stands_in_rule}
+use Rattle.spell_types.specs.Patterns.{matches, fits_step, is_left_out, steps_after}
+use Rattle.spell_types.specs.Patterns.{MatchesOneByOne}
 use Rattle.lists.specs.Laws.{each-append, each-weaker}
 use Rattle.compound_words.specs.Prepared.{has_number, HasFlagsOf, has_step_in, has_first_sign}
 use Rattle.compound_words.specs.Rests.{AreRulesOf}

@@ -1,5 +1,8 @@
 -- How few parts the steps of a rule match.
-use Rattle.std.proofs.Common.{◌≡◌, ◌∙◌, refl, sym, ap, subst, ℕ, zero, suc, ◌+◌, ◌<◌, ◌≤◌, Bool, true, false, cond, ◌&&◌, ◌||◌, List, [], ◌∷◌, length, drop, get_or, slice_get, Option, None, Some, arith, option_and_then, set, true≢false, ◌⊎◌, inl, inr, ⊎_elim}
+use Rattle.std.proofs.Common.{◌≡◌, ◌∙◌, refl, sym, ap, subst, ℕ, zero, suc, ◌+◌, ◌<◌, ◌≤◌, Bool}
+use Rattle.std.proofs.Common.{true, false, cond, ◌&&◌, ◌||◌, List, [], ◌∷◌, length, drop, get_or}
+use Rattle.std.proofs.Common.{slice_get, Option, None, Some, arith, option_and_then, set}
+use Rattle.std.proofs.Common.{true≢false, ◌⊎◌, inl, inr, ⊎_elim}
 use Rattle.std.specs.List.{list_any}
 use Rattle.std.specs.Option.{option_map_or}
 use Rattle.std.proofs.lemmas.Bool.{cases_lt}
@@ -9,7 +12,8 @@ use Rattle.spell_types.specs.declared.flags.Flag.{Flag}
 use Rattle.spell_types.specs.declared.patterns.PatternStep.{PatternStep}
 use Rattle.spell_types.specs.declared.patterns.Times.{Times}
 use Rattle.spell_types.specs.declared.patterns.Times.TheVariants.{Once, Maybe, Many}
-use Rattle.spell_types.specs.Patterns.{fits_step, is_left_out, is_many, may_be, matches, MatchesOneByOne}
+use Rattle.spell_types.specs.Patterns.{fits_step, is_left_out, is_many, may_be, matches}
+use Rattle.spell_types.specs.Patterns.{MatchesOneByOne}
 use Rattle.compound_words.specs.Counting.{least, number_at, one_more}
 use Rattle.compound_words.specs.Rests.{number_by_steps, matches_from}
 

@@ -1,5 +1,6 @@
 -- The least of numbers, where they are there.
-use Rattle.std.specs.Prelude.{ℕ, ◌+◌, ◌≤◌, ◌^◌, ◌-◌, ◌⊎◌, nat_le, min, List, [], ◌∷◌, slice_get, Option, None, Some, option_and_then, if◌then◌else◌}
+use Rattle.std.specs.Prelude.{ℕ, ◌+◌, ◌≤◌, ◌^◌, ◌-◌, ◌⊎◌, nat_le, min, List, [], ◌∷◌, slice_get}
+use Rattle.std.specs.Prelude.{Option, None, Some, option_and_then, if◌then◌else◌}
 use Rattle.std.specs.Option.{option_map}
 
 abbrev pub least : Option ℕ → Option ℕ → Option ℕ

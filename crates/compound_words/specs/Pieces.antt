@@ -1,5 +1,7 @@
 -- Which parts write a piece of a word, by what stands before it and what follows.
-use Rattle.std.specs.Prelude.{◌≡◌, ℕ, ◌-◌, ◌==◌, Bool, true, false, not, ◌&&◌, ◌||◌, List, [], ◌∷◌, ◌++◌, length, map, take, nat_eq, nat_lt, Contains, Some, if◌then◌else◌}
+use Rattle.std.specs.Prelude.{◌≡◌, ℕ, ◌-◌, ◌==◌, Bool, true, false, not, ◌&&◌, ◌||◌, List, [], ◌∷◌}
+use Rattle.std.specs.Prelude.{◌++◌, length, map, take, nat_eq, nat_lt, Contains, Some}
+use Rattle.std.specs.Prelude.{if◌then◌else◌}
 use Rattle.std.specs.List.{AllByRecursion, filter, flat_map, list_any, starts_with, ends_with}
 use Rattle.std.specs.Option.{option_map_or}
 use Rattle.affix_strip.specs.Found.{derivations_of}
@@ -32,10 +34,11 @@ abbrev pub may_begin : Lexicon → List ℕ → Part → Bool
 may_begin lexicon before part =
     (part.off_begin == 0) || list_any (is_cut_by before part) lexicon.affixes.joints
 
--- These are the texts that joints may have taken off the front of a part behind this text: a part whose front is one of them
--- may begin there, and the front of each that may is one of them.
+-- These are the texts that joints may have taken off the front of a part behind this text: a part
+-- whose front is one of them may begin there, and the front of each that may is one of them.
 pub record AreFronts (lexicon : Lexicon) (before : List ℕ) (fronts : List (List ℕ)) : Type 0 where
-  pub right : (front : List ℕ) → Contains fronts front → (part : Part) → part.off_begin ≡ length front
+  pub right : (front : List ℕ) → Contains fronts front → (part : Part)
+      → part.off_begin ≡ length front
       → starts_with nat_eq part.text front ≡ true → may_begin lexicon before part ≡ true
   pub all : (part : Part) → may_begin lexicon before part ≡ true
       → (front : List ℕ) × (Contains fronts front × ((part.off_begin ≡ length front)
@@ -44,7 +47,8 @@ pub record AreFronts (lexicon : Lexicon) (before : List ℕ) (fronts : List (Lis
 -- the fronts with what the row takes off the front of a part, if it may and that is none of them
 abbrev pub with_front : List ℕ → JointPattern → List (List ℕ) → List (List ℕ)
 with_front before row fronts =
-    if has_put before row && not (is_among fronts row.begin) then fronts ++ row.begin ∷ [] else fronts
+    if has_put before row && not (is_among fronts row.begin) then fronts ++ row.begin ∷ []
+    else fronts
 
 -- ---- what follows a part
 -- what the row takes off the end of a part
@@ -53,10 +57,12 @@ end_of row = if row.unmodified then [] else row.end
 
 -- whether the row takes off the front of the first part of a rest what it names there
 abbrev pub cuts : JointPattern → FirstPart → Bool
-cuts row rest = (length row.begin == rest.part.off_begin) && starts_with nat_eq rest.part.text row.begin
+cuts row rest =
+    (length row.begin == rest.part.off_begin) && starts_with nat_eq rest.part.text row.begin
 
 -- the part may end before this text and one of these rests of the word, as the joint behind it asks
-pub data EndsBefore (lexicon : Lexicon) (following : List ℕ) (rests : List FirstPart) (part : Part) : Type 0 where
+pub data EndsBefore (lexicon : Lexicon) (following : List ℕ) (rests : List FirstPart)
+    (part : Part) : Type 0 where
   Whole : part.joint ≡ plain_joint → EndsBefore lexicon following rests part
   Short : (c : ℕ) (more : List ℕ) → lexicon.affixes.options.simplified ≡ true
       → part.joint ≡ simplified_joint
@@ -73,7 +79,8 @@ unfoldable pub parts_with : Asked → ℕ → WrittenJoint → List ℕ → List
 parts_with a off joint text =
     filter (may_be_part a) (map (λ d. part_with off joint d text) (derivations_of a.lexicon text))
 
--- those that keep this of their text, between one of these fronts and what the joint takes off the end
+-- those that keep this of their text, between one of these fronts and what the joint takes off the
+-- end
 unfoldable pub parts_kept : Asked → List (List ℕ) → List ℕ → List ℕ → WrittenJoint → List Part
 parts_kept a fronts kept end joint =
     if length kept == 0 then []
@@ -96,7 +103,8 @@ parts_put a fronts text row =
     else []) row.replacement []
 
 -- the same, if one of the rests may follow
-abbrev pub parts_replaced : Asked → List (List ℕ) → List ℕ → List FirstPart → JointPattern → List Part
+abbrev pub parts_replaced : Asked → List (List ℕ) → List ℕ → List FirstPart → JointPattern
+    → List Part
 parts_replaced a fronts text rests row =
     if list_any (cuts row) rests then parts_put a fronts text row else []
 
@@ -114,7 +122,8 @@ pub record IsGivenAs (a : Asked) (before text : List ℕ) (part : Part) : Type 0
   pub begins : may_begin a.lexicon before part ≡ true
 
 -- all parts that write it, and may stand there
-pub record AreParts (a : Asked) (before text following : List ℕ) (rests : List FirstPart) (parts : List Part) : Type 0 where
+pub record AreParts (a : Asked) (before text following : List ℕ) (rests : List FirstPart)
+    (parts : List Part) : Type 0 where
   pub given : AllByRecursion (IsGivenAs a before text) parts
   pub all : (part : Part) → IsGivenAs a before text part → EndsBefore a.lexicon following rests part
       → OneOf (λ other. other ≡ part) parts

@@ -34,7 +34,8 @@ has_first_sign signs = is_some signs.compound || is_some signs.begin
 abbrev pub AreAllRulesOf : Lexicon → List (List PatternStep) → Type 0
 AreAllRulesOf lexicon rules = (a : Asked) → a.lexicon ≡ lexicon → AreRulesOf a rules
 
--- these were prepared of the dictionary: whether first parts are allowed by their flags, and the rules that are looked at
+-- these were prepared of the dictionary: whether first parts are allowed by their flags, and the
+-- rules that are looked at
 pub record AreCompoundsOf (lexicon : Lexicon) (compounds : Compounds) : Type 0 where
   pub first : compounds.has_first ≡ has_first_sign lexicon.affixes.signs
   pub rules : AreAllRulesOf lexicon compounds.rules

@@ -1,5 +1,7 @@
 -- Lists of parts that make up the rest of a word, and how few parts they may have.
-use Rattle.std.specs.Prelude.{◌≡◌, ℕ, ◌+◌, ◌<◌, Bool, true, false, nat_lt, ◌&&◌, ◌||◌, List, [], ◌∷◌, ◌++◌, length, map, take, drop, slice_get, Option, None, Some, option_and_then, if◌then◌else◌}
+use Rattle.std.specs.Prelude.{◌≡◌, ℕ, ◌+◌, ◌<◌, Bool, true, false, nat_lt, ◌&&◌, ◌||◌, List, []}
+use Rattle.std.specs.Prelude.{◌∷◌, ◌++◌, length, map, take, drop, slice_get, Option, None, Some}
+use Rattle.std.specs.Prelude.{option_and_then, if◌then◌else◌}
 use Rattle.std.specs.Borrow.{Bor}
 use Rattle.std.specs.List.{AllByRecursion, filter, flat_map, list_any}
 use Rattle.std.specs.Option.{option_map_or, option_to_list}
@@ -9,7 +11,9 @@ use Rattle.spell_types.specs.declared.parts.Part.{Part}
 use Rattle.spell_types.specs.declared.parts.Place.{Place}
 use Rattle.spell_types.specs.declared.parts.Place.TheVariants.{First, Middle, Last}
 use Rattle.spell_types.specs.declared.patterns.PatternStep.{PatternStep}
-use Rattle.spell_types.specs.Compounds.{Asked, IsGiven, are_joined, begin_well, stretch, written, all_stand, flags_of, do_meet, end_well, follows_rule, are_few}
+use Rattle.spell_types.specs.Compounds.{Asked, IsGiven, are_joined, begin_well, stretch, written}
+use Rattle.spell_types.specs.Compounds.{all_stand, flags_of, do_meet, end_well, follows_rule}
+use Rattle.spell_types.specs.Compounds.{are_few}
 use Rattle.spell_types.specs.EntriesOf.{entry_flags}
 use Rattle.spell_types.specs.Parts.{stands_at, stands_in_rule}
 use Rattle.spell_types.specs.Patterns.{matches, fits_step, is_left_out, is_many}
@@ -39,7 +43,8 @@ matches_from rules rule step sets =
 abbrev pub patterns_of : Search → List (List PatternStep)
 patterns_of search = search.rules.now
 
--- whether there are as many parts as a word needs of which the first stands here, and it begins as a word does
+-- whether there are as many parts as a word needs of which the first stands here, and it begins as
+-- a word does
 abbrev pub is_enough : Place → List Part → Bool
 is_enough First parts = nat_lt 1 (length parts) && begin_well parts
 is_enough Middle parts = true
@@ -70,14 +75,16 @@ pub record AreRest (a : Asked) (text : List ℕ) (parts : List Part) : Type 0 wh
   pub ends : end_well a parts ≡ true
 
 -- so many parts, of which this is the first, write the text and stand so
-pub record Leads (a : Asked) (text : List ℕ) (stand : List Part → Bool) (part : Part) (count : ℕ) : Type 0 where
+pub record Leads (a : Asked) (text : List ℕ) (stand : List Part → Bool) (part : Part)
+    (count : ℕ) : Type 0 where
   pub more : List Part
   pub rest : AreRest a text (part ∷ more)
   pub so : stand (part ∷ more) ≡ true
   pub long : length (part ∷ more) ≡ count
 
 -- so many parts behind this one write the text with it and stand so
-pub record Follows (a : Asked) (text : List ℕ) (stand : List Part → Bool) (part : Part) (count : ℕ) : Type 0 where
+pub record Follows (a : Asked) (text : List ℕ) (stand : List Part → Bool) (part : Part)
+    (count : ℕ) : Type 0 where
   pub more : List Part
   pub rest : AreRest a text (part ∷ more)
   pub so : stand more ≡ true
@@ -104,8 +111,10 @@ may_precede a part rest = are_joined a part rest.part
 abbrev pub HasPart : Part → List FirstPart → Type 0
 HasPart part rests = OneOf (λ rest. rest.part ≡ part) rests
 
--- these are the first parts of all that write the text behind a place inside the word, where this text is before it
-pub record IsRow (a : Asked) (rules : List (List PatternStep)) (before text : List ℕ) (rests : List FirstPart) : Type 0 where
+-- these are the first parts of all that write the text behind a place inside the word, where this
+-- text is before it
+pub record IsRow (a : Asked) (rules : List (List PatternStep)) (before text : List ℕ)
+    (rests : List FirstPart) : Type 0 where
   pub right : AllByRecursion (IsRight a rules Middle text) rests
   pub all : (part : Part) (more : List Part) (way : Way) → may_begin a.lexicon before part ≡ true
       → AreRest a text (part ∷ more) → holds a rules Middle way (part ∷ more) ≡ true
@@ -131,14 +140,16 @@ pub record Covers (rest other : FirstPart) : Type 0 where
   pub less : (way : Way) → least (count_of rest way) (count_of other way) ≡ count_of rest way
 
 -- a row of places behind this one
-pub record IsRowAt (a : Asked) (rules : List (List PatternStep)) (word : List ℕ) (from : ℕ) (row : Row) : Type 0 where
+pub record IsRowAt (a : Asked) (rules : List (List PatternStep)) (word : List ℕ) (from : ℕ)
+    (row : Row) : Type 0 where
   pub after : from < row.place
   pub inside : row.place < length word
   pub is : IsRow a rules (take row.place word) (drop row.place word) row.rests
   pub enough : AreHeads row.rests row.heads
 
 -- there is a row for each place behind this one from which parts write the rest of the word
-pub record AreRows (a : Asked) (rules : List (List PatternStep)) (word : List ℕ) (from : ℕ) (rows : List Row) : Type 0 where
+pub record AreRows (a : Asked) (rules : List (List PatternStep)) (word : List ℕ) (from : ℕ)
+    (rows : List Row) : Type 0 where
   pub right : AllByRecursion (IsRowAt a rules word from) rows
   pub all : (place : ℕ) (part : Part) (more : List Part) (way : Way) → from < place
       → place < length word
@@ -150,7 +161,8 @@ pub record AreRows (a : Asked) (rules : List (List PatternStep)) (word : List �
 abbrev pub rests_at : List (Bor FirstPart) → List FirstPart
 rests_at rests = map (λ rest. rest.now) rests
 
--- how few parts may stand behind the last part: none, unless the steps of a rule do not match nothing
+-- how few parts may stand behind the last part: none, unless the steps of a rule do not match
+-- nothing
 abbrev pub number_at_end : List (List PatternStep) → Way → Option ℕ
 number_at_end rules ByFlags = Some 0
 number_at_end rules (ByRule rule step) = if matches_from rules rule step [] then Some 0 else None
@@ -161,8 +173,8 @@ number_behind rules behind way =
     if behind.is_end then number_at_end rules way else fewest
     (map (λ rest. count_of rest way) (rests_at behind.rests.now))
 
--- How few parts the steps of a rule match whose first has these flags, where `behind` tells how few the steps from a place on
--- match behind it: a step is left out, or it stands for the first part.
+-- How few parts the steps of a rule match whose first has these flags, where `behind` tells how few
+-- the steps from a place on match behind it: a step is left out, or it stands for the first part.
 abbrev pub number_by_steps : List Flag → (ℕ → Option ℕ) → List PatternStep → ℕ → Option ℕ
 number_by_steps flags behind [] place = None
 number_by_steps flags behind (step ∷ more) place =
@@ -186,7 +198,8 @@ number_with a rules place part behind (ByRule rule step) =
     (entry_flags a.lexicon part.d) rules behind rule step else None
 
 -- the rest begins with the part, and its numbers are these
-pub record HasNumbers (a : Asked) (rules : List (List PatternStep)) (place : Place) (part : Part) (behind : Behind) (rest : FirstPart) : Type 0 where
+pub record HasNumbers (a : Asked) (rules : List (List PatternStep)) (place : Place) (part : Part)
+    (behind : Behind) (rest : FirstPart) : Type 0 where
   pub first : rest.part ≡ part
   pub numbers : (way : Way) → count_of rest way ≡ number_with a rules place part behind way
 
@@ -201,23 +214,28 @@ IsMade a rules place part behind None = HasNone a rules place part behind
 IsMade a rules place part behind (Some rest) = HasNumbers a rules place part behind rest
 
 -- the row after the rest was added that was made, if one was
-pub record IsAdded (a : Asked) (rules : List (List PatternStep)) (place : Place) (part : Part) (behind : Behind) (before now : List FirstPart) : Type 0 where
+pub record IsAdded (a : Asked) (rules : List (List PatternStep)) (place : Place) (part : Part)
+    (behind : Behind) (before now : List FirstPart) : Type 0 where
   pub made : Option FirstPart
   pub is : IsMade a rules place part behind made
   pub added : now ≡ before ++ option_to_list made
 
 -- the same, or the part was there already
-pub data IsAddedOnce (a : Asked) (rules : List (List PatternStep)) (place : Place) (part : Part) (behind : Behind) (before now : List FirstPart) : Type 0 where
+pub data IsAddedOnce (a : Asked) (rules : List (List PatternStep)) (place : Place) (part : Part)
+    (behind : Behind) (before now : List FirstPart) : Type 0 where
   Known : HasPart part before → now ≡ before → IsAddedOnce a rules place part behind before now
-  New : IsAdded a rules place part behind before now → IsAddedOnce a rules place part behind before now
+  New : IsAdded a rules place part behind before now
+      → IsAddedOnce a rules place part behind before now
 
 -- a row to which rests of a text were added: it has what it had, and if that was right, all is
-pub record Grows (a : Asked) (rules : List (List PatternStep)) (here : Place) (text : List ℕ) (before now : List FirstPart) : Type 0 where
+pub record Grows (a : Asked) (rules : List (List PatternStep)) (here : Place) (text : List ℕ)
+    (before now : List FirstPart) : Type 0 where
   pub right : AllByRecursion (IsRight a rules here text) before
       → AllByRecursion (IsRight a rules here text) now
   pub kept : (part : Part) → HasPart part before → HasPart part now
 
--- Where in a word a part is looked for: what is before it, what it writes, what follows, and the rests of the word there.
+-- Where in a word a part is looked for: what is before it, what it writes, what follows, and the
+-- rests of the word there.
 pub record Piece : Type 0 where
   pub before : List ℕ
   pub front : List ℕ
@@ -225,9 +243,11 @@ pub record Piece : Type 0 where
   pub rests : List FirstPart
 
 -- the row has each part from which others write a text, where it writes so much of it
-pub record HasFirsts (a : Asked) (rules : List (List PatternStep)) (here : Place) (text : List ℕ) (piece : Piece) (row : List FirstPart) : Type 0 where
+pub record HasFirsts (a : Asked) (rules : List (List PatternStep)) (here : Place) (text : List ℕ)
+    (piece : Piece) (row : List FirstPart) : Type 0 where
   pub has : (part : Part) (more : List Part) (way : Way)
-      → may_begin a.lexicon piece.before part ≡ true → EndsBefore a.lexicon piece.following piece.rests part
+      → may_begin a.lexicon piece.before part ≡ true
+      → EndsBefore a.lexicon piece.following piece.rests part
       → stretch part ≡ piece.front → AreRest a text (part ∷ more)
       → holds a rules here way (part ∷ more) ≡ true → HasPart part row
 

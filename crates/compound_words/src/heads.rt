@@ -1,7 +1,8 @@
 //! Which of the rests from a place are enough to be looked at.
 //!
-//! Where rows of CHECKCOMPOUNDPATTERN have replacements, a place may have many rests whose first parts differ only in the joint behind
-//! them. What may stand before them does not ask for that joint.
+//! Where rows of CHECKCOMPOUNDPATTERN have replacements, a place may have many rests whose first
+//! parts differ only in the joint behind them. What may stand before them does not ask for that
+//! joint.
 
 ghost use Rattle.std.specs.Prelude.{◌≡◌, true, slice_get, IfOk};
 ghost use Rattle.std.specs.Option.{option_map};
@@ -16,7 +17,8 @@ use lists::{Items, NoMemory};
 use spell_types::Part;
 use std::alloc::Global;
 
-/// The places of rests that are enough to be looked at: each of the others is covered by one of these.
+/// The places of rests that are enough to be looked at: each of the others is covered by one of
+/// these.
 pub(crate) fn heads_of(alloc: Global, rests: &[FirstPart]) -> Result<Items<usize>, NoMemory>
     ensures { IfOk result (AreHeads rests.now) }
 {
@@ -50,7 +52,8 @@ pub(crate) fn rest_at(rests: &[FirstPart], place: usize) -> Option<&FirstPart>
     rests.get(place)
 }
 
-/// Whether a rest may follow wherever another one may, with no more parts. One that compound rules match is not looked at.
+/// Whether a rest may follow wherever another one may, with no more parts. One that compound rules
+/// match is not looked at.
 fn covers(rest: &FirstPart, other: &FirstPart) -> bool
     ensures { result ≡ true → Covers rest.now other.now }
 {
@@ -60,9 +63,11 @@ fn covers(rest: &FirstPart, other: &FirstPart) -> bool
     is_at_most(rest.by_flags, other.by_flags)
 }
 
-/// Whether two parts are the same but for the joint behind them, so that they may stand behind the same parts.
+/// Whether two parts are the same but for the joint behind them, so that they may stand behind the
+/// same parts.
 fn is_same_head(part: &Part, other: &Part) -> bool
-    ensures { result ≡ true → (a : Asked) (before : Part) → are_joined a before part.now ≡ are_joined a before other.now }
+    ensures { result ≡ true → (a : Asked) (before : Part)
+        → are_joined a before part.now ≡ are_joined a before other.now }
 {
     part.d == other.d
         && part.off_begin == other.off_begin

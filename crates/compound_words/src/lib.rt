@@ -33,10 +33,11 @@ pub struct Compounds {
     rules: Items<Pattern>,
 }
 
-/// Whether a word is a compound of a dictionary: parts make it up, by their flags or by a compound rule, and it is no common
-/// misspelling. `by_case` says that the word differs in case from the one that is written, so that no entry with KEEPCASE is a
-/// part, and `capital` that the written one begins in upper case, as a last part with FORCEUCASE asks. These are the options for
-/// compounding of hunspell(5). Who asks more than once prepares `Compounds`.
+/// Whether a word is a compound of a dictionary: parts make it up, by their flags or by a compound
+/// rule, and it is no common misspelling. `by_case` says that the word differs in case from the one
+/// that is written, so that no entry with KEEPCASE is a part, and `capital` that the written one
+/// begins in upper case, as a last part with FORCEUCASE asks. These are the options for compounding
+/// of hunspell(5). Who asks more than once prepares `Compounds`.
 pub fn is_compound(
     alloc: Global,
     stems: &Stems,
@@ -45,7 +46,8 @@ pub fn is_compound(
     capital: bool,
 ) -> Result<bool, NoMemory>
     ensures { IfOk result (λ answer.
-        answer ≡ is_compound (record { lexicon = stems.now; by_case = by_case; capital = capital }) word.now) }
+        answer ≡ is_compound (record { lexicon = stems.now; by_case = by_case; capital = capital })
+        word.now) }
 {
     Compounds::new(alloc, stems.lexicon())?.is_compound(alloc, stems, word, by_case, capital)
 }
@@ -61,8 +63,9 @@ impl Compounds {
         })
     }
 
-    /// Whether a word is a compound of the dictionary that this was prepared of. It is looked up in pieces: where no part may
-    /// stand first by its flags and no rule has an entry's flag, not at all.
+    /// Whether a word is a compound of the dictionary that this was prepared of. It is looked up in
+    /// pieces: where no part may stand first by its flags and no rule has an entry's flag, not at
+    /// all.
     #[tactic(auto, unfolding(spell_types::specs::Compounds::is_compound))]
     pub fn is_compound(
         &self,
@@ -74,7 +77,8 @@ impl Compounds {
     ) -> Result<bool, NoMemory>
         requires { AreCompoundsOf stems.now self.now }
         ensures { IfOk result (λ answer.
-            answer ≡ is_compound (record { lexicon = stems.now; by_case = by_case; capital = capital }) word.now) }
+            answer ≡ is_compound
+            (record { lexicon = stems.now; by_case = by_case; capital = capital }) word.now) }
     {
         let search = Search {
             stems,

@@ -4,7 +4,9 @@ ghost use Rattle.std.specs.Prelude.{◌≡◌, ◌≤◌, ◌++◌, ◌&&◌, []
 ghost use Rattle.std.specs.List.{flat_map, list_any};
 ghost use Rattle.spell_types.specs.Joints.{plain_joint, replaced_joint};
 ghost use Rattle.spell_types.specs.Cases.{is_among};
-ghost use Rattle.compound_words.specs.Pieces.{AreFronts, cuts, end_of, has_put, parts_kept, parts_of, parts_put, parts_replaced, parts_short, parts_with, with_front, AreParts};
+ghost use Rattle.compound_words.specs.Pieces.{AreFronts, cuts, end_of, has_put, parts_kept};
+ghost use Rattle.compound_words.specs.Pieces.{parts_of, parts_put, parts_replaced, parts_short};
+ghost use Rattle.compound_words.specs.Pieces.{parts_with, with_front, AreParts};
 ghost use Rattle.compound_words.specs.Rests.{asked_by};
 
 use crate::rests::FirstPart;
@@ -20,7 +22,8 @@ use std::alloc::Global;
 pub(crate) struct Start<'a> {
     /// What stands before it.
     pub(crate) before: &'a [char],
-    /// What joints may take off the front of a part there: nothing, or what rows of CHECKCOMPOUNDPATTERN name, each text once.
+    /// What joints may take off the front of a part there: nothing, or what rows of
+    /// CHECKCOMPOUNDPATTERN name, each text once.
     pub(crate) fronts: Vec<Chars>,
 }
 
@@ -32,7 +35,8 @@ impl<'a> Start<'a> {
         before: &'a [char],
     ) -> Result<Start<'a>, NoMemory>
         ensures text { IfOk result (λ start. start.before.now ≡ before.now) }
-        ensures fronts { IfOk result (λ start. AreFronts lexicon.now before.now start.fronts.items) }
+        ensures fronts { IfOk result
+            (λ start. AreFronts lexicon.now before.now start.fronts.items) }
     {
         let mut fronts = Vec::new(alloc);
         fronts.push(Items::new(alloc))?;
@@ -43,7 +47,8 @@ impl<'a> Start<'a> {
     }
 }
 
-/// Adds what a row takes off the front of a part, if it may have put its replacement behind this text.
+/// Adds what a row takes off the front of a part, if it may have put its replacement behind this
+/// text.
 fn add_front(
     alloc: Global,
     before: &[char],
@@ -58,7 +63,8 @@ fn add_front(
     Ok(())
 }
 
-/// Whether a row may have put its replacement behind this text, and what it takes off the front of a part is none of these.
+/// Whether a row may have put its replacement behind this text, and what it takes off the front of
+/// a part is none of these.
 fn is_new_front(before: &[char], row: &JointPattern, fronts: &[Chars]) -> bool
     ensures { result ≡ (has_put before.now row.now && not (is_among fronts.now row.now.begin)) }
 {
@@ -94,8 +100,10 @@ struct Ending<'a> {
 
 /// All parts that write a piece of a word, where they may stand in it.
 pub(crate) fn parts_of(alloc: Global, search: &Search, piece: &Piece) -> Result<Vec<Part>, NoMemory>
-    requires { AreFronts search.now.stems.now piece.now.start.now.before.now piece.now.start.now.fronts.items }
-    ensures { IfOk result (λ found. AreParts (asked_by search.now) piece.now.start.now.before.now piece.now.text.now
+    requires { AreFronts search.now.stems.now piece.now.start.now.before.now
+        piece.now.start.now.fronts.items }
+    ensures { IfOk result
+        (λ found. AreParts (asked_by search.now) piece.now.start.now.before.now piece.now.text.now
         piece.now.following.now piece.now.rests.now found.items) }
 {
     derivations_are();
@@ -105,7 +113,8 @@ pub(crate) fn parts_of(alloc: Global, search: &Search, piece: &Piece) -> Result<
 #[tactic(auto, unfolding(crate::specs::Pieces::parts_of))]
 fn find_parts(alloc: Global, search: &Search, piece: &Piece) -> Result<Vec<Part>, NoMemory>
     ensures { IfOk result (λ found. found.items
-        ≡ parts_of (asked_by search.now) piece.now.start.now.fronts.items piece.now.text.now piece.now.following.now piece.now.rests.now) }
+        ≡ parts_of (asked_by search.now) piece.now.start.now.fronts.items piece.now.text.now
+        piece.now.following.now piece.now.rests.now) }
 {
     let mut found = Vec::new(alloc);
     add_plain(alloc, search, piece, &mut found)?;
@@ -122,7 +131,8 @@ fn add_plain(
     found: &mut Vec<Part>,
 ) -> Result<(), NoMemory>
     ensures { OnOk result (found.new.items ≡ found.old.items
-        ++ parts_kept (asked_by search.now) piece.now.start.now.fronts.items piece.now.text.now [] plain_joint) }
+        ++ parts_kept (asked_by search.now) piece.now.start.now.fronts.items piece.now.text.now []
+        plain_joint) }
 {
     let ending = Ending {
         kept: piece.text,
@@ -132,7 +142,8 @@ fn add_plain(
     add_kept(alloc, search, &piece.start.fronts, &ending, found)
 }
 
-/// Adds the parts that end with the character that follows, which is written once: the option SIMPLIFIEDTRIPLE of hunspell(5).
+/// Adds the parts that end with the character that follows, which is written once: the option
+/// SIMPLIFIEDTRIPLE of hunspell(5).
 #[tactic(auto, unfolding(crate::specs::Pieces::parts_short))]
 fn add_short(
     alloc: Global,
@@ -141,7 +152,8 @@ fn add_short(
     found: &mut Vec<Part>,
 ) -> Result<(), NoMemory>
     ensures { OnOk result (found.new.items ≡ found.old.items
-        ++ parts_short (asked_by search.now) piece.now.start.now.fronts.items piece.now.text.now piece.now.following.now) }
+        ++ parts_short (asked_by search.now) piece.now.start.now.fronts.items piece.now.text.now
+        piece.now.following.now) }
 {
     match piece.following {
         [] => Ok(()),
@@ -178,7 +190,9 @@ fn add_replaced(
     found: &mut Vec<Part>,
 ) -> Result<(), NoMemory>
     ensures { OnOk result (found.new.items ≡ found.old.items
-        ++ flat_map (parts_replaced (asked_by search.now) piece.now.start.now.fronts.items piece.now.text.now piece.now.rests.now)
+        ++ flat_map
+        (parts_replaced (asked_by search.now) piece.now.start.now.fronts.items
+        piece.now.text.now piece.now.rests.now)
         search.now.stems.now.affixes.joints) }
 {
     for row in search.lexicon().affixes.joints.as_slice() {
@@ -213,7 +227,8 @@ fn add_put(
     found: &mut Vec<Part>,
 ) -> Result<(), NoMemory>
     ensures { OnOk result (found.new.items ≡ found.old.items
-        ++ parts_put (asked_by search.now) piece.now.start.now.fronts.items piece.now.text.now row.now) }
+        ++ parts_put (asked_by search.now) piece.now.start.now.fronts.items piece.now.text.now
+        row.now) }
 {
     match &row.replacement {
         None => Ok(()),
@@ -259,7 +274,8 @@ fn add_kept(
     found: &mut Vec<Part>,
 ) -> Result<(), NoMemory>
     ensures { OnOk result (found.new.items ≡ found.old.items
-        ++ parts_kept (asked_by search.now) fronts.now ending.now.kept.now ending.now.end.now ending.now.joint) }
+        ++ parts_kept (asked_by search.now) fronts.now ending.now.kept.now ending.now.end.now
+        ending.now.joint) }
 {
     derivations_are();
     if ending.kept.is_empty() {
@@ -274,7 +290,8 @@ fn add_kept(
     Ok(())
 }
 
-/// Whether a row may have put its replacement at the end of a text, behind a character that the part before keeps.
+/// Whether a row may have put its replacement at the end of a text, behind a character that the
+/// part before keeps.
 fn has_put(before: &[char], row: &JointPattern) -> bool
     ensures { result ≡ has_put before.now row.now }
 {
@@ -293,7 +310,8 @@ fn add_behind(
     found: &mut Vec<Part>,
 ) -> Result<(), NoMemory>
     ensures { OnOk result (found.new.items ≡ found.old.items
-        ++ parts_with (asked_by search.now) (length front.now) ending.now.joint (front.now ++ (ending.now.kept.now ++ ending.now.end.now))) }
+        ++ parts_with (asked_by search.now) (length front.now) ending.now.joint
+        (front.now ++ (ending.now.kept.now ++ ending.now.end.now))) }
 {
     derivations_are();
     if search.is_too_long(least_length(front, ending)) {
@@ -309,7 +327,8 @@ fn add_behind(
     add_with(alloc, search, &text, front.len(), &ending.joint, found)
 }
 
-/// How long a text is that begins with a front and ends so: exactly, unless the number does not fit.
+/// How long a text is that begins with a front and ends so: exactly, unless the number does not
+/// fit.
 fn least_length(front: &[char], ending: &Ending) -> usize
     ensures { result ≤ length (front.now ++ (ending.now.kept.now ++ ending.now.end.now)) }
 {
@@ -327,7 +346,9 @@ fn add_with(
     joint: &WrittenJoint,
     found: &mut Vec<Part>,
 ) -> Result<(), NoMemory>
-    ensures { OnOk result (found.new.items ≡ found.old.items ++ parts_with (asked_by search.now) off_begin joint.now text.now) }
+    ensures { OnOk result
+        (found.new.items ≡ found.old.items ++ parts_with (asked_by search.now) off_begin joint.now
+        text.now) }
 {
     if !is_long_enough(search.lexicon(), text) {
         return Ok(());

@@ -3,7 +3,8 @@
 ghost use Rattle.std.specs.Prelude.{◌≡◌, ◌&&◌, IfOk};
 ghost use Rattle.std.specs.List.{flat_map, list_any};
 ghost use Rattle.spell_types.specs.Licences.{is_alone, is_derived};
-ghost use Rattle.spell_types.specs.Replacements.{stands_anchored, replaced_at, variants_by, has_rep_fault};
+ghost use Rattle.spell_types.specs.Replacements.{stands_anchored, replaced_at, variants_by};
+ghost use Rattle.spell_types.specs.Replacements.{has_rep_fault};
 
 use affix_strip::Stems;
 use conversions::{stands_anchored, variant_at};
@@ -11,8 +12,8 @@ use lists::NoMemory;
 use spell_types::{Case, Rep};
 use std::alloc::Global;
 
-/// Whether a word is a common misspelling of one that stands alone: the option CHECKCOMPOUNDREP of hunspell(5). No pair of REP
-/// is looked at behind the first that makes such a word.
+/// Whether a word is a common misspelling of one that stands alone: the option CHECKCOMPOUNDREP of
+/// hunspell(5). No pair of REP is looked at behind the first that makes such a word.
 #[tactic(auto, unfolding(spell_types::specs::Replacements::has_rep_fault, spell_types::specs::Replacements::rep_variants))]
 pub(crate) fn has_rep_fault(alloc: Global, stems: &Stems, word: &[char]) -> Result<bool, NoMemory>
     ensures { IfOk result (λ answer. answer ≡ has_rep_fault stems.now word.now) }

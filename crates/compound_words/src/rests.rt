@@ -1,11 +1,14 @@
 //! Lists of parts that make up the rest of a word, by their first part.
 
-ghost use Rattle.std.specs.Prelude.{◌≡◌, ℕ, List, [], ◌<◌, ◌^◌, ◌+◌, ◌-◌, None, Some, length, slice_get, is_some, IfOk, map, if◌then◌else◌};
+ghost use Rattle.std.specs.Prelude.{◌≡◌, ℕ, List, [], ◌<◌, ◌^◌, ◌+◌, ◌-◌, None, Some, length};
+ghost use Rattle.std.specs.Prelude.{slice_get, is_some, IfOk, map, if◌then◌else◌};
 ghost use Rattle.std.specs.List.{list_any};
 ghost use Rattle.spell_types.specs.Patterns.{fits_step, is_left_out, is_many};
 ghost use Rattle.spell_types.specs.declared.patterns.PatternStep.{PatternStep};
 ghost use Rattle.compound_words.specs.Counting.{fewest, least, number_at, one_more};
-ghost use Rattle.compound_words.specs.Rests.{asked_by, patterns_of, Way, count_of, numbers_at, rests_at, matches_from, number_behind, number_with, number_by_rule, IsMade};
+ghost use Rattle.compound_words.specs.Rests.{asked_by, patterns_of, Way, count_of, numbers_at};
+ghost use Rattle.compound_words.specs.Rests.{rests_at, matches_from, number_behind, number_with};
+ghost use Rattle.compound_words.specs.Rests.{number_by_rule, IsMade};
 
 use crate::counting::{least, number_at, one_more};
 use crate::search::Search;
@@ -23,7 +26,8 @@ pub(crate) struct FirstPart {
     pub(crate) part: Part,
     /// Where they stand by their flags.
     pub(crate) by_flags: Option<usize>,
-    /// Where the steps of a rule match them, for each rule and from each of its steps on. Where there is no number none do.
+    /// Where the steps of a rule match them, for each rule and from each of its steps on. Where
+    /// there is no number none do.
     pub(crate) by_rules: Items<Numbers>,
 }
 
@@ -32,8 +36,8 @@ pub(crate) struct FirstPart {
 pub(crate) struct Row {
     pub(crate) place: usize,
     pub(crate) rests: Items<FirstPart>,
-    /// The places of the rests that are enough to be looked at: each other one has the first part of one of these, but for the
-    /// joint behind it, and no fewer parts.
+    /// The places of the rests that are enough to be looked at: each other one has the first part
+    /// of one of these, but for the joint behind it, and no fewer parts.
     pub(crate) heads: Items<usize>,
 }
 
@@ -47,7 +51,8 @@ pub(crate) struct Behind<'a> {
 impl Behind<'_> {
     /// How few parts may stand behind by their flags.
     fn by_flags(&self) -> Option<usize>
-        ensures { (rules : List (List PatternStep)) → result ≡ number_behind rules self.now Way.ByFlags }
+        ensures { (rules : List (List PatternStep))
+            → result ≡ number_behind rules self.now Way.ByFlags }
     {
         if self.is_end {
             Some(0)
@@ -56,9 +61,11 @@ impl Behind<'_> {
         }
     }
 
-    /// How few parts may stand behind if a rule matches them from a step on. It is told whether it matches nothing from there on.
+    /// How few parts may stand behind if a rule matches them from a step on. It is told whether it
+    /// matches nothing from there on.
     fn by_step(&self, rule: usize, step: usize, matches_nothing: bool) -> Option<usize>
-        ensures { (rules : List (List PatternStep)) → matches_nothing ≡ matches_from rules rule step []
+        ensures { (rules : List (List PatternStep))
+            → matches_nothing ≡ matches_from rules rule step []
             → result ≡ number_behind rules self.now (Way.ByRule rule step) }
     {
         if self.is_end {
@@ -80,7 +87,8 @@ fn fewest_by_flags(rests: &[&FirstPart]) -> Option<usize>
 }
 
 fn fewest_by_step(rests: &[&FirstPart], rule: usize, step: usize) -> Option<usize>
-    ensures { result ≡ fewest (map (λ rest. count_of rest (Way.ByRule rule step)) (rests_at rests.now)) }
+    ensures { result
+        ≡ fewest (map (λ rest. count_of rest (Way.ByRule rule step)) (rests_at rests.now)) }
 {
     let mut found = None;
     for rest in rests {
@@ -98,7 +106,8 @@ impl FirstPart {
     }
 }
 
-/// The rest that begins with a part, which stands at a place before what is behind it, if there is one.
+/// The rest that begins with a part, which stands at a place before what is behind it, if there is
+/// one.
 pub(crate) fn rest_with(
     alloc: Global,
     search: &Search,
@@ -106,7 +115,8 @@ pub(crate) fn rest_with(
     part: Part,
     behind: &Behind,
 ) -> Result<Option<FirstPart>, NoMemory>
-    ensures { IfOk result (IsMade (asked_by search.now) (patterns_of search.now) place part behind.now) }
+    ensures { IfOk result
+        (IsMade (asked_by search.now) (patterns_of search.now) place part behind.now) }
 {
     let by_flags = number_by_flags(search, place, &part, behind);
     let by_rules = numbers_by_rules(alloc, search, place, &part, behind)?;
@@ -122,7 +132,8 @@ pub(crate) fn rest_with(
 
 /// How few parts there are by their flags.
 fn number_by_flags(search: &Search, place: Place, part: &Part, behind: &Behind) -> Option<usize>
-    ensures { (rules : List (List PatternStep)) → result ≡ number_with (asked_by search.now) rules place part.now behind.now Way.ByFlags }
+    ensures { (rules : List (List PatternStep))
+        → result ≡ number_with (asked_by search.now) rules place part.now behind.now Way.ByFlags }
 {
     if stands_at(search.lexicon(), &part.d, place) {
         one_more(behind.by_flags())
@@ -140,7 +151,8 @@ fn numbers_by_rules(
     behind: &Behind,
 ) -> Result<Items<Numbers>, NoMemory>
     ensures { IfOk result (λ numbers. (rule step : ℕ) → numbers_at numbers rule step
-        ≡ number_with (asked_by search.now) (patterns_of search.now) place part.now behind.now (Way.ByRule rule step)) }
+        ≡ number_with (asked_by search.now) (patterns_of search.now) place part.now behind.now
+        (Way.ByRule rule step)) }
 {
     let lexicon = search.lexicon();
     if !stands_in_rule(lexicon, &part.d, place) {
@@ -152,14 +164,17 @@ fn numbers_by_rules(
     }
 }
 
-/// How few parts each rule matches from each of its steps on, where these are the flags of the first.
+/// How few parts each rule matches from each of its steps on, where these are the flags of the
+/// first.
 fn numbers_by_flags(
     alloc: Global,
     flags: &FlagSet,
     rules: &[Pattern],
     behind: &Behind,
 ) -> Result<Items<Numbers>, NoMemory>
-    ensures { IfOk result (λ numbers. (rule step : ℕ) → numbers_at numbers rule step ≡ number_by_rule flags.now rules.now behind.now rule step) }
+    ensures { IfOk result
+        (λ numbers. (rule step : ℕ)
+        → numbers_at numbers rule step ≡ number_by_rule flags.now rules.now behind.now rule step) }
 {
     let mut numbers = Items::new(alloc);
     for (rule, steps) in rules.iter().enumerate() {
@@ -169,7 +184,8 @@ fn numbers_by_flags(
     Ok(numbers)
 }
 
-/// How few parts a rule matches from each of its steps on. Most rules have no step for the flags, and then there is no number.
+/// How few parts a rule matches from each of its steps on. Most rules have no step for the flags,
+/// and then there is no number.
 fn numbers_by_steps(
     alloc: Global,
     flags: &FlagSet,
@@ -178,7 +194,9 @@ fn numbers_by_steps(
     behind: &Behind,
 ) -> Result<Numbers, NoMemory>
     ensures { (rules : List (List PatternStep)) → slice_get rules rule ≡ Some steps.now
-        → IfOk result (λ numbers. (step : ℕ) → number_at numbers step ≡ number_by_rule flags.now rules behind.now rule step) }
+        → IfOk result
+        (λ numbers. (step : ℕ)
+        → number_at numbers step ≡ number_by_rule flags.now rules behind.now rule step) }
 {
     if !has_step_for(steps, flags) {
         return Ok(Items::new(alloc));
@@ -199,7 +217,8 @@ fn fill_numbers(
     requires { length numbers.old ≡ length steps.now }
     ensures long { length numbers.new ≡ length steps.now }
     ensures filled { (rules : List (List PatternStep)) → slice_get rules rule ≡ Some steps.now
-        → (step : ℕ) → number_at numbers.new step ≡ number_by_rule flags.now rules behind.now rule step }
+        → (step : ℕ) → number_at numbers.new step ≡ number_by_rule flags.now rules behind.now rule
+        step }
 {
     patterns_match();
     let mut place = steps.len();
@@ -220,14 +239,16 @@ fn has_step_for(steps: &[PatternStep], flags: &FlagSet) -> bool
     steps.iter().any(|step| step.fits(flags))
 }
 
-/// How few parts the steps from this one on match: the step is left out, or it stands for the first part.
+/// How few parts the steps from this one on match: the step is left out, or it stands for the first
+/// part.
 fn number_from(
     step: &PatternStep,
     flags: &FlagSet,
     without: Option<usize>,
     behind: Option<usize>,
 ) -> Option<usize>
-    ensures { result ≡ least (if is_left_out step.now then without else None) (if fits_step step.now flags.now then one_more behind else None) }
+    ensures { result ≡ least (if is_left_out step.now then without else None)
+        (if fits_step step.now flags.now then one_more behind else None) }
 {
     let left_out = if step.is_left_out() { without } else { None };
     let stands = if step.fits(flags) {

@@ -1,12 +1,16 @@
 //! The rests of a word from each of its places, the last place first.
 
-ghost use Rattle.std.specs.Prelude.{◌≡◌, ◌≤◌, ◌<◌, ◌^◌, ◌-◌, ◌++◌, [], true, take, drop, length, filter, IfOk, OnOk};
+ghost use Rattle.std.specs.Prelude.{◌≡◌, ◌≤◌, ◌<◌, ◌^◌, ◌-◌, ◌++◌, [], true, take, drop, length};
+ghost use Rattle.std.specs.Prelude.{filter, IfOk, OnOk};
 ghost use Rattle.std.specs.List.{list_any};
 ghost use Rattle.spell_types.specs.declared.parts.Place.{Place};
 ghost use Rattle.spell_types.specs.Compounds.{is_made_up};
 ghost use Rattle.compound_words.specs.Counting.{number_at};
 ghost use Rattle.compound_words.specs.Pieces.{AreFronts};
-ghost use Rattle.compound_words.specs.Rests.{asked_by, patterns_of, rests_at, may_precede, picked, AreHeads, is_few, has_few, IsAdded, IsAddedOnce, Grows, HasFirsts, HasPart, HasInner, IsFrontOf, IsRow, AreRows, AreRulesOf};
+ghost use Rattle.compound_words.specs.Rests.{asked_by, patterns_of, rests_at, may_precede, picked};
+ghost use Rattle.compound_words.specs.Rests.{AreHeads, is_few, has_few, IsAdded, IsAddedOnce};
+ghost use Rattle.compound_words.specs.Rests.{Grows, HasFirsts, HasPart, HasInner, IsFrontOf, IsRow};
+ghost use Rattle.compound_words.specs.Rests.{AreRows, AreRulesOf};
 
 use crate::counting::number_at;
 use crate::heads::{heads_of, rest_at};
@@ -17,9 +21,10 @@ use lists::{Items, NoMemory};
 use spell_types::{Part, Place, compounds_have_parts, patterns_match};
 use std::alloc::Global;
 
-/// Whether parts of the dictionary make up a word. The rests are found from the end of the word to its front: each place
-/// from which parts write the rest of the word has a row with the first parts of those, and with how few parts each may have. A
-/// text is looked up only where such a place is behind it, and only once.
+/// Whether parts of the dictionary make up a word. The rests are found from the end of the word to
+/// its front: each place from which parts write the rest of the word has a row with the first parts
+/// of those, and with how few parts each may have. A text is looked up only where such a place is
+/// behind it, and only once.
 pub(crate) fn is_made_up(alloc: Global, search: &Search, word: &[char]) -> Result<bool, NoMemory>
     requires { AreRulesOf (asked_by search.now) (patterns_of search.now) }
     ensures { IfOk result (λ answer. answer ≡ is_made_up (asked_by search.now) word.now) }
@@ -44,7 +49,8 @@ pub(crate) fn is_made_up(alloc: Global, search: &Search, word: &[char]) -> Resul
 
 /// The rows of all places inside a word.
 fn rows_of(alloc: Global, search: &Search, word: &[char]) -> Result<Vec<Row>, NoMemory>
-    ensures rows { IfOk result (λ rows. AreRows (asked_by search.now) (patterns_of search.now) word.now 0 rows.items) }
+    ensures rows { IfOk result
+        (λ rows. AreRows (asked_by search.now) (patterns_of search.now) word.now 0 rows.items) }
     ensures fits { length word.now ≤ 2 ^ 64 - 1 }
 {
     let mut rows = Vec::new(alloc);
@@ -75,7 +81,9 @@ fn rests_from(
     requires within { from < length word.now }
     requires fits { length word.now ≤ 2 ^ 64 - 1 }
     requires rows { AreRows (asked_by search.now) (patterns_of search.now) word.now from rows.now }
-    ensures { IfOk result (IsRow (asked_by search.now) (patterns_of search.now) (take from word.now) (drop from word.now)) }
+    ensures { IfOk result
+        (IsRow (asked_by search.now) (patterns_of search.now) (take from word.now)
+        (drop from word.now)) }
 {
     let mut row = Items::new(alloc);
     let lexicon = search.lexicon();
@@ -111,8 +119,12 @@ fn add_before_rows<'a>(
     requires front { IsFrontOf here (take from word.now) }
     requires before { start.now.before.now ≡ take from word.now }
     requires fronts { AreFronts search.now.stems.now start.now.before.now start.now.fronts.items }
-    ensures grows { OnOk result (Grows (asked_by search.now) (patterns_of search.now) here (drop from word.now) row.old row.new) }
-    ensures all { OnOk result (HasInner (asked_by search.now) (patterns_of search.now) here (take from word.now) (drop from word.now) row.new) }
+    ensures grows { OnOk result
+        (Grows (asked_by search.now) (patterns_of search.now) here (drop from word.now) row.old
+        row.new) }
+    ensures all { OnOk result
+        (HasInner (asked_by search.now) (patterns_of search.now) here (take from word.now)
+        (drop from word.now) row.new) }
 {
     patterns_match();
     for behind in rows {
@@ -137,9 +149,13 @@ fn add_last<'a>(
     row: &mut Items<FirstPart>,
 ) -> Result<(), NoMemory>
     requires { AreFronts search.now.stems.now start.now.before.now start.now.fronts.items }
-    ensures grows { OnOk result (Grows (asked_by search.now) (patterns_of search.now) Place.Middle text.now row.old row.new) }
-    ensures has { OnOk result (HasFirsts (asked_by search.now) (patterns_of search.now) Place.Middle text.now
-        (record { before = start.now.before.now; front = text.now; following = []; rests = [] }) row.new) }
+    ensures grows { OnOk result
+        (Grows (asked_by search.now) (patterns_of search.now) Place.Middle text.now row.old
+        row.new) }
+    ensures has { OnOk result
+        (HasFirsts (asked_by search.now) (patterns_of search.now) Place.Middle text.now
+        (record { before = start.now.before.now; front = text.now; following = []; rests = [] })
+        row.new) }
 {
     patterns_match();
     let behind = Behind {
@@ -171,15 +187,27 @@ fn add_before(
     piece: &Piece,
     row: &mut Items<FirstPart>,
 ) -> Result<(), NoMemory>
-    requires row { IsRow (asked_by search.now) (patterns_of search.now) (piece.now.start.now.before.now ++ piece.now.text.now) piece.now.following.now piece.now.rests.now }
+    requires row { IsRow (asked_by search.now) (patterns_of search.now)
+        (piece.now.start.now.before.now ++ piece.now.text.now) piece.now.following.now
+        piece.now.rests.now }
     requires enough { AreHeads piece.now.rests.now piece.now.heads.now }
     requires some { 0 < length piece.now.following.now }
     requires fits { length (piece.now.text.now ++ piece.now.following.now) ≤ 2 ^ 64 - 1 }
     requires front { IsFrontOf here piece.now.start.now.before.now }
-    requires fronts { AreFronts search.now.stems.now piece.now.start.now.before.now piece.now.start.now.fronts.items }
-    ensures grows { OnOk result (Grows (asked_by search.now) (patterns_of search.now) here (piece.now.text.now ++ piece.now.following.now) row.old row.new) }
-    ensures has { OnOk result (HasFirsts (asked_by search.now) (patterns_of search.now) here (piece.now.text.now ++ piece.now.following.now)
-        (record { before = piece.now.start.now.before.now; front = piece.now.text.now; following = piece.now.following.now; rests = piece.now.rests.now }) row.new) }
+    requires fronts { AreFronts search.now.stems.now piece.now.start.now.before.now
+        piece.now.start.now.fronts.items }
+    ensures grows { OnOk result
+        (Grows (asked_by search.now) (patterns_of search.now) here
+        (piece.now.text.now ++ piece.now.following.now) row.old row.new) }
+    ensures has { OnOk result
+        (HasFirsts (asked_by search.now) (patterns_of search.now) here
+        (piece.now.text.now ++ piece.now.following.now)
+        (record {
+          before = piece.now.start.now.before.now;
+          front = piece.now.text.now;
+          following = piece.now.following.now;
+          rests = piece.now.rests.now;
+        }) row.new) }
 {
     patterns_match();
     let mut parts = parts_of(alloc, search, piece)?;
@@ -222,8 +250,9 @@ fn has_part(rests: &[FirstPart], from: usize, part: &Part) -> bool
     false
 }
 
-/// Adds the rest that begins with a part, if there is one, and if that part is not there already: several rows of
-/// CHECKCOMPOUNDPATTERN may make it. It is looked for behind so many rests, which are of other pieces.
+/// Adds the rest that begins with a part, if there is one, and if that part is not there already:
+/// several rows of CHECKCOMPOUNDPATTERN may make it. It is looked for behind so many rests, which
+/// are of other pieces.
 fn add(
     alloc: Global,
     search: &Search,
@@ -233,7 +262,9 @@ fn add(
     known: usize,
     row: &mut Items<FirstPart>,
 ) -> Result<(), NoMemory>
-    ensures { OnOk result (IsAddedOnce (asked_by search.now) (patterns_of search.now) place part behind.now row.old row.new) }
+    ensures { OnOk result
+        (IsAddedOnce (asked_by search.now) (patterns_of search.now) place part behind.now row.old
+        row.new) }
 {
     if has_part(row, known, &part) {
         return Ok(());
@@ -250,7 +281,9 @@ fn add_new(
     behind: &Behind,
     row: &mut Items<FirstPart>,
 ) -> Result<(), NoMemory>
-    ensures { OnOk result (IsAdded (asked_by search.now) (patterns_of search.now) place part behind.now row.old row.new) }
+    ensures { OnOk result
+        (IsAdded (asked_by search.now) (patterns_of search.now) place part behind.now row.old
+        row.new) }
 {
     if let Some(rest) = rest_with(alloc, search, place, part, behind)? {
         row.push(rest)?;
@@ -266,7 +299,8 @@ fn followers<'a>(
     piece: &Piece<'a>,
 ) -> Result<Vec<&'a FirstPart>, NoMemory>
     ensures { IfOk result (λ found. rests_at found.items
-        ≡ filter (may_precede (asked_by search.now) part.now) (picked piece.now.rests.now piece.now.heads.now)) }
+        ≡ filter (may_precede (asked_by search.now) part.now)
+        (picked piece.now.rests.now piece.now.heads.now)) }
 {
     let mut found = Vec::new(alloc);
     for place in piece.heads {
@@ -295,7 +329,8 @@ fn has_few(search: &Search, rest: &FirstPart) -> bool
 
 /// Whether a rule matches few enough parts, from its first step on.
 fn rule_has_few(search: &Search, numbers: &[Numbers]) -> bool
-    ensures { result ≡ list_any (λ own. is_few (asked_by search.now) (number_at own 0)) numbers.now }
+    ensures { result ≡ list_any (λ own. is_few (asked_by search.now) (number_at own 0))
+        numbers.now }
 {
     numbers.iter().any(|own| is_few(search, number_at(own, 0)))
 }

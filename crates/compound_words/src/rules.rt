@@ -27,8 +27,10 @@ pub(crate) fn numbers_of(alloc: Global, entries: &[Entry]) -> Result<Numbers, No
 
 /// Adds the numbers of flags.
 fn add_numbers(numbers: &mut Numbers, flags: &[Flag]) -> Result<(), NoMemory>
-    ensures there { OnOk result (AllByRecursion (λ flag. has_number numbers.new flag ≡ true) flags.now) }
-    ensures kept { (flag : Flag) → has_number numbers.old flag ≡ true → OnOk result (has_number numbers.new flag ≡ true) }
+    ensures there { OnOk result
+        (AllByRecursion (λ flag. has_number numbers.new flag ≡ true) flags.now) }
+    ensures kept { (flag : Flag) → has_number numbers.old flag ≡ true
+        → OnOk result (has_number numbers.new flag ≡ true) }
 {
     for flag in flags {
         add_number(numbers, *flag)?;
@@ -38,13 +40,15 @@ fn add_numbers(numbers: &mut Numbers, flags: &[Flag]) -> Result<(), NoMemory>
 
 fn add_number(numbers: &mut Numbers, flag: Flag) -> Result<(), NoMemory>
     ensures there { OnOk result (has_number numbers.new flag ≡ true) }
-    ensures kept { (other : Flag) → has_number numbers.old other ≡ true → OnOk result (has_number numbers.new other ≡ true) }
+    ensures kept { (other : Flag) → has_number numbers.old other ≡ true
+        → OnOk result (has_number numbers.new other ≡ true) }
 {
     numbers.insert(flag.0)?;
     Ok(())
 }
 
-/// Copies of the rules that have a step whose flag is among those with these numbers. The others match no part.
+/// Copies of the rules that have a step whose flag is among those with these numbers. The others
+/// match no part.
 pub(crate) fn rules_with(
     alloc: Global,
     numbers: &Numbers,

@@ -1,10 +1,12 @@
 //! Of what compounds are asked, and the parts that there are.
 
-ghost use Rattle.std.specs.Prelude.{◌≡◌, ◌<◌, ◌+◌, ◌++◌, ℕ, List, Some, true, nat_lt, length, IfOk, OnOk, filter, map};
+ghost use Rattle.std.specs.Prelude.{◌≡◌, ◌<◌, ◌+◌, ◌++◌, ℕ, List, Some, true, nat_lt, length, IfOk};
+ghost use Rattle.std.specs.Prelude.{OnOk, filter, map};
 ghost use Rattle.spell_types.specs.declared.derivations.Derivation.{Derivation};
 ghost use Rattle.spell_types.specs.Derivations.{form_of};
 ghost use Rattle.affix_strip.specs.Found.{derivations_of};
-ghost use Rattle.spell_types.specs.Compounds.{are_joined, may_be_part, part_with, is_right_in_case, may_end};
+ghost use Rattle.spell_types.specs.Compounds.{are_joined, may_be_part, part_with, is_right_in_case};
+ghost use Rattle.spell_types.specs.Compounds.{may_end};
 ghost use Rattle.spell_types.specs.Joints.{is_same_joint, plain_joint};
 ghost use Rattle.spell_types.specs.Sanity.{IsSane};
 ghost use Rattle.compound_words.specs.Rests.{asked_by};
@@ -42,7 +44,8 @@ impl Search<'_> {
         self.lexicon();
     }
 
-    /// Whether a compound may have a derivation with this text as a part, of which joints take so much off.
+    /// Whether a compound may have a derivation with this text as a part, of which joints take so
+    /// much off.
     fn may_be_part(
         &self,
         text: &[char],
@@ -50,7 +53,8 @@ impl Search<'_> {
         off_begin: usize,
         joint: &WrittenJoint,
     ) -> bool
-        ensures { result ≡ may_be_part (asked_by self.now) (part_with off_begin joint.now d.now text.now) }
+        ensures { result ≡ may_be_part (asked_by self.now)
+            (part_with off_begin joint.now d.now text.now) }
     {
         is_long_enough(self.lexicon(), text)
             && sound(self.lexicon(), d)
@@ -92,7 +96,8 @@ impl Search<'_> {
 
     /// Whether a text of so many characters is longer than every form of the dictionary.
     pub(crate) fn is_too_long(&self, count: usize) -> bool
-        ensures { result ≡ true → (d : Derivation) (text : List ℕ) → form_of self.now.stems.now d ≡ Some text → length text < count }
+        ensures { result ≡ true → (d : Derivation) (text : List ℕ)
+            → form_of self.now.stems.now d ≡ Some text → length text < count }
     {
         self.stems.is_too_long(count)
     }
@@ -119,7 +124,8 @@ impl Search<'_> {
         found: &mut Vec<Part>,
     ) -> Result<(), NoMemory>
         ensures { OnOk result (found.new.items ≡ found.old.items
-            ++ filter (may_be_part (asked_by self.now)) (map (λ d. part_with off_begin joint.now d text.now) derivations.now)) }
+            ++ filter (may_be_part (asked_by self.now))
+            (map (λ d. part_with off_begin joint.now d text.now) derivations.now)) }
     {
         for d in derivations {
             if self.may_be_part(text, d, off_begin, joint) {

@@ -1,5 +1,8 @@
 -- A command does what its event makes of the board, and each refusal of such an event has a reply.
-use Rattle.std.proofs.Common.{◌≡◌, ◌∙◌, inl, inr, refl, sym, ap, subst, ℕ, suc, ◌+◌, ◌*◌, ◌<◌, ◌≤◌, ◌^◌, ◌==◌, Bool, true, false, cond, List, [], ◌∷◌, ◌++◌, length, map, set, take, drop, get_or, position, slice_get, ltb, leb, Option, None, Some, Result, Ok, Err, IfOk, append-nil, arith}
+use Rattle.std.proofs.Common.{◌≡◌, ◌∙◌, inl, inr, refl, sym, ap, subst, ℕ, suc, ◌+◌, ◌*◌, ◌<◌, ◌≤◌}
+use Rattle.std.proofs.Common.{◌^◌, ◌==◌, Bool, true, false, cond, List, [], ◌∷◌, ◌++◌, length, map}
+use Rattle.std.proofs.Common.{set, take, drop, get_or, position, slice_get, ltb, leb, Option, None}
+use Rattle.std.proofs.Common.{Some, Result, Ok, Err, IfOk, append-nil, arith}
 use Rattle.std.proofs.Math.Seq.{drop-length}
 use Rattle.std.specs.List.{count_by, insert, position_or_len, remove}
 use Rattle.std.specs.Option.{option_map, option_map_or, option_or}
@@ -11,16 +14,23 @@ use Rattle.std.proofs.lemmas.List.{length-map, map-set, set_split, take-append-d
 use Rattle.std.proofs.lemmas.List.Elements.{All-from_recursion}
 use Rattle.std.proofs.lemmas.List.Folds.{find_at}
 use Rattle.std.proofs.lemmas.List.Quantifiers.{position-Some}
-use Rattle.std.proofs.lemmas.Option.{cond_some, gets, none-some, option_and_then_some, same_Some, slice_get-get_or, slice_get-map, slice_get_past, slice_get_within}
+use Rattle.std.proofs.lemmas.Option.{cond_some, gets, none-some, option_and_then_some, same_Some}
+use Rattle.std.proofs.lemmas.Option.{slice_get-get_or, slice_get-map, slice_get_past}
+use Rattle.std.proofs.lemmas.Option.{slice_get_within}
 use Rattle.std.proofs.lemmas.Str.{IsCharBoundary-start}
 use Rattle.lists.specs.Laws.{map-insert, map-remove}
 use Rattle.outside.specs.Files.{Folder}
 use Rattle.console_lang.specs.declared.command.Command.{Command}
-use Rattle.console_lang.specs.declared.command.Command.TheVariants.{Ins, Put, Sub, Del, Stop, Ask, Load, Show, Settle, Quit}
+use Rattle.console_lang.specs.declared.command.Command.TheVariants.{Ins, Put, Sub, Del, Stop, Ask}
+use Rattle.console_lang.specs.declared.command.Command.TheVariants.{Load, Show, Settle, Quit}
 use Rattle.console_lang.specs.declared.reply.Reply.{Reply}
-use Rattle.console_lang.specs.declared.reply.Reply.TheVariants.{Done, NoPlace, NoBadSpan, NoTooLong, NoFull, NoFinished, NoParked, NoNotParked}
+use Rattle.console_lang.specs.declared.reply.Reply.TheVariants.{Done, NoPlace, NoBadSpan, NoTooLong}
+use Rattle.console_lang.specs.declared.reply.Reply.TheVariants.{NoFull, NoFinished, NoParked}
+use Rattle.console_lang.specs.declared.reply.Reply.TheVariants.{NoNotParked}
 use Rattle.paragraph_text.specs.Paragraphs.{Paragraph, HasNoBreak}
-use Rattle.paragraph_text.specs.Edits.{Applies, BeginsWith, break_in, first_refusal as edit_refusal, gone_before, is_span, spliced, unless as unless_edit, with_id}
+use Rattle.paragraph_text.specs.Edits.{Applies, BeginsWith, break_in, first_refusal as edit_refusal}
+use Rattle.paragraph_text.specs.Edits.{gone_before, is_span, spliced, unless as unless_edit}
+use Rattle.paragraph_text.specs.Edits.{with_id}
 use Rattle.paragraph_text.specs.declared.edits.Edit.{Edit}
 use Rattle.paragraph_text.specs.declared.edits.Edit.TheVariants.{Insert, Remove, Replace}
 use Rattle.paragraph_text.specs.declared.edits.EditRefusal.{EditRefusal}
@@ -28,16 +38,22 @@ use Rattle.paragraph_text.specs.declared.edits.EditRefusal.TheVariants as edits
 use Rattle.edit_core.specs.Events.{SeenEvent, AnEdit, AFinish, APark, AnAsk}
 use Rattle.edit_core.specs.Runs.{furthest_point, is_held, is_waiting}
 use Rattle.edit_core.specs.Seen.{Seen, IsValidBoard}
-use Rattle.edit_core.specs.Steps.{IsAt, IsDecided, IsFit, Makes, Moves, Step, event_refusal, first_refusal, found, kept_after, not_parked, place_of, refusal_of, settled, unless}
+use Rattle.edit_core.specs.Steps.{IsAt, IsDecided, IsFit, Makes, Moves, Step, event_refusal}
+use Rattle.edit_core.specs.Steps.{first_refusal, found, kept_after, not_parked, place_of}
+use Rattle.edit_core.specs.Steps.{refusal_of, settled, unless}
 use Rattle.edit_core.specs.declared.refusal.Refusal.{Refusal}
 use Rattle.edit_core.specs.declared.refusal.Refusal.TheVariants.{Gone, Spent}
 use Rattle.edit_core.specs.declared.state.Standing.{Standing}
 use Rattle.edit_core.specs.declared.state.Standing.TheVariants as standing
 use Rattle.edit_core.specs.Laws.{find-beside}
 use Rattle.paragraph_text.specs.Laws.{split-at}
-use Rattle.console_board.specs.BoardAnswers.{HasReply, IsAnswered, IsAsked, IsWholeAt, PutsWhole, event_for, gap_at, names_place, paragraph_at, reply_for}
+use Rattle.console_board.specs.BoardAnswers.{HasReply, IsAnswered, IsAsked, IsWholeAt, PutsWhole}
+use Rattle.console_board.specs.BoardAnswers.{event_for, gap_at, names_place, paragraph_at}
+use Rattle.console_board.specs.BoardAnswers.{reply_for}
 use Rattle.console_board.specs.Boards.{console_of, state_of}
-use Rattle.console_board.specs.Consoles.{Console, Outcome, TextState, Waiting, asked_from, at_place, index_of, inserted, remove_at, replace_at, splice_at, state_at, stopped_from, text_at}
+use Rattle.console_board.specs.Consoles.{Console, Outcome, TextState, Waiting, asked_from, at_place}
+use Rattle.console_board.specs.Consoles.{index_of, inserted, remove_at, replace_at, splice_at}
+use Rattle.console_board.specs.Consoles.{state_at, stopped_from, text_at}
 use Rattle.console_board.specs.Transcripts.{IsReplyTo, HasWholeText, HasOutcome}
 use Rattle.edit_core.specs.declared.limits.TheConstants.{MOST_MOVED}
 use Rattle.paragraph_text.specs.declared.limits.TheConstants.{MOST_BYTES, MOST_PARAGRAPHS}
@@ -142,7 +158,8 @@ all-spliced text put = ap (λ rest. put ++ rest) (drop-length text) ∙ append-n
 abbrev edited : Console → List (List ℕ) → List TextState → Outcome
 edited console texts stands = record {
   reply = Done (console.text_version + 1);
-  after = record console { text_version = console.text_version + 1; texts = texts; states = stands };
+  after = record console
+      { text_version = console.text_version + 1; texts = texts; states = stands };
 }
 
 module _ (told : Option Folder) (by : ℕ) (board after : Seen) (reply : Reply) where
@@ -204,7 +221,8 @@ module _ (told : Option Folder) (by : ℕ) (board after : Seen) (reply : Reply) 
       replied said (sym says ∙ answered.0) answered.1
 
   -- an edit that is taken makes these paragraphs, and no others
-  taken : (edit : Edit) (paragraphs : List Paragraph) (texts : List (List ℕ)) (stands : List TextState)
+  taken : (edit : Edit) (paragraphs : List Paragraph) (texts : List (List ℕ))
+      (stands : List TextState)
       → Told (AnEdit by edit) None
       → Applies (board.text_version + 1) board.next_id board.paragraphs edit paragraphs
       → map (λ paragraph. paragraph.text) paragraphs ≡ texts
@@ -257,14 +275,16 @@ module _ (told : Option Folder) (by : ℕ) (board after : Seen) (reply : Reply) 
         let text = paragraph.text in
         let made = spliced text from to put in
         let inside = slice_get_within board.paragraphs index paragraph here.at.paragraph_is in
-        let changed : Paragraph = record { id = paragraph.id; rev = board.text_version + 1; text = made } in
+        let changed : Paragraph =
+        record { id = paragraph.id; rev = board.text_version + 1; text = made } in
         rw text-here (
         tested event (is_span text from to) (edits.BadSpan (length text)) (NoBadSpan (length text))
         _ _ refl (rw (here.named, own-rev) at answered)
         (λ span rest. last-tested event (leb (length made) MOST_BYTES) (edits.TooLong (length made))
         (NoTooLong (length made)) _ refl (past-break event _ _ rest)
         (λ short is. taken (Replace paragraph.id paragraph.rev from to put)
-        (set board.paragraphs index changed) (set console.texts index made) (set console.states index Waiting) is
+        (set board.paragraphs index changed) (set console.texts index made)
+        (set console.states index Waiting) is
         (record {
           front = take index board.paragraphs;
           touched = paragraph;
@@ -370,7 +390,8 @@ module _ (told : Option Folder) (by : ℕ) (board after : Seen) (reply : Reply) 
               kept = λ put. rw here.at.place_is;
             }
         with-found None at =
-            let last : index ≡ length board.paragraphs = grind (arith, common_steps, gets) in record {
+            let last : index ≡ length board.paragraphs =
+            grind (arith, common_steps, gets) in record {
               begins = rw last (drop-length board.paragraphs);
               gone = refl;
               kept = λ put. rw last refl;
@@ -386,16 +407,19 @@ module _ (told : Option Folder) (by : ℕ) (board after : Seen) (reply : Reply) 
         let count = length board.paragraphs in
         let within = index-within place (count + 1) index place-is in
         let gap = subst (IsGap board index) same (gap-is index within) in
-        let new : Paragraph = record { id = board.next_id; rev = board.text_version + 1; text = put } in
+        let new : Paragraph =
+        record { id = board.next_id; rev = board.text_version + 1; text = put } in
         let texts = insert console.texts index put in
         let stands = insert console.states index Waiting in
         let no-room : Outcome = record { reply = NoFull count; after = console } in
         let long = length-map board.paragraphs (λ p. p.text) in
         rw (long, place-is, long) (
-        tested event (leb (length put) MOST_BYTES) (edits.TooLong (length put)) (NoTooLong (length put))
+        tested event (leb (length put) MOST_BYTES) (edits.TooLong (length put))
+        (NoTooLong (length put))
         _ (cond (ltb count MOST_PARAGRAPHS) (edited console texts stands) no-room) refl
         (past-break event _ _ (rw gap.gone at answered))
-        (λ short rest. last-tested event (ltb count MOST_PARAGRAPHS) (edits.Full count) (NoFull count)
+        (λ short rest. last-tested event (ltb count MOST_PARAGRAPHS) (edits.Full count)
+        (NoFull count)
         (edited console texts stands) refl rest
         (λ room is. taken (Insert before put) (insert board.paragraphs index new) texts stands is
         (record {

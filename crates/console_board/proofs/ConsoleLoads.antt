@@ -1,5 +1,6 @@
 -- What a load makes of a console.
-use Rattle.std.proofs.Common.{◌≡◌, ◌∙◌, inl, inr, refl, sym, ap, subst, ℕ, ◌+◌, ◌⊎◌, ⊎_elim, List, [], ◌∷◌, map, Option, None, Some, Result, Ok, Err}
+use Rattle.std.proofs.Common.{◌≡◌, ◌∙◌, inl, inr, refl, sym, ap, subst, ℕ, ◌+◌, ◌⊎◌, ⊎_elim, List}
+use Rattle.std.proofs.Common.{[], ◌∷◌, map, Option, None, Some, Result, Ok, Err}
 use Rattle.std.specs.Prelude.{IfSome}
 use Rattle.console_lang.specs.declared.reply.Reply.{Reply}
 use Rattle.console_lang.specs.declared.reply.Reply.TheVariants.{Dict}
@@ -31,14 +32,16 @@ pub load-is : {board after : Seen} {lexicon : Lexicon} → Step board (ALoad lex
 load-is {board} {after} {lexicon} step = (
   ap (λ (b : Seen). Dict b.dict_version) step.makes,
   ap console_of step.makes
-      ∙ ap (λ stands. record (console_of board) { dict_version = board.dict_version + 1; lexicon = lexicon; states = stands })
+      ∙ ap (λ stands. record (console_of board)
+      { dict_version = board.dict_version + 1; lexicon = lexicon; states = stands })
       (stands-reloaded board.standings),
 )
 
 -- ---- what is due of two files
 
 -- a result is due of some files, and of those of the folder that is told, where one is
-pub record IsDue (told : Option Folder) (aff dic : List ℕ) (result : Result Lexicon LoadFault) : Type 0 where
+pub record IsDue (told : Option Folder) (aff dic : List ℕ)
+    (result : Result Lexicon LoadFault) : Type 0 where
   pub found : (there : DictionaryFiles)
       × GivesDue MayCome (λ speller. speller) (lexicon_due there) result
   pub told_is : IfSome told (λ folder.
@@ -52,11 +55,18 @@ found-files None due = (due.found.0, tt, due.found.1)
 found-files (Some folder) {aff} {dic} due = (found_in folder aff dic, refl, due.told_is)
 
 -- a dictionary that is read comes into force
-pub loads-read : {told : Option Folder} {before after : Console} {aff dic : List ℕ} {reply : Reply} {lexicon : Lexicon}
-    → IsDue told aff dic (Ok lexicon) → HasOutcome (loaded before lexicon) reply after → Loads told before aff dic reply after
+pub loads-read : {told : Option Folder} {before after : Console} {aff dic : List ℕ} {reply : Reply}
+    {lexicon : Lexicon}
+    → IsDue told aff dic (Ok lexicon) → HasOutcome (loaded before lexicon) reply after
+    → Loads told before aff dic reply after
 loads-read {told} {before} {after} {reply = reply} due is =
     let files = found-files told due in
-    inl (files.0, files.1, subst (λ read. HasOutcome (load_outcome before read) reply after) (sym files.2) is)
+    inl (
+      files.0,
+      files.1,
+      subst (λ read. HasOutcome (load_outcome before read) reply after)
+          (sym files.2) is,
+    )
 
 -- a fault that is not of memory is of files that failed, or it is what is due
 failed-or-due : {due : Result Lexicon LoadFault} (fault : LoadFault) → ¬ (fault ≡ NoMemory)
@@ -67,11 +77,18 @@ failed-or-due NoMemory other (inl comes) = absurd (other refl)
 failed-or-due _ other (inl comes) = absurd comes
 
 -- what is wrong with the files is told, and nothing changes
-pub faults-load : {told : Option Folder} {before after : Console} {aff dic : List ℕ} {fault : LoadFault} {reply : Reply}
-    → IsDue told aff dic (Err fault) → ¬ (fault ≡ NoMemory) → reply ≡ fault_reply fault → after ≡ before
+pub faults-load : {told : Option Folder} {before after : Console} {aff dic : List ℕ}
+    {fault : LoadFault} {reply : Reply}
+    → IsDue told aff dic (Err fault) → ¬ (fault ≡ NoMemory) → reply ≡ fault_reply fault
+    → after ≡ before
     → Loads told before aff dic reply after
 faults-load {told} {before} {after} {fault = fault} {reply} due other is stays =
     let files = found-files told due in
     ⊎_elim (λ failed. inr (is ∙ ap fault_reply failed, stays))
-    (λ read. inl (files.0, files.1, subst (λ read. HasOutcome (load_outcome before read) reply after) (sym read) (is, stays)))
+    (λ read. inl (
+      files.0,
+      files.1,
+      subst (λ read. HasOutcome (load_outcome before read) reply after)
+          (sym read) (is, stays),
+    ))
     (failed-or-due fault other files.2)

@@ -1,5 +1,8 @@
 -- What comes of one line, and where lines have led that one more follows.
-use Rattle.std.proofs.Common.{◌≡◌, ◌∙◌, refl, sym, ap, subst, inl, inr, ◌↔◌, ℕ, ◌+◌, ◌-◌, ◌/◌, ◌^◌, ◌≤◌, Bool, true, false, cond, List, [], ◌∷◌, ◌++◌, append_assoc, length, codes, Option, Some, None, Result, Ok, Err, if◌then◌else◌, arith}
+use Rattle.std.proofs.Common.{◌≡◌, ◌∙◌, refl, sym, ap, subst, inl, inr, ◌↔◌, ℕ, ◌+◌, ◌-◌, ◌/◌, ◌^◌}
+use Rattle.std.proofs.Common.{◌≤◌, Bool, true, false, cond, List, [], ◌∷◌, ◌++◌, append_assoc}
+use Rattle.std.proofs.Common.{length, codes, Option, Some, None, Result, Ok, Err, if◌then◌else◌}
+use Rattle.std.proofs.Common.{arith}
 use Rattle.std.specs.List.{cons_option}
 use Rattle.std.specs.Str.{is_utf8}
 use Rattle.std.proofs.lemmas.Grind.{flat_map-append}
@@ -22,22 +25,28 @@ use Rattle.input_lines.specs.declared.limits.TheConstants.{LINE_LIMIT}
 use Rattle.console_board.specs.Boards.{lines_left}
 use Rattle.console_board.specs.Consoles.{Console}
 use Rattle.console_board.specs.Starts.{asked-nothing}
-use Rattle.console_board.specs.Transcripts.{Answers, HasWholeText, IsReplied, IsRepliedTo, asked_by, asked_for, failures_in, is_no_files, is_quit, line_says, quits, written_of}
+use Rattle.console_board.specs.Transcripts.{Answers, HasWholeText, IsReplied, IsRepliedTo, asked_by}
+use Rattle.console_board.specs.Transcripts.{asked_for, failures_in, is_no_files, is_quit, line_says}
+use Rattle.console_board.specs.Transcripts.{quits, written_of}
 use Rattle.edit_core.specs.declared.limits.TheConstants.{MOST_MOVED}
 
 -- ---- what a line says
 
--- what the law of the console's words says: a line is read as a command exactly where it is one of the command's lines
+-- what the law of the console's words says: a line is read as a command exactly where it is one of
+-- the command's lines
 abbrev pub HaveTheirLines : Type 0
-HaveTheirLines = (command : Command) (line : List ℕ) → (command_of line ≡ Some command) ↔ IsLineOf command line
+HaveTheirLines =
+    (command : Command) (line : List ℕ) → (command_of line ≡ Some command) ↔ IsLineOf command line
 
 -- a line that says a command is one of the command's lines
-line-of : HaveTheirLines → (line : List ℕ) {asked : Command} → line_says line ≡ Ok (Some asked) → IsLineOf asked line
+line-of : HaveTheirLines → (line : List ℕ) {asked : Command} → line_says line ≡ Ok (Some asked)
+    → IsLineOf asked line
 line-of theirs line {asked} says =
     (theirs asked line).0 (by (is_utf8 line) (is_blank_line line) (command_of line) says)
   where
     by : (text blank : Bool) (found : Option Command)
-        → (if text then (if blank then Ok None else or_bad found) else Err BadCommand) ≡ Ok (Some asked)
+        → (if text then (if blank then Ok None else or_bad found) else Err BadCommand)
+        ≡ Ok (Some asked)
         → found ≡ Some asked
     by true false (Some other) is = cc
     by true false None is = absurd (cc)
@@ -45,7 +54,8 @@ line-of theirs line {asked} says =
     by false blank found is = absurd (cc)
 
 -- what ends the console is `quit`
-quits-quit : (says : Result (Option Command) CommandFault) → quits says ≡ true → says ≡ Ok (Some command.Quit)
+quits-quit : (says : Result (Option Command) CommandFault) → quits says ≡ true
+    → says ≡ Ok (Some command.Quit)
 quits-quit (Ok (Some command.Quit)) is = refl
 quits-quit _ is = absurd (cc)
 
@@ -55,7 +65,8 @@ other-goes-on command.Quit other = absurd (other refl)
 other-goes-on _ other = refl
 
 -- a line of `quit` has four bytes
-pub quit-is-short : HaveTheirLines → (line : List ℕ) → is_quit line ≡ true → length line ≤ LINE_LIMIT
+pub quit-is-short : HaveTheirLines → (line : List ℕ) → is_quit line ≡ true
+    → length line ≤ LINE_LIMIT
 quit-is-short theirs line is =
     let four = ap length (line-of theirs line (quits-quit (line_says line) is)) in
     omega arith
@@ -67,8 +78,10 @@ no-break-back : (front back : List ℕ) → HasNoBreak (front ++ back) → HasNo
 no-break-back [] back whole = whole
 no-break-back (byte ∷ front) back whole = no-break-back front back whole.1
 
-text-no-break : {text tail : List ℕ} (front : List ℕ) → IsTail text tail → HasNoBreak (front ++ tail) → HasNoBreak text
-text-no-break {tail = tail} front (inl spaced) whole = (subst HasNoBreak spaced (no-break-back front tail whole)).1
+text-no-break : {text tail : List ℕ} (front : List ℕ) → IsTail text tail
+    → HasNoBreak (front ++ tail) → HasNoBreak text
+text-no-break {tail = tail} front (inl spaced) whole =
+    (subst HasNoBreak spaced (no-break-back front tail whole)).1
 text-no-break front (inr none) whole = subst HasNoBreak (sym none.0) tt
 
 -- no text of a command has a line feed that its line has not
@@ -76,9 +89,11 @@ pub whole-text : HaveTheirLines → (line : List ℕ) {asked : Command} → HasN
     → line_says line ≡ Ok (Some asked) → HasWholeText asked
 whole-text theirs line {asked} whole says = by asked (line-of theirs line says)
   where
-    placed : {name : List ℕ} {place : ℕ} {text : List ℕ} → IsPlacedText name place text line → HasNoBreak text
+    placed : {name : List ℕ} {place : ℕ} {text : List ℕ} → IsPlacedText name place text line
+        → HasNoBreak text
     placed {name} is =
-        let parts : line ≡ (name ++ (codes " " ++ is.digits)) ++ is.tail = rw is.line_is (simp append_assoc) in
+        let parts : line ≡ (name ++ (codes " " ++ is.digits)) ++ is.tail =
+        rw is.line_is (simp append_assoc) in
         text-no-break (name ++ (codes " " ++ is.digits)) is.ends (subst HasNoBreak parts whole)
 
     by : (asked : Command) → IsLineOf asked line → HasWholeText asked
@@ -86,7 +101,10 @@ whole-text theirs line {asked} whole says = by asked (line-of theirs line says)
     by (command.Put place text) is = placed is
     by (command.Sub place from to text) is =
         let front : List ℕ =
-        codes "sub" ++ (codes " " ++ (is.place_digits ++ (codes " " ++ (is.from_digits ++ (codes " " ++ is.to_digits))))) in
+        codes "sub"
+        ++ (codes " "
+        ++ (is.place_digits ++ (codes " " ++ (is.from_digits ++ (codes " " ++ is.to_digits)))))
+        in
         let parts : line ≡ front ++ is.tail = rw is.line_is (simp append_assoc) in
         text-no-break front is.ends (subst HasNoBreak parts whole)
     by _ is = tt
@@ -94,35 +112,47 @@ whole-text theirs line {asked} whole says = by asked (line-of theirs line says)
 -- ---- what lines ask for
 
 -- lines ask for what each part of them asks for
-asked-append : (lines later : List (List ℕ)) → asked_by (lines ++ later) ≡ asked_by lines ++ asked_by later
+asked-append : (lines later : List (List ℕ)) → asked_by (lines ++ later) ≡ asked_by lines
+    ++ asked_by later
 unfolding asked_by
 asked-append lines later = filter_map-append (λ line. asked_for (line_says line)) lines later
 
 -- a line asks for what it says
-pub asked-line : (line : List ℕ) {said : Result (Option Command) CommandFault} → line_says line ≡ said
+pub asked-line : (line : List ℕ) {said : Result (Option Command) CommandFault}
+    → line_says line ≡ said
     → asked_by (line ∷ []) ≡ cons_option (asked_for said) []
 unfolding asked_by
 asked-line line says = ap (λ said. cons_option (asked_for said) []) says
 
 -- what is replied to some commands, and then to others
-answers-append : (told : Option Folder) (before middle after : Console) (commands others : List (Option Command))
+answers-append : (told : Option Folder) (before middle after : Console)
+    (commands others : List (Option Command))
     (replies more : List Reply)
     → Answers 0 told before commands replies middle → Answers 0 told middle others more after
     → Answers 0 told before (commands ++ others) (replies ++ more) after
-answers-append told before middle after [] others replies more first later = rw (first.0, ← first.1) later
-answers-append told before middle after (command ∷ commands) others [] more first later = absurd first
-answers-append told before middle after (command ∷ commands) others (reply ∷ replies) more first later = (
-  first.0,
-  first.1,
-  (first.2.0, first.2.1, answers-append told first.2.0 middle after commands others replies more first.2.2 later),
-)
+answers-append told before middle after [] others replies more first later =
+    rw (first.0, ← first.1) later
+answers-append told before middle after (command ∷ commands) others [] more first later =
+    absurd first
+answers-append told before middle after (command ∷ commands) others (reply ∷ replies) more first
+    later = (
+      first.0,
+      first.1,
+      (
+        first.2.0,
+        first.2.1,
+        answers-append told first.2.0 middle after commands others replies more
+            first.2.2 later,
+      ),
+    )
 
 -- ---- what is replied to lines
 
 -- a line that asks for no command was replied to, if at all, and nothing was done
 pub idle-replied : {told : Option Folder} {failed : ℕ} {console : Console} {line : List ℕ}
     {said : Result (Option Command) CommandFault} (replies : List Reply) → line_says line ≡ said
-    → Answers 0 told console (cons_option (asked_for said) []) replies console → failures_in replies ≡ 0
+    → Answers 0 told console (cons_option (asked_for said) []) replies console
+    → failures_in replies ≡ 0
     → IsRepliedTo told told failed failed console console (line ∷ []) (written_of replies)
 idle-replied {line = line} replies says answers none = record {
   replies = replies;
@@ -137,7 +167,8 @@ module _ {told told_now : Option Folder} {failed failed_now : ℕ} {before after
   pub line-replied : {line : List ℕ} {asked : Option Command} {text text_now : List ℕ}
       → asked_by (line ∷ []) ≡ asked ∷ [] → told_now ≡ told
       → (done : IsReplied told failed failed_now before after asked text text_now)
-      → IsRepliedTo told told_now failed failed_now before after (line ∷ []) (written_of (done.reply ∷ []))
+      → IsRepliedTo told told_now failed failed_now before after (line ∷ [])
+      (written_of (done.reply ∷ []))
   line-replied asks same done = record {
     replies = done.reply ∷ [];
     answers = rw asks (before, refl, (after, done.replies, (refl, refl)));
@@ -158,14 +189,17 @@ module _ {told told_now : Option Folder} {failed failed_now : ℕ} {before after
   }
 
   -- more lines were replied to behind some
-  pub replied-more : {first : Option Folder} {count : ℕ} {opening : Console} {lines more : List (List ℕ)}
+  pub replied-more : {first : Option Folder} {count : ℕ} {opening : Console}
+      {lines more : List (List ℕ)}
       {said added : List ℕ} → IsRepliedTo told told_now failed failed_now before after more added
       → IsRepliedTo first told count failed opening before lines said
       → IsRepliedTo first told_now count failed_now opening after (lines ++ more) (said ++ added)
   replied-more {first} {opening = opening} {lines} {more} later earlier =
-      let sum = sum_by-append (λ reply. cond (is_no_files reply) 1 0) earlier.replies later.replies in record {
+      let sum = sum_by-append (λ reply. cond (is_no_files reply) 1 0) earlier.replies
+      later.replies in record {
         replies = earlier.replies ++ later.replies;
-        answers = rw (asked-append lines more) (answers-append first opening before after (asked_by lines) (asked_by more)
+        answers = rw (asked-append lines more)
+            (answers-append first opening before after (asked_by lines) (asked_by more)
             earlier.replies later.replies earlier.answers (rw earlier.same at later.answers));
         text_is = (λ i. earlier.text_is i ++ later.text_is i)
             ∙ sym (flat_map-append reply_text earlier.replies later.replies);
@@ -187,5 +221,6 @@ pub one-taken : (before after : Seen) → furthest_point after ≤ furthest_poin
     → lines_left before ≤ lines_left after + 1
 one-taken before after far = by (2 ^ 62) (furthest_point before) (furthest_point after) far
   where
-    by : (most far later : ℕ) → later ≤ far + MOST_MOVED → (most - far) / MOST_MOVED ≤ (most - later) / MOST_MOVED + 1
+    by : (most far later : ℕ) → later ≤ far + MOST_MOVED
+        → (most - far) / MOST_MOVED ≤ (most - later) / MOST_MOVED + 1
     by most far later less = omega (arith, less)

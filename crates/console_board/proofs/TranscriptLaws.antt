@@ -1,5 +1,6 @@
 -- A transcript is determined, where nobody checks meanwhile and the files do not fail.
-use Rattle.std.proofs.Common.{◌≡◌, ◌∙◌, sym, ap, subst, inl, inr, ℕ, ◌+◌, Bool, true, false, cond, List, [], ◌∷◌, Option, Some, None, refl, arith}
+use Rattle.std.proofs.Common.{◌≡◌, ◌∙◌, sym, ap, subst, inl, inr, ℕ, ◌+◌, Bool, true, false, cond}
+use Rattle.std.proofs.Common.{List, [], ◌∷◌, Option, Some, None, refl, arith}
 use Rattle.std.proofs.lemmas.List.Sums.{sum_by-cons}
 use Rattle.dictionary_swap.specs.Loads.{found_in, lexicon_due}
 use Rattle.outside.specs.Files.{Folder}
@@ -8,13 +9,15 @@ use Rattle.console_lang.specs.declared.command.Command.{Command}
 use Rattle.console_lang.specs.declared.command.Command.TheVariants.{Load, Quit}
 use Rattle.console_lang.specs.declared.reply.Reply.{Reply}
 use Rattle.console_board.specs.Consoles.{Console, load_outcome, opened}
-use Rattle.console_board.specs.Transcripts.{HasOutcome, Loads, IsReplyTo, IsReplyToAsked, Answers, IsTranscript, asked_by, is_no_files, failures_in}
+use Rattle.console_board.specs.Transcripts.{HasOutcome, Loads, IsReplyTo, IsReplyToAsked, Answers}
+use Rattle.console_board.specs.Transcripts.{IsTranscript, asked_by, is_no_files, failures_in}
 
 -- where no files failed, none did at the first reply
 no-failure : (reply : Reply) (replies : List Reply) → failures_in (reply ∷ replies) ≡ 0
     → (is_no_files reply ≡ false) × (failures_in replies ≡ 0)
 no-failure reply replies none =
-    by (is_no_files reply) refl (sym (sum_by-cons (λ r. cond (is_no_files r) 1 0) reply replies) ∙ none)
+    by (is_no_files reply) refl (sym (sum_by-cons (λ r. cond (is_no_files r) 1 0) reply replies)
+    ∙ none)
   where
     by : (fails : Bool) → is_no_files reply ≡ fails → cond fails 1 0 + failures_in replies ≡ 0
         → (is_no_files reply ≡ false) × (failures_in replies ≡ 0)
@@ -27,14 +30,17 @@ module _ (folder : Folder) where
       → Loads (Some folder) before aff dic reply after → is_no_files reply ≡ false
       → HasOutcome (load_outcome before (lexicon_due (found_in folder aff dic))) reply after
   loads-are {before} {after} {reply = reply} (inl loaded) told =
-      subst (λ there. HasOutcome (load_outcome before (lexicon_due there)) reply after) loaded.1 loaded.2
+      subst (λ there. HasOutcome (load_outcome before (lexicon_due there)) reply after) loaded.1
+      loaded.2
   loads-are (inr failed) told =
       let same : true ≡ false = ap is_no_files (sym failed.0) ∙ told in
       absurd (cc)
 
   -- what is asked for determines the reply and the console behind it
-  replies-once : (before : Console) (asked : Option Command) {reply other : Reply} {after next : Console}
-      → IsReplyToAsked (Some folder) before asked reply after → IsReplyToAsked (Some folder) before asked other next
+  replies-once : (before : Console) (asked : Option Command) {reply other : Reply}
+      {after next : Console}
+      → IsReplyToAsked (Some folder) before asked reply after
+      → IsReplyToAsked (Some folder) before asked other next
       → is_no_files reply ≡ false → is_no_files other ≡ false → (reply ≡ other) × (after ≡ next)
   unfolding IsReplyTo
   replies-once before None is also told told_too = (is.0 ∙ sym also.0, is.1 ∙ sym also.1)
@@ -52,17 +58,23 @@ module _ (folder : Folder) where
       → failures_in replies ≡ 0 → failures_in others ≡ 0 → replies ≡ others
   answers-once before [] replies others after next is also none too = is.0 ∙ sym also.0
   answers-once before (command ∷ commands) [] others after next is also none too = absurd is
-  answers-once before (command ∷ commands) (reply ∷ replies) [] after next is also none too = absurd also
-  answers-once before (command ∷ commands) (reply ∷ replies) (other ∷ others) after next is also none too =
+  answers-once before (command ∷ commands) (reply ∷ replies) [] after next is also none too =
+      absurd also
+  answers-once before (command ∷ commands) (reply ∷ replies) (other ∷ others) after next is also
+      none too =
       let told = no-failure reply replies none in
       let told_too = no-failure other others too in
-      let same = replies-once before command (rw is.1 at is.2.1) (rw also.1 at also.2.1) told.0 told_too.0 in
+      let same = replies-once before command (rw is.1 at is.2.1) (rw also.1 at also.2.1) told.0
+      told_too.0 in
       let rest = rw (← same.1) at also.2.2 in
-      (λ i. same.0 i ∷ answers-once is.2.0 commands replies others after next is.2.2 rest told.1 told_too.1 i)
+      (λ i. same.0 i ∷ answers-once is.2.0 commands replies others after next is.2.2 rest told.1
+      told_too.1 i)
 
   -- a console that opens with a dictionary replies to lines in one way
   pub transcript-once : (lexicon : Lexicon) (lines : List (List ℕ)) (replies others : List Reply)
-      → IsTranscript 0 (Some folder) lexicon lines replies → IsTranscript 0 (Some folder) lexicon lines others
+      → IsTranscript 0 (Some folder) lexicon lines replies
+      → IsTranscript 0 (Some folder) lexicon lines others
       → failures_in replies ≡ 0 → failures_in others ≡ 0 → replies ≡ others
   transcript-once lexicon lines replies others is also =
-      answers-once (opened lexicon) (asked_by lines) replies others is.last also.last is.answers also.answers
+      answers-once (opened lexicon) (asked_by lines) replies others is.last also.last is.answers
+      also.answers

@@ -1,10 +1,14 @@
 -- Which event a command is over a board, and what is replied to it.
-use Rattle.std.specs.Prelude.{◌≡◌, ℕ, ◌+◌, Bool, true, false, length, map, slice_get, Option, None, Some, is_some, option_and_then}
+use Rattle.std.specs.Prelude.{◌≡◌, ℕ, ◌+◌, Bool, true, false, length, map, slice_get, Option, None}
+use Rattle.std.specs.Prelude.{Some, is_some, option_and_then}
 use Rattle.std.specs.Option.{ForSome, option_map, option_map_or}
 use Rattle.console_lang.specs.declared.command.Command.{Command}
-use Rattle.console_lang.specs.declared.command.Command.TheVariants.{Ins, Put, Sub, Del, Load, Stop, Ask, Show, Settle, Quit}
+use Rattle.console_lang.specs.declared.command.Command.TheVariants.{Ins, Put, Sub, Del, Load, Stop}
+use Rattle.console_lang.specs.declared.command.Command.TheVariants.{Ask, Show, Settle, Quit}
 use Rattle.console_lang.specs.declared.reply.Reply.{Reply}
-use Rattle.console_lang.specs.declared.reply.Reply.TheVariants.{Done, Shown, NoGone, NoBehind, NoBadSpan, NoTooLong, NoFull, NoFinished, NoParked, NoNotParked}
+use Rattle.console_lang.specs.declared.reply.Reply.TheVariants.{Done, Shown, NoGone, NoBehind}
+use Rattle.console_lang.specs.declared.reply.Reply.TheVariants.{NoBadSpan, NoTooLong, NoFull}
+use Rattle.console_lang.specs.declared.reply.Reply.TheVariants.{NoFinished, NoParked, NoNotParked}
 use Rattle.console_lang.specs.declared.reply.ShownPara.{ShownPara}
 use Rattle.console_lang.specs.declared.reply.ShownPara.TheVariants.{Pending, Finished as Checked}
 use Rattle.paragraph_text.specs.Paragraphs.{Paragraph, HasNoBreak}
@@ -15,19 +19,23 @@ use Rattle.edit_core.specs.Seen.{Seen}
 use Rattle.edit_core.specs.Steps.{Step}
 use Rattle.edit_core.specs.Views.{ShownMarks, Marked, Unmarked, view_of}
 use Rattle.edit_core.specs.declared.refusal.Refusal.{Refusal}
-use Rattle.edit_core.specs.declared.refusal.Refusal.TheVariants.{Gone, Behind, BadSpan, TooLong, Full, Finished, Parked, NotParked}
+use Rattle.edit_core.specs.declared.refusal.Refusal.TheVariants.{Gone, Behind, BadSpan, TooLong}
+use Rattle.edit_core.specs.declared.refusal.Refusal.TheVariants.{Full, Finished, Parked, NotParked}
 use Rattle.console_board.specs.Consoles.{index_of}
 
 -- ---- places, which count from 1
 
 -- the paragraph at a place
 abbrev pub paragraph_at : Seen → ℕ → Option Paragraph
-paragraph_at board place = option_and_then (slice_get board.paragraphs) (index_of place (length board.paragraphs))
+paragraph_at board place =
+    option_and_then (slice_get board.paragraphs) (index_of place (length board.paragraphs))
 
--- before which id a text is put in at a place, which may be one more than there are paragraphs: at the end it is none of them
+-- before which id a text is put in at a place, which may be one more than there are paragraphs: at
+-- the end it is none of them
 abbrev pub gap_at : Seen → ℕ → Option (Option ℕ)
 gap_at board place =
-    option_map (λ index. option_map (λ paragraph. paragraph.id) (slice_get board.paragraphs index)) (index_of place (length board.paragraphs + 1))
+    option_map (λ index. option_map (λ paragraph. paragraph.id) (slice_get board.paragraphs index))
+    (index_of place (length board.paragraphs + 1))
 
 -- what events say of the paragraph at a place, and how many bytes it has
 pub record IsNamed (board : Seen) (place id rev size : ℕ) : Type 0 where
@@ -39,16 +47,25 @@ pub record IsNamed (board : Seen) (place id rev size : ℕ) : Type 0 where
 
 -- ---- events
 
--- the event that a command over a board is, for the session with this number: none where it names no place of the board
+-- the event that a command over a board is, for the session with this number: none where it names
+-- no place of the board
 abbrev pub event_for : ℕ → Seen → Command → Option SeenEvent
-event_for by board (Ins place text) = option_map (λ before. AnEdit by (Insert before text)) (gap_at board place)
+event_for by board (Ins place text) =
+    option_map (λ before. AnEdit by (Insert before text)) (gap_at board place)
 event_for by board (Put place text) =
-    option_map (λ paragraph. AnEdit by (Replace paragraph.id paragraph.rev 0 (length paragraph.text) text)) (paragraph_at board place)
+    option_map (λ paragraph.
+    AnEdit by (Replace paragraph.id paragraph.rev 0 (length paragraph.text) text))
+    (paragraph_at board place)
 event_for by board (Sub place from to text) =
-    option_map (λ paragraph. AnEdit by (Replace paragraph.id paragraph.rev from to text)) (paragraph_at board place)
-event_for by board (Del place) = option_map (λ paragraph. AnEdit by (Remove paragraph.id paragraph.rev)) (paragraph_at board place)
-event_for by board (Stop place) = option_map (λ paragraph. APark by paragraph.id) (paragraph_at board place)
-event_for by board (Ask place) = option_map (λ paragraph. AnAsk by paragraph.id) (paragraph_at board place)
+    option_map (λ paragraph. AnEdit by (Replace paragraph.id paragraph.rev from to text))
+    (paragraph_at board place)
+event_for by board (Del place) =
+    option_map (λ paragraph. AnEdit by (Remove paragraph.id paragraph.rev))
+    (paragraph_at board place)
+event_for by board (Stop place) =
+    option_map (λ paragraph. APark by paragraph.id) (paragraph_at board place)
+event_for by board (Ask place) =
+    option_map (λ paragraph. AnAsk by paragraph.id) (paragraph_at board place)
 event_for by board _ = None
 
 -- whether a command names a place: then it is an event, or there is no such place
@@ -61,7 +78,9 @@ names_place _ = true
 
 -- all bytes of the text at a place are whole characters, as those of each text in memory are
 abbrev pub IsWholeAt : Seen → ℕ → Type 0
-IsWholeAt board place = ForSome (paragraph_at board place) (λ paragraph. is_span paragraph.text 0 (length paragraph.text) ≡ true)
+IsWholeAt board place =
+    ForSome (paragraph_at board place)
+    (λ paragraph. is_span paragraph.text 0 (length paragraph.text) ≡ true)
 
 -- so are those of the text that a command puts another one in place of
 abbrev pub PutsWhole : Seen → Command → Type 0
@@ -101,10 +120,12 @@ pub record IsTaken (before : Seen) (event : SeenEvent) (reply : Reply) (after : 
   pub only : (other : Seen) → Step before event other → other ≡ after
   pub reply_is : reply ≡ Done after.text_version
 
--- an event is taken where no refusal is first; otherwise that one is replied to, and the board stays
+-- an event is taken where no refusal is first; otherwise that one is replied to, and the board
+-- stays
 abbrev pub IsAnswered : Seen → SeenEvent → Option Refusal → Reply → Seen → Type 0
 IsAnswered before event None reply after = IsTaken before event reply after
-IsAnswered before event (Some refusal) reply after = (reply_for refusal ≡ Some reply) × (after ≡ before)
+IsAnswered before event (Some refusal) reply after =
+    (reply_for refusal ≡ Some reply) × (after ≡ before)
 
 -- what a look shows of a paragraph: its marks, or that there are none yet
 abbrev pub shown_para : ShownMarks → ShownPara

@@ -28,6 +28,7 @@ console_of board = record {
 abbrev pub board_after : Seen → Option Seen → Seen
 board_after before next = unwrap_or next before
 
--- how many lines a board can take at least: none moves the furthest point of its history by more than 40,001
+-- how many lines a board can take at least: none moves the furthest point of its history by more
+-- than 40,001
 abbrev pub lines_left : Seen → ℕ
 lines_left board = (2 ^ 62 - furthest_point board) / MOST_MOVED

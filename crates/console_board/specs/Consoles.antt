@@ -1,26 +1,35 @@
--- A console: texts that are edited, checked and shown one command after another. It knows nothing of ids, of revs, or of who checks.
-use Rattle.std.specs.Prelude.{ℕ, ◌+◌, ◌-◌, ◌&&◌, List, [], ◌∷◌, length, map, nat_le, nat_lt, set, slice_get, Option, Some, None, Result, Ok, Err, if◌then◌else◌}
+-- A console: texts that are edited, checked and shown one command after another. It knows nothing
+-- of ids, of revs, or of who checks.
+use Rattle.std.specs.Prelude.{ℕ, ◌+◌, ◌-◌, ◌&&◌, List, [], ◌∷◌, length, map, nat_le, nat_lt, set}
+use Rattle.std.specs.Prelude.{slice_get, Option, Some, None, Result, Ok, Err, if◌then◌else◌}
 use Rattle.std.specs.Option.{option_map_or, unwrap_or}
 use Rattle.std.specs.Str.{chars}
 use Rattle.console_lang.specs.declared.reply.Reply.{Reply}
-use Rattle.console_lang.specs.declared.reply.Reply.TheVariants.{Done, Dict, Shown, NoPlace, NoBadSpan, NoTooLong, NoFull, NoFinished, NoParked, NoNotParked, NoMissing, NoAff, NoDic, NoFiles, NoLarge}
+use Rattle.console_lang.specs.declared.reply.Reply.TheVariants.{Done, Dict, Shown, NoPlace}
+use Rattle.console_lang.specs.declared.reply.Reply.TheVariants.{NoBadSpan, NoTooLong, NoFull}
+use Rattle.console_lang.specs.declared.reply.Reply.TheVariants.{NoFinished, NoParked, NoNotParked}
+use Rattle.console_lang.specs.declared.reply.Reply.TheVariants.{NoMissing, NoAff, NoDic, NoFiles}
+use Rattle.console_lang.specs.declared.reply.Reply.TheVariants.{NoLarge}
 use Rattle.console_lang.specs.declared.reply.ShownPara.{ShownPara}
 use Rattle.console_lang.specs.declared.reply.ShownPara.TheVariants.{Pending, Finished as Marked}
 use Rattle.dictionary_swap.specs.declared.fault.LoadFault.{LoadFault}
-use Rattle.dictionary_swap.specs.declared.fault.LoadFault.TheVariants.{Failed, Missing, TooLong, Aff, Dic, NoMemory}
+use Rattle.dictionary_swap.specs.declared.fault.LoadFault.TheVariants.{Failed, Missing, TooLong}
+use Rattle.dictionary_swap.specs.declared.fault.LoadFault.TheVariants.{Aff, Dic, NoMemory}
 use Rattle.lists.specs.Changes.{Change, SetAt, InsertAt, RemoveAt, changed}
 use Rattle.edit_core.specs.Views.{marks_numbered}
 use Rattle.paragraph_text.specs.Edits.{is_span, spliced}
 use Rattle.spell_types.specs.declared.Lexicon.{Lexicon}
 use Rattle.paragraph_text.specs.declared.limits.TheConstants.{MOST_BYTES, MOST_PARAGRAPHS}
 
--- how a text stands: it is to be checked, it is checked, or it is not to be checked before somebody asks for it
+-- how a text stands: it is to be checked, it is checked, or it is not to be checked before somebody
+-- asks for it
 pub data TextState : Type 0 where
   Waiting : TextState
   Finished : TextState
   Parked : TextState
 
--- what a console has come to: how many edits and how many loads it has done, its dictionary, its texts in their order, and how each stands
+-- what a console has come to: how many edits and how many loads it has done, its dictionary, its
+-- texts in their order, and how each stands
 pub record Console : Type 0 where
   pub text_version : ℕ
   pub dict_version : ℕ
@@ -30,7 +39,8 @@ pub record Console : Type 0 where
 
 -- a console opens without a text
 abbrev pub opened : Lexicon → Console
-opened lexicon = record { text_version = 0; dict_version = 0; lexicon = lexicon; texts = []; states = [] }
+opened lexicon =
+    record { text_version = 0; dict_version = 0; lexicon = lexicon; texts = []; states = [] }
 
 -- a reply, and the console behind it
 pub record Outcome : Type 0 where
@@ -54,7 +64,8 @@ index_of place count = if nat_le 1 place && nat_le place count then Some (place 
 -- what is done with the text at a place, or that there is no such place
 abbrev pub at_place : Console → ℕ → (ℕ → Outcome) → Outcome
 at_place console place does =
-    option_map_or does (index_of place (length console.texts)) (refused console (NoPlace (length console.texts)))
+    option_map_or does (index_of place (length console.texts))
+    (refused console (NoPlace (length console.texts)))
 
 abbrev pub text_at : Console → ℕ → List ℕ
 text_at console index = unwrap_or (slice_get console.texts index) []
@@ -101,7 +112,8 @@ remove_at console index = edited console (RemoveAt index) []
 -- `ins P TEXT`: a place may be one more than there are texts
 abbrev pub inserted : Console → ℕ → List ℕ → Outcome
 inserted console place put =
-    option_map_or (insert_at console put) (index_of place (length console.texts + 1)) (refused console (NoPlace (length console.texts)))
+    option_map_or (insert_at console put) (index_of place (length console.texts + 1))
+    (refused console (NoPlace (length console.texts)))
 
 -- `put P TEXT`
 abbrev pub replaced : Console → ℕ → List ℕ → Outcome
@@ -134,11 +146,13 @@ asked_from console index Parked = done (with_state console index Waiting)
 
 -- `stop P`
 abbrev pub stopped : Console → ℕ → Outcome
-stopped console place = at_place console place (λ index. stopped_from console index (state_at console index))
+stopped console place =
+    at_place console place (λ index. stopped_from console index (state_at console index))
 
 -- `ask P`
 abbrev pub asked : Console → ℕ → Outcome
-asked console place = at_place console place (λ index. asked_from console index (state_at console index))
+asked console place =
+    at_place console place (λ index. asked_from console index (state_at console index))
 
 -- what is not parked is finished
 abbrev pub settled_state : TextState → TextState
@@ -152,20 +166,25 @@ settled console = done (record console { states = map settled_state console.stat
 
 -- ---- what is shown
 
--- a finished text shows the marks that it has among those of all texts together, and every other text that there are none yet
+-- a finished text shows the marks that it has among those of all texts together, and every other
+-- text that there are none yet
 abbrev pub shown_as : Console → ℕ → TextState → ShownPara
 shown_as console number Waiting = Pending
-shown_as console number Finished = Marked (marks_numbered console.lexicon (map chars console.texts) number)
+shown_as console number Finished =
+    Marked (marks_numbered console.lexicon (map chars console.texts) number)
 shown_as console number Parked = Pending
 
 -- what is shown of texts that stand so, of which the first has this number
 abbrev pub shown_from : Console → ℕ → List TextState → List ShownPara
 shown_from console number [] = []
-shown_from console number (stand ∷ stands) = shown_as console number stand ∷ shown_from console (number + 1) stands
+shown_from console number (stand ∷ stands) =
+    shown_as console number stand ∷ shown_from console (number + 1) stands
 
 -- `show`
 abbrev pub shown : Console → Outcome
-shown console = refused console (Shown console.text_version console.dict_version (shown_from console 1 console.states))
+shown console =
+    refused console
+    (Shown console.text_version console.dict_version (shown_from console 1 console.states))
 
 -- ---- dictionaries
 
@@ -179,10 +198,15 @@ state_reloaded Parked = Parked
 abbrev pub loaded : Console → Lexicon → Outcome
 loaded console lexicon = record {
   reply = Dict (console.dict_version + 1);
-  after = record console { dict_version = console.dict_version + 1; lexicon = lexicon; states = map state_reloaded console.states };
+  after = record console {
+    dict_version = console.dict_version + 1;
+    lexicon = lexicon;
+    states = map state_reloaded console.states;
+  };
 }
 
--- The reply to a dictionary's fault. Want of memory is never due, and has no reply: it ends the console.
+-- The reply to a dictionary's fault. Want of memory is never due, and has no reply: it ends the
+-- console.
 abbrev pub fault_reply : LoadFault → Reply
 fault_reply Missing = NoMissing
 fault_reply (TooLong limit) = NoLarge

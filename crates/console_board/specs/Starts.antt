@@ -13,10 +13,12 @@ unfolding asked_by
 asked-nothing = refl
 
 -- nothing is replied to them
-pub replied-none : (told : Option Folder) (failed : ℕ) (console : Console) → IsRepliedTo told told failed failed console console [] []
+pub replied-none : (told : Option Folder) (failed : ℕ) (console : Console)
+    → IsRepliedTo told told failed failed console console [] []
 replied-none told failed console = record {
   replies = [];
-  answers = subst (λ (asked : List (Option Command)). Answers 0 told console asked [] console) (sym asked-nothing) (refl, refl);
+  answers = subst (λ (asked : List (Option Command)). Answers 0 told console asked [] console)
+      (sym asked-nothing) (refl, refl);
   text_is = refl;
   failures = subst (λ n. n ≤ failed) (sym (add-zero failed)) (le_refl failed);
   same = refl;

@@ -1,11 +1,14 @@
 -- What a console replies to its lines: a transcript.
-use Rattle.std.specs.Prelude.{◌≡◌, ℕ, zero, suc, ◌+◌, ◌≤◌, Bool, true, false, not, ◌⊎◌, List, [], ◌∷◌, ◌++◌, filter_map, take_while, Option, Some, None, Result, Ok, Err, if◌then◌else◌}
+use Rattle.std.specs.Prelude.{◌≡◌, ℕ, zero, suc, ◌+◌, ◌≤◌, Bool, true, false, not, ◌⊎◌, List, []}
+use Rattle.std.specs.Prelude.{◌∷◌, ◌++◌, filter_map, take_while, Option, Some, None, Result, Ok}
+use Rattle.std.specs.Prelude.{Err, if◌then◌else◌}
 use Rattle.std.specs.List.{AllZip, count_by, flat_map}
 use Rattle.std.specs.Str.{is_utf8}
 use Rattle.console_lang.specs.Commands.{said_by}
 use Rattle.console_lang.specs.Replies.{reply_text}
 use Rattle.console_lang.specs.declared.command.Command.{Command}
-use Rattle.console_lang.specs.declared.command.Command.TheVariants.{Ins, Put, Sub, Del, Load, Stop, Ask, Show, Settle, Quit}
+use Rattle.console_lang.specs.declared.command.Command.TheVariants.{Ins, Put, Sub, Del, Load, Stop}
+use Rattle.console_lang.specs.declared.command.Command.TheVariants.{Ask, Show, Settle, Quit}
 use Rattle.console_lang.specs.declared.command.CommandFault.{CommandFault}
 use Rattle.console_lang.specs.declared.command.CommandFault.TheVariants.{BadCommand}
 use Rattle.console_lang.specs.declared.reply.Reply.{Reply}
@@ -14,11 +17,14 @@ use Rattle.dictionary_swap.specs.Loads.{DictionaryFiles, lexicon_due, found_in}
 use Rattle.outside.specs.Files.{Folder}
 use Rattle.paragraph_text.specs.Paragraphs.{HasNoBreak}
 use Rattle.spell_types.specs.declared.Lexicon.{Lexicon}
-use Rattle.console_board.specs.Consoles.{Console, Outcome, TextState, Waiting, Finished, Parked, opened, inserted, replaced, substituted, removed, stopped, asked, settled, shown, load_outcome}
+use Rattle.console_board.specs.Consoles.{Console, Outcome, TextState, Waiting, Finished, Parked}
+use Rattle.console_board.specs.Consoles.{opened, inserted, replaced, substituted, removed, stopped}
+use Rattle.console_board.specs.Consoles.{asked, settled, shown, load_outcome}
 
 -- ---- what lines ask for
 
--- what a line says: nothing where it is blank, its command, or that it is none; a line that is not UTF-8 is none
+-- what a line says: nothing where it is blank, its command, or that it is none; a line that is not
+-- UTF-8 is none
 abbrev pub line_says : List ℕ → Result (Option Command) CommandFault
 line_says line = if is_utf8 line then said_by line else Err BadCommand
 
@@ -34,7 +40,8 @@ is_quit line = quits (line_says line)
 abbrev pub before_quit : List (List ℕ) → List (List ℕ)
 before_quit lines = take_while (λ line. not (is_quit line)) lines
 
--- what a line asks for: nothing where it is blank, a command, or, where it is no command, that this is said
+-- what a line asks for: nothing where it is blank, a command, or, where it is no command, that this
+-- is said
 abbrev pub asked_for : Result (Option Command) CommandFault → Option (Option Command)
 asked_for (Ok None) = None
 asked_for (Ok (Some command)) = Some (Some command)
@@ -53,7 +60,8 @@ asked_by lines = filter_map (λ line. asked_for (line_says line)) lines
 
 -- ---- what is done
 
--- what there is of the two files of a dictionary: where a folder is told, what it has of them; where none is, anything
+-- what there is of the two files of a dictionary: where a folder is told, what it has of them;
+-- where none is, anything
 abbrev pub IsThere : Option Folder → List ℕ → List ℕ → DictionaryFiles → Type 0
 IsThere None aff dic there = Unit {0}
 IsThere (Some folder) aff dic there = there ≡ found_in folder aff dic
@@ -65,14 +73,18 @@ HasOutcome outcome reply after = (reply ≡ outcome.reply) × (after ≡ outcome
 -- a load has the outcome that its files say, or it is told that the files failed
 abbrev pub Loads : Option Folder → Console → List ℕ → List ℕ → Reply → Console → Type 0
 Loads told before aff dic reply after =
-    ((there : DictionaryFiles) × IsThere told aff dic there × HasOutcome (load_outcome before (lexicon_due there)) reply after)
+    ((there : DictionaryFiles) × IsThere told aff dic there
+    × HasOutcome (load_outcome before (lexicon_due there)) reply after)
     ⊎ ((reply ≡ NoFiles) × (after ≡ before))
 
 -- what a console replies to a command, and what it has then come to; `quit` is not replied to
 unfoldable pub IsReplyTo : Option Folder → Console → Command → Reply → Console → Type 0
-IsReplyTo told before (Ins place text) reply after = HasOutcome (inserted before place text) reply after
-IsReplyTo told before (Put place text) reply after = HasOutcome (replaced before place text) reply after
-IsReplyTo told before (Sub place from to text) reply after = HasOutcome (substituted before place from to text) reply after
+IsReplyTo told before (Ins place text) reply after =
+    HasOutcome (inserted before place text) reply after
+IsReplyTo told before (Put place text) reply after =
+    HasOutcome (replaced before place text) reply after
+IsReplyTo told before (Sub place from to text) reply after =
+    HasOutcome (substituted before place from to text) reply after
 IsReplyTo told before (Del place) reply after = HasOutcome (removed before place) reply after
 IsReplyTo told before (Load aff dic) reply after = Loads told before aff dic reply after
 IsReplyTo told before (Stop place) reply after = HasOutcome (stopped before place) reply after
@@ -108,15 +120,18 @@ IsMeanwhile (suc workers) before after = IsChecked before after
 -- ---- one after another
 
 -- a console replies once to each that is asked for, in order
-abbrev pub Answers : ℕ → Option Folder → Console → List (Option Command) → List Reply → Console → Type 0
+abbrev pub Answers : ℕ → Option Folder → Console → List (Option Command) → List Reply → Console
+    → Type 0
 Answers workers told before [] replies after = (replies ≡ []) × (after ≡ before)
 Answers workers told before (command ∷ commands) [] after = ⊥
 Answers workers told before (command ∷ commands) (reply ∷ replies) after =
     (ready : Console) × IsMeanwhile workers before ready
-    × ((next : Console) × IsReplyToAsked told ready command reply next × Answers workers told next commands replies after)
+    × ((next : Console) × IsReplyToAsked told ready command reply next
+    × Answers workers told next commands replies after)
 
 -- a console that opens with a dictionary replies so to these lines, none of which is `quit`
-pub record IsTranscript (workers : ℕ) (told : Option Folder) (lexicon : Lexicon) (lines : List (List ℕ)) (replies : List Reply) : Type 0 where
+pub record IsTranscript (workers : ℕ) (told : Option Folder) (lexicon : Lexicon)
+    (lines : List (List ℕ)) (replies : List Reply) : Type 0 where
   pub last : Console
   pub answers : Answers workers told (opened lexicon) (asked_by lines) replies last
 
@@ -132,16 +147,19 @@ is_no_files _ = false
 abbrev pub failures_in : List Reply → ℕ
 failures_in replies = count_by is_no_files replies
 
--- what is asked for was replied to, and the reply was added to a text; the files, which tell this, failed as often at least as it says
-pub record IsReplied (told : Option Folder) (failed failed_now : ℕ) (before after : Console) (asked : Option Command) (text text_now : List ℕ) : Type 0 where
+-- what is asked for was replied to, and the reply was added to a text; the files, which tell this,
+-- failed as often at least as it says
+pub record IsReplied (told : Option Folder) (failed failed_now : ℕ) (before after : Console)
+    (asked : Option Command) (text text_now : List ℕ) : Type 0 where
   pub reply : Reply
   pub replies : IsReplyToAsked told before asked reply after
   pub text_is : text_now ≡ text ++ written_of (reply ∷ [])
   pub failures : failed + failures_in (reply ∷ []) ≤ failed_now
 
--- From one console on these lines were replied to with this text, and then it is another console. The files tell the same as before, and
--- failed as often at least as was said.
-pub record IsRepliedTo (told told_now : Option Folder) (failed failed_now : ℕ) (before after : Console) (lines : List (List ℕ)) (text : List ℕ) : Type 0 where
+-- From one console on these lines were replied to with this text, and then it is another console.
+-- The files tell the same as before, and failed as often at least as was said.
+pub record IsRepliedTo (told told_now : Option Folder) (failed failed_now : ℕ)
+    (before after : Console) (lines : List (List ℕ)) (text : List ℕ) : Type 0 where
   pub replies : List Reply
   pub answers : Answers 0 told before (asked_by lines) replies after
   pub text_is : text ≡ written_of replies

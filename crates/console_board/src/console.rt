@@ -24,7 +24,8 @@ use std::alloc::Global;
 use std::sync::Arc;
 use word_verdict::Speller;
 
-/// What a console has come to: one board. Ids, revs and points stay inside; commands name paragraphs by their places, from 1.
+/// What a console has come to: one board. Ids, revs and points stay inside; commands name
+/// paragraphs by their places, from 1.
 #[derive(Drop)]
 pub struct Console<J: Judge> {
     board: Board<J>,
@@ -50,7 +51,8 @@ impl<J: Judge + Drop> Response<J> {
 impl<J: Judge + Drop> Console<J> {
     /// A console without a text, by a dictionary.
     pub fn open(alloc: Global, judge: J) -> Result<Console<J>, NoMemory>
-        ensures opens { IfOk result (λ console. console_of console.board ≡ opened (J.lexicon judge)) }
+        ensures opens { IfOk result
+            (λ console. console_of console.board ≡ opened (J.lexicon judge)) }
         ensures fresh { IfOk result (λ console. furthest_point console.board ≡ 0) }
     {
         let judge = Arc::new(alloc, judge)?;
@@ -90,9 +92,15 @@ impl Console<Speller> {
         requires asked { ¬ (command ≡ Command.Quit) }
         requires whole { HasWholeText command }
         requires room { furthest_point self.now.board + MOST_MOVED ≤ 2 ^ 62 }
-        ensures does { IfOk result (λ response. IsReplyTo (F.told files.old) (console_of self.now.board) command response.reply (console_of (board_after self.now.board response.next))) }
-        ensures room { IfOk result (λ response. furthest_point (board_after self.now.board response.next) ≤ furthest_point self.now.board + MOST_MOVED) }
-        ensures failures { IfOk result (λ response. F.faults files.old + failures_in (response.reply ∷ []) ≤ F.faults files.new) }
+        ensures does { IfOk result
+            (λ response. IsReplyTo (F.told files.old) (console_of self.now.board) command
+            response.reply (console_of (board_after self.now.board response.next))) }
+        ensures room { IfOk result
+            (λ response. furthest_point (board_after self.now.board response.next) ≤ furthest_point
+            self.now.board + MOST_MOVED) }
+        ensures failures { IfOk result
+            (λ response. F.faults files.old + failures_in (response.reply ∷ [])
+            ≤ F.faults files.new) }
         ensures same { F.told files.new ≡ F.told files.old }
         ensures count { F.faults files.old ≤ F.faults files.new }
     {

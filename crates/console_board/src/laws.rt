@@ -9,10 +9,13 @@ ghost use Rattle.input_lines.specs.declared.limits.TheConstants.{LINE_LIMIT};
 
 use console_lang::commands_have_their_lines;
 
-/// Where no worker checks and the files do not fail, a folder that is told, a dictionary and the lines of an input determine all replies.
+/// Where no worker checks and the files do not fail, a folder that is told, a dictionary and the
+/// lines of an input determine all replies.
 pub fn transcripts_are_functions()
-    ensures { (folder : Folder) (lexicon : Lexicon) (lines : List (List ℕ)) (replies others : List Reply)
-        → IsTranscript 0 (Some folder) lexicon lines replies → IsTranscript 0 (Some folder) lexicon lines others
+    ensures { (folder : Folder) (lexicon : Lexicon) (lines : List (List ℕ))
+        (replies others : List Reply)
+        → IsTranscript 0 (Some folder) lexicon lines replies
+        → IsTranscript 0 (Some folder) lexicon lines others
         → failures_in replies ≡ 0 → failures_in others ≡ 0 → replies ≡ others }
 {}
 

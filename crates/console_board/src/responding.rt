@@ -8,7 +8,8 @@ ghost use Rattle.console_lang.specs.declared.command.Command.{Command};
 ghost use Rattle.edit_core.specs.Runs.{furthest_point};
 ghost use Rattle.console_board.specs.Boards.{console_of, lines_left};
 ghost use Rattle.console_board.specs.Starts.{replied-none};
-ghost use Rattle.console_board.specs.Transcripts.{HasWholeText, IsReplied, IsRepliedTo, is_quit, line_says, written_of};
+ghost use Rattle.console_board.specs.Transcripts.{HasWholeText, IsReplied, IsRepliedTo, is_quit};
+ghost use Rattle.console_board.specs.Transcripts.{line_says, written_of};
 ghost use Rattle.edit_core.specs.declared.limits.TheConstants.{MOST_MOVED};
 
 use crate::console::{Console, Response};
@@ -54,12 +55,13 @@ impl<F: Files> Responder<F> for Console<Speller> {
         }
     }
 
-    ghost starts = { λ first beside. replied-none (F.told beside) (F.faults beside) (console_of first.board) };
+    ghost starts = { λ first beside. replied-none (F.told beside) (F.faults beside)
+        (console_of first.board) };
 }
 
 impl Console<Speller> {
-    /// Does what a command asks for and adds its reply to the others; or, where memory is wanting, neither. `quit` is no command
-    /// for it.
+    /// Does what a command asks for and adds its reply to the others; or, where memory is wanting,
+    /// neither. `quit` is no command for it.
     fn reply<F: Files>(
         &mut self,
         alloc: Global,
@@ -70,7 +72,9 @@ impl Console<Speller> {
         requires asked { ¬ (command ≡ Command.Quit) }
         requires whole { HasWholeText command }
         requires room { furthest_point self.old.board + MOST_MOVED ≤ 2 ^ 62 }
-        ensures replied { OnOk result (IsReplied (F.told files.old) (F.faults files.old) (F.faults files.new) (console_of self.old.board) (console_of self.new.board)
+        ensures replied { OnOk result
+            (IsReplied (F.told files.old) (F.faults files.old) (F.faults files.new)
+            (console_of self.old.board) (console_of self.new.board)
             (Some command) (string_bytes replies.old) (string_bytes replies.new)) }
         ensures kept { OnErr result (self.new.board ≡ self.old.board) }
         ensures silent { OnErr result (string_bytes replies.new ≡ string_bytes replies.old) }
@@ -104,7 +108,8 @@ fn read_line(alloc: Global, line: &[u8]) -> Result<Option<Command>, CommandFault
 
 /// Adds the lines of a reply, or none of them where memory is wanting.
 fn push_reply(alloc: Global, reply: &Reply, replies: &mut String) -> Result<(), NoMemory>
-    ensures added { OnOk result (string_bytes replies.new ≡ string_bytes replies.old ++ written_of (reply.now ∷ [])) }
+    ensures added { OnOk result
+        (string_bytes replies.new ≡ string_bytes replies.old ++ written_of (reply.now ∷ [])) }
     ensures kept { OnErr result (string_bytes replies.new ≡ string_bytes replies.old) }
 {
     let written = write_reply(alloc, reply)?;

@@ -4,7 +4,8 @@ use Rattle.std.specs.List.{list_any}
 use Rattle.std.specs.Str.Parse.{digits_value}
 use Rattle.text_lines.specs.Fields.{has_bytes, is_decimal}
 use Rattle.console_lang.specs.declared.command.Command.{Command}
-use Rattle.console_lang.specs.declared.command.Command.TheVariants.{Ins, Put, Sub, Del, Load, Stop, Ask, Show, Settle, Quit}
+use Rattle.console_lang.specs.declared.command.Command.TheVariants.{Ins, Put, Sub, Del, Load, Stop}
+use Rattle.console_lang.specs.declared.command.Command.TheVariants.{Ask, Show, Settle, Quit}
 use Rattle.console_lang.specs.Words.{is_space}
 
 -- 1 to 9 digits that write this number
@@ -13,7 +14,8 @@ pub record Writes (digits : List ℕ) (number : ℕ) : Type 0 where
   pub short : length digits ≤ 9
   pub value : digits_value 10 digits ≡ number
 
--- what stands behind a number for this text: a space and the text, or also nothing where the text is empty
+-- what stands behind a number for this text: a space and the text, or also nothing where the text
+-- is empty
 abbrev pub IsTail : List ℕ → List ℕ → Type 0
 IsTail text tail = (tail ≡ codes " " ++ text) ⊎ ((text ≡ []) × (tail ≡ []))
 
@@ -46,7 +48,9 @@ pub record IsPlacedSpan (name : List ℕ) (place from to : ℕ) (text line : Lis
   pub writes_from : Writes from_digits from
   pub writes_to : Writes to_digits to
   pub ends : IsTail text tail
-  pub line_is : line ≡ name ++ (codes " " ++ (place_digits ++ (codes " " ++ (from_digits ++ (codes " " ++ (to_digits ++ tail))))))
+  pub line_is : line ≡ name
+      ++ (codes " "
+      ++ (place_digits ++ (codes " " ++ (from_digits ++ (codes " " ++ (to_digits ++ tail))))))
 
 -- `NAME AFF DIC`
 pub record IsPair (name aff dic line : List ℕ) : Type 0 where

@@ -1,10 +1,13 @@
--- Which command a line is: its first word is a name, and the words behind it are of the form that goes with the name.
-use Rattle.std.specs.Prelude.{◌≡◌, ℕ, ◌&&◌, List, [], ◌∷◌, codes, Option, Some, None, Result, Ok, Err, if◌then◌else◌}
+-- Which command a line is: its first word is a name, and the words behind it are of the form that
+-- goes with the name.
+use Rattle.std.specs.Prelude.{◌≡◌, ℕ, ◌&&◌, List, [], ◌∷◌, codes, Option, Some, None, Result, Ok}
+use Rattle.std.specs.Prelude.{Err, if◌then◌else◌}
 use Rattle.std.specs.Option.{option_map}
 use Rattle.std.specs.Str.{bytes_eq}
 use Rattle.text_lines.specs.Fields.{has_bytes}
 use Rattle.console_lang.specs.declared.command.Command.{Command}
-use Rattle.console_lang.specs.declared.command.Command.TheVariants.{Ins, Put, Sub, Del, Load, Stop, Ask, Show, Settle, Quit}
+use Rattle.console_lang.specs.declared.command.Command.TheVariants.{Ins, Put, Sub, Del, Load, Stop}
+use Rattle.console_lang.specs.declared.command.Command.TheVariants.{Ask, Show, Settle, Quit}
 use Rattle.console_lang.specs.declared.command.CommandFault.{CommandFault}
 use Rattle.console_lang.specs.declared.command.CommandFault.TheVariants.{BadCommand, NoMemory}
 use Rattle.console_lang.specs.Words.{is_blank_line, words_of, text_of, number_of}
@@ -20,7 +23,8 @@ of_numbers _ _ _ text = None
 
 -- `P FROM TO TEXT`: a place, where something begins and ends in it, and a text
 abbrev pub placed_span : List (List ℕ) → Option (ℕ × ℕ × ℕ × List ℕ)
-placed_span (place ∷ from ∷ to ∷ text) = of_numbers (number_of place) (number_of from) (number_of to) (text_of text)
+placed_span (place ∷ from ∷ to ∷ text) =
+    of_numbers (number_of place) (number_of from) (number_of to) (text_of text)
 placed_span _ = None
 
 -- `P`: a place alone
@@ -42,10 +46,13 @@ alone command _ = None
 unfoldable pub command_named : List ℕ → List (List ℕ) → Option Command
 command_named name words =
     if bytes_eq name (codes "ins") then option_map (λ said. Ins said.0 said.1) (placed_text words)
-    else (if bytes_eq name (codes "put") then option_map (λ said. Put said.0 said.1) (placed_text words)
-    else (if bytes_eq name (codes "sub") then option_map (λ said. Sub said.0 said.1 said.2 said.3) (placed_span words)
+    else (if bytes_eq name (codes "put")
+    then option_map (λ said. Put said.0 said.1) (placed_text words)
+    else (if bytes_eq name (codes "sub") then option_map (λ said. Sub said.0 said.1 said.2 said.3)
+    (placed_span words)
     else (if bytes_eq name (codes "del") then option_map Del (lone_place words)
-    else (if bytes_eq name (codes "load") then option_map (λ said. Load said.0 said.1) (two_names words)
+    else (if bytes_eq name (codes "load")
+    then option_map (λ said. Load said.0 said.1) (two_names words)
     else (if bytes_eq name (codes "stop") then option_map Stop (lone_place words)
     else (if bytes_eq name (codes "ask") then option_map Ask (lone_place words)
     else (if bytes_eq name (codes "show") then alone Show words
@@ -69,7 +76,8 @@ or_bad None = Err BadCommand
 abbrev pub said_by : List ℕ → Result (Option Command) CommandFault
 said_by line = if is_blank_line line then Ok None else or_bad (command_of line)
 
--- what may be answered where this is the command: it, or that there is none, or that memory is wanting
+-- what may be answered where this is the command: it, or that there is none, or that memory is
+-- wanting
 abbrev pub IsFound : {T : Type 0} → Option T → Result T CommandFault → Type 0
 IsFound found (Ok value) = found ≡ Some value
 IsFound found (Err BadCommand) = found ≡ None

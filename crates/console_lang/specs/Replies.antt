@@ -8,7 +8,12 @@ use Rattle.mark_types.specs.declared.Mark.{Mark}
 use Rattle.console_lang.specs.declared.reply.ShownPara.{ShownPara}
 use Rattle.console_lang.specs.declared.reply.ShownPara.TheVariants.{Pending, Finished}
 use Rattle.console_lang.specs.declared.reply.Reply.{Reply}
-use Rattle.console_lang.specs.declared.reply.Reply.TheVariants.{Done, Dict, Shown, NoCommand, NoPlace, NoGone, NoBehind, NoBadSpan, NoTooLong, NoFull, NoFinished, NoParked, NoNotParked, NoMissing, NoAff, NoDic, NoFiles, NoLarge}
+use Rattle.console_lang.specs.declared.reply.Reply.TheVariants.{Done, Dict, Shown, NoCommand}
+use Rattle.console_lang.specs.declared.reply.Reply.TheVariants.{NoPlace, NoGone, NoBehind}
+use Rattle.console_lang.specs.declared.reply.Reply.TheVariants.{NoBadSpan, NoTooLong, NoFull}
+use Rattle.console_lang.specs.declared.reply.Reply.TheVariants.{NoFinished, NoParked, NoNotParked}
+use Rattle.console_lang.specs.declared.reply.Reply.TheVariants.{NoMissing, NoAff, NoDic, NoFiles}
+use Rattle.console_lang.specs.declared.reply.Reply.TheVariants.{NoLarge}
 
 -- words and a number
 abbrev pub number_line : List ℕ → ℕ → List ℕ
@@ -16,12 +21,16 @@ number_line words number = words ++ (codes " " ++ (decimal number ++ codes "\n")
 
 -- words, the line of a file, and the cause of its fault
 abbrev pub fault_line : List ℕ → ℕ → List ℕ → List ℕ
-fault_line words line why = words ++ (codes " " ++ (decimal line ++ (codes " " ++ (why ++ codes "\n"))))
+fault_line words line why =
+    words ++ (codes " " ++ (decimal line ++ (codes " " ++ (why ++ codes "\n"))))
 
 -- a mark: the paragraph's number, the first byte and the byte past the end, and the word
 abbrev pub mark_line : ℕ → Mark → List ℕ
 mark_line number mark =
-    decimal number ++ (codes " " ++ (decimal mark.from ++ (codes " " ++ (decimal mark.to ++ (codes " " ++ (mark.word ++ codes "\n"))))))
+    decimal number
+    ++ (codes " "
+    ++ (decimal mark.from
+    ++ (codes " " ++ (decimal mark.to ++ (codes " " ++ (mark.word ++ codes "\n"))))))
 
 -- a paragraph: a line for each mark, or a line with a question mark where it is not checked
 abbrev pub paragraph_lines : ℕ → ShownPara → List ℕ
@@ -31,14 +40,18 @@ paragraph_lines number (Finished marks) = flat_map (mark_line number) marks
 -- paragraphs, of which the first has this number
 abbrev pub paragraphs_from : ℕ → List ShownPara → List ℕ
 paragraphs_from number [] = []
-paragraphs_from number (paragraph ∷ more) = paragraph_lines number paragraph ++ paragraphs_from (number + 1) more
+paragraphs_from number (paragraph ∷ more) =
+    paragraph_lines number paragraph ++ paragraphs_from (number + 1) more
 
 -- the lines of a reply
 unfoldable pub reply_text : Reply → List ℕ
 reply_text (Done text) = number_line (codes "ok") text
 reply_text (Dict dict) = number_line (codes "dict") dict
 reply_text (Shown text dict paragraphs) =
-    codes "text " ++ (decimal text ++ (codes " dict " ++ (decimal dict ++ (codes "\n" ++ (paragraphs_from 1 paragraphs ++ codes ".\n")))))
+    codes "text "
+    ++ (decimal text
+    ++ (codes " dict "
+    ++ (decimal dict ++ (codes "\n" ++ (paragraphs_from 1 paragraphs ++ codes ".\n")))))
 reply_text NoCommand = codes "no Command\n"
 reply_text (NoPlace count) = number_line (codes "no Place") count
 reply_text NoGone = codes "no Gone\n"

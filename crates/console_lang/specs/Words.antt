@@ -1,5 +1,6 @@
 -- The words of a line of the console, and the numbers and texts that they write.
-use Rattle.std.specs.Prelude.{ℕ, ◌==◌, ◌&&◌, Bool, List, length, nat_le, Option, Some, None, if◌then◌else◌}
+use Rattle.std.specs.Prelude.{ℕ, ◌==◌, ◌&&◌, Bool, List, length, nat_le, Option, Some, None}
+use Rattle.std.specs.Prelude.{if◌then◌else◌}
 use Rattle.std.specs.List.{slice_split, join_with_byte, list_all}
 use Rattle.std.specs.Str.Parse.{digits_value}
 use Rattle.text_lines.specs.Fields.{is_blank, is_decimal}
@@ -21,4 +22,5 @@ text_of words = join_with_byte 32 words
 
 -- the number that a word of 1 to 9 ASCII digits writes
 unfoldable pub number_of : List ℕ → Option ℕ
-number_of word = if is_decimal word && nat_le (length word) 9 then Some (digits_value 10 word) else None
+number_of word =
+    if is_decimal word && nat_le (length word) 9 then Some (digits_value 10 word) else None

@@ -7,8 +7,8 @@ use lists::NoMemory;
 use std::alloc::AllocError;
 use text_lines::Text;
 
-/// What a line of the console asks for. A place is the number of a paragraph, as it is written: no command knows how many
-/// paragraphs there are.
+/// What a line of the console asks for. A place is the number of a paragraph, as it is written: no
+/// command knows how many paragraphs there are.
 #[derive(Debug, Drop)]
 pub enum Command {
     /// `ins P TEXT`: a new paragraph with this text, before the one at the place.
@@ -21,7 +21,8 @@ pub enum Command {
         place: u32,
         text: Text,
     },
-    /// `sub P FROM TO TEXT`: this text in place of the paragraph's bytes from `from` up to `to`, from 0.
+    /// `sub P FROM TO TEXT`: this text in place of the paragraph's bytes from `from` up to `to`,
+    /// from 0.
     Sub {
         place: u32,
         from: u32,

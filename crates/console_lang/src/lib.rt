@@ -19,10 +19,13 @@ pub use command::{Command, CommandFault};
 pub use reading::read_command;
 pub use reply::{Reply, ShownPara, write_reply};
 
-/// A line is read as a command exactly where it is one of the command's lines. Different commands have different lines,
-/// and none of them is blank.
+/// A line is read as a command exactly where it is one of the command's lines. Different commands
+/// have different lines, and none of them is blank.
 pub fn commands_have_their_lines()
-    ensures lines { (command : Command) (line : List ℕ) → (command_of line ≡ Some command) ↔ IsLineOf command line }
-    ensures differ { (command other : Command) (line : List ℕ) → IsLineOf command line → IsLineOf other line → command ≡ other }
-    ensures never_blank { (command : Command) (line : List ℕ) → IsLineOf command line → is_blank_line line ≡ false }
+    ensures lines { (command : Command) (line : List ℕ) → (command_of line ≡ Some command)
+        ↔ IsLineOf command line }
+    ensures differ { (command other : Command) (line : List ℕ) → IsLineOf command line
+        → IsLineOf other line → command ≡ other }
+    ensures never_blank { (command : Command) (line : List ℕ) → IsLineOf command line
+        → is_blank_line line ≡ false }
 {}

@@ -3,7 +3,9 @@
 ghost use Rattle.std.specs.Prelude.{◌≡◌, Some};
 ghost use Rattle.std.specs.Option.{option_map};
 ghost use Rattle.console_lang.specs.declared.command.Command.TheVariants.{Ins, Put, Sub, Load};
-ghost use Rattle.console_lang.specs.Commands.{placed_text, placed_span, lone_place, two_names, alone, command_named, command_in, said_by, IsAnswer, IsFound};
+ghost use Rattle.console_lang.specs.Commands.{placed_text, placed_span, lone_place, two_names};
+ghost use Rattle.console_lang.specs.Commands.{alone, command_named, command_in, said_by, IsAnswer};
+ghost use Rattle.console_lang.specs.Commands.{IsFound};
 ghost use Rattle.console_lang.specs.Handed.{words_left};
 
 use crate::command::{Command, CommandFault};
@@ -12,8 +14,9 @@ use crate::words::{Words, is_blank};
 use std::alloc::Global;
 use text_lines::Text;
 
-/// The command that a line is. A blank line is none, and no fault. One space parts the words of a command; a number has 1
-/// to 9 ASCII digits; a text is all behind one space, which may be missing where the text is empty.
+/// The command that a line is. A blank line is none, and no fault. One space parts the words of a
+/// command; a number has 1 to 9 ASCII digits; a text is all behind one space, which may be missing
+/// where the text is empty.
 #[tactic(auto, unfolding(crate::specs::Commands::command_of))]
 pub fn read_command(alloc: Global, line: &str) -> Result<Option<Command>, CommandFault>
     ensures { IsAnswer (said_by line.now) result }
@@ -61,7 +64,8 @@ fn read_named(alloc: Global, name: &str, words: Words<'_>) -> Result<Command, Co
 }
 
 fn read_ins(alloc: Global, words: Words<'_>) -> Result<Command, CommandFault>
-    ensures { IsFound (option_map (λ said. Ins said.0 said.1) (placed_text (words_left words.entry))) result }
+    ensures { IsFound
+        (option_map (λ said. Ins said.0 said.1) (placed_text (words_left words.entry))) result }
 {
     let Some((place, text)) = placed_text(words) else {
         return Err(CommandFault::BadCommand);
@@ -71,7 +75,8 @@ fn read_ins(alloc: Global, words: Words<'_>) -> Result<Command, CommandFault>
 }
 
 fn read_put(alloc: Global, words: Words<'_>) -> Result<Command, CommandFault>
-    ensures { IsFound (option_map (λ said. Put said.0 said.1) (placed_text (words_left words.entry))) result }
+    ensures { IsFound
+        (option_map (λ said. Put said.0 said.1) (placed_text (words_left words.entry))) result }
 {
     let Some((place, text)) = placed_text(words) else {
         return Err(CommandFault::BadCommand);
@@ -81,7 +86,9 @@ fn read_put(alloc: Global, words: Words<'_>) -> Result<Command, CommandFault>
 }
 
 fn read_sub(alloc: Global, words: Words<'_>) -> Result<Command, CommandFault>
-    ensures { IsFound (option_map (λ said. Sub said.0 said.1 said.2 said.3) (placed_span (words_left words.entry))) result }
+    ensures { IsFound
+        (option_map (λ said. Sub said.0 said.1 said.2 said.3)
+        (placed_span (words_left words.entry))) result }
 {
     let Some(span) = placed_span(words) else {
         return Err(CommandFault::BadCommand);
@@ -95,7 +102,8 @@ fn read_sub(alloc: Global, words: Words<'_>) -> Result<Command, CommandFault>
 }
 
 fn read_load(alloc: Global, words: Words<'_>) -> Result<Command, CommandFault>
-    ensures { IsFound (option_map (λ said. Load said.0 said.1) (two_names (words_left words.entry))) result }
+    ensures { IsFound (option_map (λ said. Load said.0 said.1) (two_names (words_left words.entry)))
+        result }
 {
     let Some((aff, dic)) = two_names(words) else {
         return Err(CommandFault::BadCommand);

@@ -3,7 +3,8 @@
 ghost use Rattle.std.specs.Prelude.{◌≡◌, ◌++◌, IfOk, OnOk};
 ghost use Rattle.std.specs.List.{flat_map};
 ghost use Rattle.std.specs.String.{string_bytes};
-ghost use Rattle.console_lang.specs.Replies.{reply_text, number_line, fault_line, mark_line, paragraph_lines, paragraphs_from};
+ghost use Rattle.console_lang.specs.Replies.{reply_text, number_line, fault_line, mark_line};
+ghost use Rattle.console_lang.specs.Replies.{paragraph_lines, paragraphs_from};
 
 use aff_lines::AffWhy;
 use dic_reader::DicWhy;
@@ -106,7 +107,8 @@ pub fn write_reply(alloc: Global, reply: &Reply) -> Result<Text, NoMemory>
 
 #[tactic(auto, unfolding(crate::specs::Replies::reply_text))]
 fn push_reply(written: &mut String, reply: &Reply) -> Result<(), AllocError>
-    ensures { OnOk result (string_bytes written.new ≡ string_bytes written.old ++ reply_text reply.now) }
+    ensures { OnOk result
+        (string_bytes written.new ≡ string_bytes written.old ++ reply_text reply.now) }
 {
     match *reply {
         Reply::Done { text } => push_number(written, "ok", text),
@@ -140,21 +142,24 @@ fn push_reply(written: &mut String, reply: &Reply) -> Result<(), AllocError>
 
 /// Adds a line of words and a number.
 fn push_number(written: &mut String, words: &str, number: u64) -> Result<(), AllocError>
-    ensures { OnOk result (string_bytes written.new ≡ string_bytes written.old ++ number_line words.now number) }
+    ensures { OnOk result
+        (string_bytes written.new ≡ string_bytes written.old ++ number_line words.now number) }
 {
     write!(written, "{words} {number}\n")
 }
 
 /// Adds the line of a fault of a file.
 fn push_fault(written: &mut String, words: &str, line: u64, why: &str) -> Result<(), AllocError>
-    ensures { OnOk result (string_bytes written.new ≡ string_bytes written.old ++ fault_line words.now line why.now) }
+    ensures { OnOk result
+        (string_bytes written.new ≡ string_bytes written.old ++ fault_line words.now line why.now) }
 {
     write!(written, "{words} {line} {why}\n")
 }
 
 /// Adds the lines of all paragraphs.
 fn push_paragraphs(written: &mut String, paragraphs: &[ShownPara]) -> Result<(), AllocError>
-    ensures { OnOk result (string_bytes written.new ≡ string_bytes written.old ++ paragraphs_from 1 paragraphs.now) }
+    ensures { OnOk result
+        (string_bytes written.new ≡ string_bytes written.old ++ paragraphs_from 1 paragraphs.now) }
 {
     for (place, paragraph) in paragraphs.iter().enumerate() {
         push_paragraph(written, place as u64 + 1, paragraph)?;
@@ -168,7 +173,9 @@ fn push_paragraph(
     number: u64,
     paragraph: &ShownPara,
 ) -> Result<(), AllocError>
-    ensures { OnOk result (string_bytes written.new ≡ string_bytes written.old ++ paragraph_lines number paragraph.now) }
+    ensures { OnOk result
+        (string_bytes written.new ≡ string_bytes written.old
+        ++ paragraph_lines number paragraph.now) }
 {
     match paragraph {
         ShownPara::Pending => write!(written, "{number} ?\n"),
@@ -177,7 +184,9 @@ fn push_paragraph(
 }
 
 fn push_marks(written: &mut String, number: u64, marks: &[Mark]) -> Result<(), AllocError>
-    ensures { OnOk result (string_bytes written.new ≡ string_bytes written.old ++ flat_map (mark_line number) marks.now) }
+    ensures { OnOk result
+        (string_bytes written.new ≡ string_bytes written.old
+        ++ flat_map (mark_line number) marks.now) }
 {
     for mark in marks {
         push_mark(written, number, mark)?;
@@ -186,7 +195,8 @@ fn push_marks(written: &mut String, number: u64, marks: &[Mark]) -> Result<(), A
 }
 
 fn push_mark(written: &mut String, number: u64, mark: &Mark) -> Result<(), AllocError>
-    ensures { OnOk result (string_bytes written.new ≡ string_bytes written.old ++ mark_line number mark.now) }
+    ensures { OnOk result
+        (string_bytes written.new ≡ string_bytes written.old ++ mark_line number mark.now) }
 {
     let Mark { from, to, .. } = *mark;
     let word = mark.word.as_str();

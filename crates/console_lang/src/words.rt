@@ -18,7 +18,8 @@ pub fn is_blank(line: &str) -> bool
         .all(|byte| *byte == b' ' || *byte == b'\t')
 }
 
-/// The words that are left of a line. One space parts them, so that between two spaces stands an empty word.
+/// The words that are left of a line. One space parts them, so that between two spaces stands an
+/// empty word.
 #[derive(Clone, Copy)]
 pub struct Words<'a> {
     /// The line from the next word on, if there is one more.
@@ -35,7 +36,8 @@ impl<'a> Words<'a> {
 
     /// The next word, and the words behind it.
     pub fn split_first(self) -> Option<(&'a str, Words<'a>)>
-        ensures { MatchOption result (words_left self.entry ≡ []) (λ found. words_left self.entry ≡ found.0.now ∷ words_left found.1) }
+        ensures { MatchOption result (words_left self.entry ≡ [])
+            (λ found. words_left self.entry ≡ found.0.now ∷ words_left found.1) }
     {
         let text = self.rest?;
         match text.split_once(' ') {

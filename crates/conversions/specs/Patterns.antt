@@ -1,5 +1,6 @@
 -- The patterns of a table in order, and the best of them at the front of a text.
-use Rattle.std.specs.Prelude.{◌≡◌, ℕ, ◌<◌, ◌≤◌, List, length, map, take, slice_get, Contains, MatchOption, Option, None, Some}
+use Rattle.std.specs.Prelude.{◌≡◌, ℕ, ◌<◌, ◌≤◌, List, length, map, take, slice_get, Contains}
+use Rattle.std.specs.Prelude.{MatchOption, Option, None, Some}
 use Rattle.std.specs.Cmp.Lexicographic.{slice_cmp}
 use Rattle.std.specs.List.{All}
 use Rattle.std.specs.List.Sorted.{IsSorted}
@@ -37,16 +38,19 @@ pub record FitsUpTo (text : List ℕ) (most : ℕ) (pattern : List ℕ) : Type 0
   pub front : take (length pattern) text ≡ pattern
 
 -- it is the longest of the patterns that do, and the first of its equals
-pub record IsBestUpTo (patterns : List Pattern) (text : List ℕ) (most : ℕ) (best : Pattern) : Type 0 where
+pub record IsBestUpTo (patterns : List Pattern) (text : List ℕ) (most : ℕ) (best : Pattern) : Type
+    0 where
   pub among : Contains patterns best
   pub fit : FitsUpTo text most best.0.items
-  pub longest : (p : Pattern) → Contains patterns p → FitsUpTo text most p.0.items → length p.0.items ≤ length best.0.items
+  pub longest : (p : Pattern) → Contains patterns p → FitsUpTo text most p.0.items
+      → length p.0.items ≤ length best.0.items
   pub first : (p : Pattern) → Contains patterns p → p.0.items ≡ best.0.items → best.1 ≤ p.1
 
 -- the best one that was found, or none where none fits
 abbrev pub BestUpTo : List Pattern → List ℕ → ℕ → Option Pattern → Type 0
 BestUpTo patterns text most found =
-    MatchOption found ((p : Pattern) → Contains patterns p → ¬ (FitsUpTo text most p.0.items)) (IsBestUpTo patterns text most)
+    MatchOption found ((p : Pattern) → Contains patterns p → ¬ (FitsUpTo text most p.0.items))
+    (IsBestUpTo patterns text most)
 
 -- what was made, or the word itself where nothing was
 abbrev pub or_word : Option (List ℕ) → List ℕ → List ℕ

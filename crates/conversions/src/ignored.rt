@@ -12,8 +12,8 @@ use spell_types::Chars;
 use std::alloc::Global;
 use std::marker::Model;
 
-/// Characters to ignore, ready to be dropped from words. Contracts see them as a list, which holds the same characters as
-/// that which they were made of. A character is found by halves among them.
+/// Characters to ignore, ready to be dropped from words. Contracts see them as a list, which holds
+/// the same characters as that which they were made of. A character is found by halves among them.
 #[derive(Drop)]
 pub struct Ignored {
     /// In the order of their codes.
@@ -41,7 +41,8 @@ impl Ignored {
         Ok(Ignored { characters })
     }
 
-    /// The word without the characters to ignore; none where it has none of them, and then stays as it is.
+    /// The word without the characters to ignore; none where it has none of them, and then stays as
+    /// it is.
     pub fn drop_from(&self, alloc: Global, word: &[char]) -> Result<Option<Chars>, NoMemory>
         ensures { IfOk result (λ made. or_word made word.now ≡ without_ignored self.now word.now) }
     {

@@ -1,8 +1,10 @@
-//! How a written word is converted before it is looked up, and what a common misspelling may stand for.
+//! How a written word is converted before it is looked up, and what a common misspelling may stand
+//! for.
 #![tactic(auto)]
 
 ghost use Rattle.std.specs.Prelude.{◌≡◌, ℕ, List, [], ◌∷◌, ◌++◌, length, drop, Some, None, IfOk};
-ghost use Rattle.spell_types.specs.Conversions.{best_fit, converted, is_kept, without_ignored, IsBestFit, NoneFits};
+ghost use Rattle.spell_types.specs.Conversions.{best_fit, converted, is_kept, without_ignored};
+ghost use Rattle.spell_types.specs.Conversions.{IsBestFit, NoneFits};
 ghost use Rattle.spell_types.specs.declared.conversions.Conversion.{Conversion};
 
 mod ignored;
@@ -16,8 +18,8 @@ use spell_types::{Chars, Conversion};
 use std::alloc::Global;
 pub use table::Conversions;
 
-/// The word converted: from left to right the longest pattern that stands at a place is replaced, the first
-/// of equally long ones, and what was written for it is not read again.
+/// The word converted: from left to right the longest pattern that stands at a place is replaced,
+/// the first of equally long ones, and what was written for it is not read again.
 pub fn convert(alloc: Global, table: &[Conversion], word: &[char]) -> Result<Chars, NoMemory>
     ensures { IfOk result (λ made. made ≡ converted table.now word.now) }
 {
@@ -47,8 +49,8 @@ fn is_kept(ignore: &[char], c: char) -> bool
     ignore.iter().all(|other| *other != c)
 }
 
-/// A word is converted from its front to its end. A best fitting row has the longest pattern that fits, and
-/// is the first of those whose patterns are equally long.
+/// A word is converted from its front to its end. A best fitting row has the longest pattern that
+/// fits, and is the first of those whose patterns are equally long.
 pub fn conversion_goes_from_the_front()
     ensures end { (table : List Conversion) → converted table [] ≡ [] }
     ensures kept { (table : List Conversion) (c : ℕ) (text : List ℕ) →

@@ -1,14 +1,16 @@
 //! Words that a common misspelling may stand for.
 
 ghost use Rattle.std.specs.Prelude.{◌≡◌, ◌+◌, ◌==◌, ◌++◌, length, take, drop, IfOk, OnOk};
-ghost use Rattle.spell_types.specs.Replacements.{stands_anchored, replaced_at, variants_by, rep_variants};
+ghost use Rattle.spell_types.specs.Replacements.{stands_anchored, replaced_at, variants_by};
+ghost use Rattle.spell_types.specs.Replacements.{rep_variants};
 
 use lists::{Items, NoMemory};
 use spell_types::{Anchored, Chars, Rep};
 use std::alloc::Global;
 
-/// The words that a word becomes by one pair of the option REP of hunspell(5), applied at one place: by pair, then by
-/// rising place. Pairs that make the same word give it again. Where a pair does not stand no memory is taken.
+/// The words that a word becomes by one pair of the option REP of hunspell(5), applied at one
+/// place: by pair, then by rising place. Pairs that make the same word give it again. Where a pair
+/// does not stand no memory is taken.
 #[tactic(auto, unfolding(spell_types::specs::Replacements::rep_variants))]
 pub fn rep_variants(alloc: Global, reps: &[Rep], word: &[char]) -> Result<Vec<Chars>, NoMemory>
     ensures { IfOk result (λ found. found.items ≡ rep_variants reps.now word.now) }
@@ -37,8 +39,9 @@ fn add_variants(
     Ok(())
 }
 
-/// The word with the replacement of a pair of REP for as many characters as the pair's text has, from a place on, whichever
-/// they are. The place is counted in characters from 0; behind the word's end the replacement is added to the word.
+/// The word with the replacement of a pair of REP for as many characters as the pair's text has,
+/// from a place on, whichever they are. The place is counted in characters from 0; behind the
+/// word's end the replacement is added to the word.
 pub fn variant_at(alloc: Global, rep: &Rep, word: &[char], place: usize) -> Result<Chars, NoMemory>
     ensures { IfOk result (λ made. made ≡ replaced_at rep.now word.now place) }
 {
@@ -48,8 +51,9 @@ pub fn variant_at(alloc: Global, rep: &Rep, word: &[char], place: usize) -> Resu
     Ok(Items::from_vec(made))
 }
 
-/// Whether a text stands at a place of a word, counted in characters from 0, and its front or its end is there, where the text
-/// is anchored so: how the option REP of hunspell(5) reads `^text` and `text$`.
+/// Whether a text stands at a place of a word, counted in characters from 0, and its front or its
+/// end is there, where the text is anchored so: how the option REP of hunspell(5) reads `^text` and
+/// `text$`.
 pub fn stands_anchored(from: &Anchored, word: &[char], place: usize) -> bool
     ensures { result ≡ stands_anchored from.now word.now place }
 {

@@ -15,9 +15,9 @@ use std::marker::Model;
 /// A pattern, and the place of its row in the table.
 type Pattern = (Vec<char>, usize);
 
-/// A table of conversions, ready to be used on words. Contracts see it as its rows. A pattern is found by its characters,
-/// one after another, each by halves among the patterns that begin alike: at a place of a word no more characters are
-/// looked at than some pattern has there, and one.
+/// A table of conversions, ready to be used on words. Contracts see it as its rows. A pattern is
+/// found by its characters, one after another, each by halves among the patterns that begin alike:
+/// at a place of a word no more characters are looked at than some pattern has there, and one.
 #[derive(Drop)]
 pub struct Conversions {
     table: Items<Conversion>,
@@ -50,7 +50,8 @@ impl Conversions {
         })
     }
 
-    /// The word converted, as `convert` has it; none where no pattern stands in the word, which then stays as it is.
+    /// The word converted, as `convert` has it; none where no pattern stands in the word, which
+    /// then stays as it is.
     pub fn convert(&self, alloc: Global, word: &[char]) -> Result<Option<Chars>, NoMemory>
         ensures { IfOk result (λ made. or_word made word.now ≡ converted self.now word.now) }
     {
@@ -81,7 +82,8 @@ fn first_fit(table: &[Conversion], patterns: &[Pattern], word: &[char]) -> Optio
     requires { ArePatternsOf table.now patterns.now }
     ensures { MatchOption result (converted table.now word.now ≡ word.now)
         (λ start. (start ≤ length word.now)
-        × (converted table.now word.now ≡ take start word.now ++ converted table.now (drop start word.now))) }
+        × (converted table.now word.now ≡ take start word.now
+        ++ converted table.now (drop start word.now))) }
 {
     for start in 0..word.len() {
         if best_fit(table, patterns, &word[start..]).is_some() {
@@ -101,7 +103,8 @@ fn convert_from(
 ) -> Result<Chars, NoMemory>
     requires patterns { ArePatternsOf table.now patterns.now }
     requires start { start ≤ length word.now }
-    ensures { IfOk result (λ made. made ≡ take start word.now ++ converted table.now (drop start word.now)) }
+    ensures { IfOk result
+        (λ made. made ≡ take start word.now ++ converted table.now (drop start word.now)) }
 {
     let mut made = Items::from_vec(word[..start].to_vec(alloc)?);
     let mut place = start;
@@ -139,7 +142,8 @@ fn convert_front(
     }
 }
 
-/// The row whose pattern stands at the front of the text: the longest, the first of equally long ones.
+/// The row whose pattern stands at the front of the text: the longest, the first of equally long
+/// ones.
 fn best_fit<'a>(
     table: &'a [Conversion],
     patterns: &[Pattern],

@@ -1,5 +1,7 @@
 -- Where an entry ends in its line, and that the line may be cut there.
-use Rattle.std.proofs.Common.{◌≡◌, ℕ, ◌+◌, ◌-◌, ◌<◌, ◌≤◌, true, false, cond, List, [], ◌∷◌, ◌++◌, length, take, drop, sym, ap, ◌∙◌, subst, arith, get_or, add-one, append_assoc}
+use Rattle.std.proofs.Common.{◌≡◌, ℕ, ◌+◌, ◌-◌, ◌<◌, ◌≤◌, true, false, cond, List, [], ◌∷◌, ◌++◌}
+use Rattle.std.proofs.Common.{length, take, drop, sym, ap, ◌∙◌, subst, arith, get_or, add-one}
+use Rattle.std.proofs.Common.{append_assoc}
 use mathlib.Core.Logic.{⊎_elim}
 use Rattle.std.specs.List.{prefix_len, slice_index}
 use Rattle.std.specs.Str.{IsCharBoundary, IsUtf8}
@@ -7,7 +9,8 @@ use Rattle.std.proofs.lemmas.Bool.{cases_lt}
 use Rattle.std.proofs.lemmas.Bool.Decides.{nat_tests}
 use Rattle.std.proofs.lemmas.List.{take_more, take_rest}
 use Rattle.std.proofs.lemmas.List.Sums.{prefix_len_passes}
-use Rattle.std.proofs.lemmas.Str.{IsCharBoundary-before_ascii, IsCharBoundary-after_ascii, IsCharBoundary-end}
+use Rattle.std.proofs.lemmas.Str.{IsCharBoundary-before_ascii, IsCharBoundary-after_ascii}
+use Rattle.std.proofs.lemmas.Str.{IsCharBoundary-end}
 use Rattle.std.proofs.Math.Seq.{drop-cons}
 use Rattle.dic_reader.specs.Entries.{is_space, ends_entry, before_fields}
 
@@ -19,9 +22,12 @@ pub before_fields-more : (line bytes : List ℕ) (place : ℕ) → bytes ≡ lin
 before_fields-more line bytes place same within goes_on so_far =
     let c = get_or line place 0 in
     let rest = drop (place + 1) line in
-    let cut : drop place line ≡ c ∷ rest = drop-cons line place 0 within ∙ ap (λ n. c ∷ drop n line) (sym (add-one place)) in
+    let cut : drop place line ≡ c ∷ rest =
+    drop-cons line place 0 within ∙ ap (λ n. c ∷ drop n line) (sym (add-one place)) in
     let no_end : ends_entry (c ∷ rest) ≡ false =
-    sym (ap ends_entry (take_rest line place ∙ cut)) ∙ ap (λ text. ends_entry (take (length text - place) (drop place text))) (sym same) ∙ goes_on in
+    sym (ap ends_entry (take_rest line place ∙ cut))
+    ∙ ap (λ text. ends_entry (take (length text - place) (drop place text))) (sym same)
+    ∙ goes_on in
     so_far
     ∙ ap (λ text. take place line ++ before_fields text) cut
     ∙ ap (λ b. take place line ++ cond b [] (c ∷ before_fields rest)) no_end
@@ -29,23 +35,33 @@ before_fields-more line bytes place same within goes_on so_far =
     ∙ ap (λ text. text ++ before_fields rest) (sym (take_more line place 0 within))
 
 -- behind spaces a text may be cut, and before spaces
-pub cut-behind_spaces : (text bytes : List ℕ) (place : ℕ) → IsUtf8 text → bytes ≡ text → place ≡ prefix_len is_space bytes → place ≤ length bytes → 0 < place
+pub cut-behind_spaces : (text bytes : List ℕ) (place : ℕ) → IsUtf8 text → bytes ≡ text
+    → place ≡ prefix_len is_space bytes → place ≤ length bytes → 0 < place
     → IsCharBoundary text place
 cut-behind_spaces text bytes place utf8 same is within some =
     let before : (place - 1) + 1 ≡ place = omega (arith, some) in
     let inside : place - 1 < length text = omega (arith, some, within, ap length same) in
     let space : is_space (get_or text (place - 1) 0) ≡ true =
-    ap (λ t. is_space (get_or t (place - 1) 0)) (sym same) ∙ prefix_len_passes is_space bytes (place - 1) 0 (omega (arith, some, is)) in
-    subst (IsCharBoundary text) before (IsCharBoundary-after_ascii text (place - 1) utf8 inside (low (get_or text (place - 1) 0) space))
+    ap (λ t. is_space (get_or t (place - 1) 0)) (sym same)
+    ∙ prefix_len_passes is_space bytes (place - 1) 0 (omega (arith, some, is)) in
+    subst (IsCharBoundary text) before
+    (IsCharBoundary-after_ascii text (place - 1) utf8 inside
+    (low (get_or text (place - 1) 0) space))
   where
     low : (c : ℕ) → is_space c ≡ true → c < 128
     low c space = grind (arith, nat_tests)
 
-pub cut-before_spaces : (text bytes : List ℕ) (place : ℕ) → bytes ≡ text → place ≤ length text → (place < length bytes → slice_index bytes place ≡ 32)
+pub cut-before_spaces : (text bytes : List ℕ) (place : ℕ) → bytes ≡ text → place ≤ length text
+    → (place < length bytes → slice_index bytes place ≡ 32)
     → IsCharBoundary text place
 cut-before_spaces text bytes place same within begins =
     ⊎_elim
     (λ (inside : place < length text). IsCharBoundary-before_ascii text place inside
-    (omega (arith, sym (ap (λ t. slice_index t place) same) ∙ begins (omega (arith, inside, ap length same)))))
-    (λ (past : length text ≤ place). subst (IsCharBoundary text) (omega (arith, past, within)) (IsCharBoundary-end text))
+    (omega (
+      arith,
+      sym (ap (λ t. slice_index t place) same)
+          ∙ begins (omega (arith, inside, ap length same)),
+    )))
+    (λ (past : length text ≤ place). subst (IsCharBoundary text) (omega (arith, past, within))
+    (IsCharBoundary-end text))
     (cases_lt place (length text))

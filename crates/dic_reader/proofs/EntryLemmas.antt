@@ -1,5 +1,7 @@
 -- The word, the flags and the faults of an entry.
-use Rattle.std.proofs.Common.{◌≡◌, ◌≢◌, ℕ, ◌==◌, Bool, true, false, cond, List, [], ◌∷◌, ◌++◌, length, map, Option, Some, None, Err, Bor, unwrap_or, refl, sym, ap, ◌∙◌, subst, append_assoc, lit<}
+use Rattle.std.proofs.Common.{◌≡◌, ◌≢◌, ℕ, ◌==◌, Bool, true, false, cond, List, [], ◌∷◌, ◌++◌}
+use Rattle.std.proofs.Common.{length, map, Option, Some, None, Err, Bor, unwrap_or, refl, sym, ap}
+use Rattle.std.proofs.Common.{◌∙◌, subst, append_assoc, lit<}
 use Rattle.std.specs.List.{AllByRecursion}
 use Rattle.std.specs.Option.{option_copied}
 use Rattle.std.specs.Str.{chars, IsUtf8}
@@ -10,7 +12,8 @@ use Rattle.flag_sets.specs.Slashes.{before_slash, behind_slash}
 use Rattle.dic_reader.specs.declared.faults.DicWhy.{DicWhy}
 use Rattle.dic_reader.specs.declared.faults.DicWhy.TheVariants.{EmptyWord}
 use Rattle.dic_reader.specs.Entries.{Listed, entry_at, flag_text, whole_word, word_of, flags_of}
-use Rattle.dic_reader.specs.Faults.{Fault, cause_number, least_of, word_faults, flag_whys, flag_faults, entry_faults, entry_said, entry_read}
+use Rattle.dic_reader.specs.Faults.{Fault, cause_number, least_of, word_faults, flag_whys}
+use Rattle.dic_reader.specs.Faults.{flag_faults, entry_faults, entry_said, entry_read}
 use Rattle.dic_reader.proofs.FaultLemmas.{flags-behind-word}
 use Rattle.line_faults.specs.Faults.{fault_at, unless_fault}
 use Rattle.line_faults.specs.Laws.{none-before-stays}
@@ -23,11 +26,15 @@ unfolding chars
 only-slash = refl
 
 slash-char : (text : List ℕ) → chars (47 ∷ text) ≡ 47 ∷ chars text
-slash-char text = chars-append (47 ∷ []) text (subst IsUtf8 (encode_ascii 47 (lit< tt)) (IsUtf8-encode 47 refl)) ∙ ap (λ cs. cs ++ chars text) only-slash
+slash-char text =
+    chars-append (47 ∷ []) text (subst IsUtf8 (encode_ascii 47 (lit< tt)) (IsUtf8-encode 47 refl))
+    ∙ ap (λ cs. cs ++ chars text) only-slash
 
 -- behind a slash at the front
-pub front-word : (old word new entry : List ℕ) (rest stripped : Bor (List ℕ)) → entry ≡ 47 ∷ stripped.now → rest ≡ stripped
-    → word ≡ old ++ 47 ∷ [] → new ≡ word ++ chars (before_slash rest.now) → new ≡ old ++ whole_word entry
+pub front-word : (old word new entry : List ℕ) (rest stripped : Bor (List ℕ))
+    → entry ≡ 47 ∷ stripped.now → rest ≡ stripped
+    → word ≡ old ++ 47 ∷ [] → new ≡ word ++ chars (before_slash rest.now)
+    → new ≡ old ++ whole_word entry
 front-word old word new entry rest stripped is same begun grown =
     grown
     ∙ ap (λ w. w ++ chars (before_slash rest.now)) begun
@@ -35,25 +42,38 @@ front-word old word new entry rest stripped is same begun grown =
     ∙ ap (λ r. old ++ 47 ∷ chars (before_slash r.now)) same
     ∙ ap (λ cs. old ++ cs) (sym (ap whole_word is ∙ slash-char (before_slash stripped.now)))
 
-opened : (found : Option (Bor (List ℕ))) (place : _) → (unwrap_or found (record { ref_ptr = place; now = [] })).now ≡ unwrap_or (option_copied found) []
+opened : (found : Option (Bor (List ℕ))) (place : _)
+    → (unwrap_or found (record { ref_ptr = place; now = [] })).now ≡ unwrap_or (option_copied found)
+    []
 opened None place = refl
 opened (Some text) place = refl
 
-pub front-flags : (entry : List ℕ) (rest stripped result : Bor (List ℕ)) (found : Option (Bor (List ℕ))) (place : _) → entry ≡ 47 ∷ stripped.now → rest ≡ stripped
-    → option_copied found ≡ behind_slash rest.now → result ≡ unwrap_or found (record { ref_ptr = place; now = [] }) → result.now ≡ flag_text entry
+pub front-flags : (entry : List ℕ) (rest stripped result : Bor (List ℕ))
+    (found : Option (Bor (List ℕ))) (place : _) → entry ≡ 47 ∷ stripped.now → rest ≡ stripped
+    → option_copied found ≡ behind_slash rest.now
+    → result ≡ unwrap_or found (record { ref_ptr = place; now = [] }) → result.now ≡ flag_text entry
 front-flags entry rest stripped result found place is same behind given =
-    ap (λ r. r.now) given ∙ opened found place ∙ ap (λ o. unwrap_or o []) (behind ∙ ap (λ r. behind_slash r.now) same) ∙ sym (ap flag_text is)
+    ap (λ r. r.now) given ∙ opened found place
+    ∙ ap (λ o. unwrap_or o []) (behind ∙ ap (λ r. behind_slash r.now) same)
+    ∙ sym (ap flag_text is)
 
 -- where no slash stands at the front
-plain-word-of : (entry : List ℕ) → ((rest : List ℕ) → entry ≢ 47 ∷ rest) → whole_word entry ≡ chars (before_slash entry)
+plain-word-of : (entry : List ℕ) → ((rest : List ℕ) → entry ≢ 47 ∷ rest)
+    → whole_word entry ≡ chars (before_slash entry)
 plain-word-of [] plain = refl
-plain-word-of (c ∷ more) plain = ap (λ t. chars (cond t (c ∷ before_slash more) (before_slash (c ∷ more)))) (ne_eqb c 47 (λ is. plain more (ap (λ n. n ∷ more) is)))
+plain-word-of (c ∷ more) plain =
+    ap (λ t. chars (cond t (c ∷ before_slash more) (before_slash (c ∷ more))))
+    (ne_eqb c 47 (λ is. plain more (ap (λ n. n ∷ more) is)))
 
-plain-flag-text : (entry : List ℕ) → ((rest : List ℕ) → entry ≢ 47 ∷ rest) → flag_text entry ≡ unwrap_or (behind_slash entry) []
+plain-flag-text : (entry : List ℕ) → ((rest : List ℕ) → entry ≢ 47 ∷ rest)
+    → flag_text entry ≡ unwrap_or (behind_slash entry) []
 plain-flag-text [] plain = refl
-plain-flag-text (c ∷ more) plain = ap (λ t. unwrap_or (behind_slash (cond t more (c ∷ more))) []) (ne_eqb c 47 (λ is. plain more (ap (λ n. n ∷ more) is)))
+plain-flag-text (c ∷ more) plain =
+    ap (λ t. unwrap_or (behind_slash (cond t more (c ∷ more))) [])
+    (ne_eqb c 47 (λ is. plain more (ap (λ n. n ∷ more) is)))
 
-pub plain-word : (old word new : List ℕ) (rest entry : Bor (List ℕ)) → ((more : List ℕ) → entry.now ≢ 47 ∷ more) → rest ≡ entry
+pub plain-word : (old word new : List ℕ) (rest entry : Bor (List ℕ))
+    → ((more : List ℕ) → entry.now ≢ 47 ∷ more) → rest ≡ entry
     → word ≡ old → new ≡ word ++ chars (before_slash rest.now) → new ≡ old ++ whole_word entry.now
 plain-word old word new rest entry plain same begun grown =
     grown
@@ -61,35 +81,49 @@ plain-word old word new rest entry plain same begun grown =
     ∙ ap (λ r. old ++ chars (before_slash r.now)) same
     ∙ ap (λ cs. old ++ cs) (sym (plain-word-of entry.now plain))
 
-pub plain-flags : (rest entry result : Bor (List ℕ)) (found : Option (Bor (List ℕ))) (place : _) → ((more : List ℕ) → entry.now ≢ 47 ∷ more) → rest ≡ entry
-    → option_copied found ≡ behind_slash rest.now → result ≡ unwrap_or found (record { ref_ptr = place; now = [] }) → result.now ≡ flag_text entry.now
+pub plain-flags : (rest entry result : Bor (List ℕ)) (found : Option (Bor (List ℕ))) (place : _)
+    → ((more : List ℕ) → entry.now ≢ 47 ∷ more) → rest ≡ entry
+    → option_copied found ≡ behind_slash rest.now
+    → result ≡ unwrap_or found (record { ref_ptr = place; now = [] })
+    → result.now ≡ flag_text entry.now
 plain-flags rest entry result found place plain same behind given =
-    ap (λ r. r.now) given ∙ opened found place ∙ ap (λ o. unwrap_or o []) (behind ∙ ap (λ r. behind_slash r.now) same) ∙ sym (plain-flag-text entry.now plain)
+    ap (λ r. r.now) given ∙ opened found place
+    ∙ ap (λ o. unwrap_or o []) (behind ∙ ap (λ r. behind_slash r.now) same)
+    ∙ sym (plain-flag-text entry.now plain)
 
 -- ---- the faults of one entry are all at its line
 
 abbrev pub IsAtLine : ℕ → Fault → Type 0
 IsAtLine number fault = fault.line ≡ number
 
-word-faults-at : (number : ℕ) (empty : Bool) → AllByRecursion (IsAtLine number) (cond empty (fault_at number EmptyWord ∷ []) [])
+word-faults-at : (number : ℕ) (empty : Bool)
+    → AllByRecursion (IsAtLine number) (cond empty (fault_at number EmptyWord ∷ []) [])
 word-faults-at number true = (refl, tt)
 word-faults-at number false = tt
 
-flag-faults-at : (number : ℕ) (whys : List DicWhy) → AllByRecursion (IsAtLine number) (map (fault_at number) whys)
+flag-faults-at : (number : ℕ) (whys : List DicWhy)
+    → AllByRecursion (IsAtLine number) (map (fault_at number) whys)
 flag-faults-at number [] = tt
 flag-faults-at number (why ∷ more) = (refl, flag-faults-at number more)
 
-pub faults-at : (affixes : Affixes) (entry : Listed) → AllByRecursion (IsAtLine entry.number) (entry_faults affixes entry)
+pub faults-at : (affixes : Affixes) (entry : Listed)
+    → AllByRecursion (IsAtLine entry.number) (entry_faults affixes entry)
 faults-at affixes entry =
     each-append (IsAtLine entry.number) (word_faults affixes entry) (flag_faults affixes entry)
-    (word-faults-at entry.number (length (word_of affixes entry.text) == 0)) (flag-faults-at entry.number (flag_whys (flags_of affixes entry.text)))
+    (word-faults-at entry.number (length (word_of affixes entry.text) == 0))
+    (flag-faults-at entry.number (flag_whys (flags_of affixes entry.text)))
 
 -- an entry without a word, whatever its flags are
-pub no-word : (affixes : Affixes) (number : ℕ) (text word : List ℕ) → word ≡ word_of affixes text → (length word == 0) ≡ true
+pub no-word : (affixes : Affixes) (number : ℕ) (text word : List ℕ) → word ≡ word_of affixes text
+    → (length word == 0) ≡ true
     → entry_read affixes (entry_at number text) ≡ Err (fault_at number EmptyWord)
 no-word affixes number text word is empty =
     let fault = fault_at number EmptyWord in
     let flags = flag_faults affixes (entry_at number text) in
-    ap (λ w. unless_fault (least_of (cond (length w == 0) (fault ∷ []) [] ++ flags)) (entry_said affixes (entry_at number text))) (sym is)
-    ∙ ap (λ b. unless_fault (least_of (cond b (fault ∷ []) [] ++ flags)) (entry_said affixes (entry_at number text))) empty
-    ∙ ap (λ o. unless_fault o (entry_said affixes (entry_at number text))) (none-before-stays cause_number fault flags (flags-behind-word number (flags_of affixes text)))
+    ap (λ w. unless_fault (least_of (cond (length w == 0) (fault ∷ []) [] ++ flags))
+    (entry_said affixes (entry_at number text))) (sym is)
+    ∙ ap (λ b. unless_fault (least_of (cond b (fault ∷ []) [] ++ flags))
+    (entry_said affixes (entry_at number text))) empty
+    ∙ ap (λ o. unless_fault o (entry_said affixes (entry_at number text)))
+    (none-before-stays cause_number fault flags
+    (flags-behind-word number (flags_of affixes text)))

@@ -1,18 +1,22 @@
 -- The order of causes; what is read, or the fault, taken apart.
-use Rattle.std.proofs.Common.{◌≡◌, ℕ, ◌≤◌, false, map, refl, arith, Option, Some, None, Result, Ok, Err, List}
+use Rattle.std.proofs.Common.{◌≡◌, ℕ, ◌≤◌, false, map, refl, arith, Option, Some, None, Result, Ok}
+use Rattle.std.proofs.Common.{Err, List}
 use Rattle.line_faults.specs.Faults.{is_before, fault_at, unless_fault}
 use Rattle.line_faults.specs.Laws.{NoneBefore, lower-cause, no-first, first-least}
 use Rattle.spell_types.specs.declared.Affixes.{Affixes}
 use Rattle.spell_types.specs.declared.Entry.{Entry}
 use Rattle.spell_types.specs.declared.flags.Flag.{Flag}
 use Rattle.flag_sets.specs.declared.FlagFault.{FlagFault}
-use Rattle.flag_sets.specs.declared.FlagFault.TheVariants.{BadFlag as NoFlag, BadAlias as NoAlias, NoMemory as Wanting}
+use Rattle.flag_sets.specs.declared.FlagFault.TheVariants.{BadFlag as NoFlag, BadAlias as NoAlias}
+use Rattle.flag_sets.specs.declared.FlagFault.TheVariants.{NoMemory as Wanting}
 use Rattle.text_lines.specs.Lines.{good_lines}
 use Rattle.dic_reader.specs.declared.faults.DicFault.{DicFault}
 use Rattle.dic_reader.specs.declared.faults.DicFault.TheVariants.{At, NoMemory}
 use Rattle.dic_reader.specs.declared.faults.DicWhy.{DicWhy}
-use Rattle.dic_reader.specs.declared.faults.DicWhy.TheVariants.{NotUtf8, BadCount, EmptyWord, BadFlag, BadAlias, TooMany}
-use Rattle.dic_reader.specs.Faults.{Fault, cause_number, flag_whys, first_fault, dic_passes, entries_said, dic_read, IsRead, DicReads, DicRefuses}
+use Rattle.dic_reader.specs.declared.faults.DicWhy.TheVariants.{NotUtf8, BadCount, EmptyWord}
+use Rattle.dic_reader.specs.declared.faults.DicWhy.TheVariants.{BadFlag, BadAlias, TooMany}
+use Rattle.dic_reader.specs.Faults.{Fault, cause_number, flag_whys, first_fault, dic_passes}
+use Rattle.dic_reader.specs.Faults.{entries_said, dic_read, IsRead, DicReads, DicRefuses}
 use Rattle.std.specs.Result.{IfOk, IfErr}
 
 -- ---- the order of causes
@@ -35,24 +39,33 @@ pub flags-behind-word : (line : ℕ) (found : Result (List Flag) FlagFault)
     → NoneBefore cause_number (fault_at line EmptyWord) (map (fault_at line) (flag_whys found))
 unfolding cause_number
 flags-behind-word line (Ok set) = tt
-flags-behind-word line (Err NoAlias) =
-    (lower-cause cause_number (fault_at line EmptyWord) (fault_at line BadAlias) refl (omega arith), tt)
-flags-behind-word line (Err NoFlag) =
-    (lower-cause cause_number (fault_at line EmptyWord) (fault_at line BadFlag) refl (omega arith), tt)
-flags-behind-word line (Err Wanting) =
-    (lower-cause cause_number (fault_at line EmptyWord) (fault_at line BadFlag) refl (omega arith), tt)
+flags-behind-word line (Err NoAlias) = (
+  lower-cause cause_number (fault_at line EmptyWord) (fault_at line BadAlias) refl (omega arith),
+  tt,
+)
+flags-behind-word line (Err NoFlag) = (
+  lower-cause cause_number (fault_at line EmptyWord) (fault_at line BadFlag) refl (omega arith),
+  tt,
+)
+flags-behind-word line (Err Wanting) = (
+  lower-cause cause_number (fault_at line EmptyWord) (fault_at line BadFlag) refl (omega arith),
+  tt,
+)
 
 -- ---- what is read, or the fault, taken apart
 
-pub read-fault : {A : Type 0} (due : Option Fault) (said made : A) → unless_fault due said ≡ Ok made → due ≡ None
+pub read-fault : {A : Type 0} (due : Option Fault) (said made : A) → unless_fault due said ≡ Ok made
+    → due ≡ None
 read-fault None said made is = refl
 read-fault (Some fault) said made is = absurd cc
 
-pub read-said : {A : Type 0} (due : Option Fault) (said made : A) → unless_fault due said ≡ Ok made → made ≡ said
+pub read-said : {A : Type 0} (due : Option Fault) (said made : A) → unless_fault due said ≡ Ok made
+    → made ≡ said
 read-said None said made is = cc
 read-said (Some fault) said made is = absurd cc
 
-pub told-fault : {A : Type 0} (due : Option Fault) (said : A) (fault : Fault) → unless_fault due said ≡ Err fault → due ≡ Some fault
+pub told-fault : {A : Type 0} (due : Option Fault) (said : A) (fault : Fault)
+    → unless_fault due said ≡ Err fault → due ≡ Some fault
 told-fault None said fault is = absurd cc
 told-fault (Some own) said fault is = cc
 
@@ -78,4 +91,5 @@ refuses-at-first affixes bytes (Err NoMemory) is = tt
 refuses-at-first affixes bytes (Err (At line why)) is =
     let passes = dic_passes affixes bytes in
     let said = entries_said affixes bytes (good_lines bytes) in
-    first-least cause_number passes (fault_at line why) (told-fault (first_fault passes) said (fault_at line why) is)
+    first-least cause_number passes (fault_at line why)
+    (told-fault (first_fault passes) said (fault_at line why) is)

@@ -1,5 +1,6 @@
 -- The lines of a file, of which the first has to count, and what is read of the file.
-use Rattle.std.proofs.Common.{◌≡◌, ℕ, true, false, cond, List, [], ◌∷◌, ◌++◌, length, map, Some, None, Result, Err, suc, refl, sym, ap, ◌∙◌, subst, arith}
+use Rattle.std.proofs.Common.{◌≡◌, ℕ, true, false, cond, List, [], ◌∷◌, ◌++◌, length, map, Some}
+use Rattle.std.proofs.Common.{None, Result, Err, suc, refl, sym, ap, ◌∙◌, subst, arith}
 use Rattle.text_lines.specs.declared.found.Line.{Line}
 use Rattle.text_lines.specs.Lines.{text_of, good_lines, bad_line}
 use Rattle.spell_types.specs.declared.Affixes.{Affixes}
@@ -7,63 +8,85 @@ use Rattle.spell_types.specs.declared.Entry.{Entry}
 use Rattle.dic_reader.specs.declared.faults.DicFault.{DicFault}
 use Rattle.dic_reader.specs.declared.faults.DicWhy.TheVariants.{NotUtf8, BadCount}
 use Rattle.dic_reader.specs.Entries.{listed, is_count}
-use Rattle.dic_reader.specs.Faults.{Fault, cause_number, bad_faults, least_of, first_fault, entry_limit, entries_faults, lines_faults, entry_said, entries_said, entries_read, lines_read, dic_read, IsRead}
+use Rattle.dic_reader.specs.Faults.{Fault, cause_number, bad_faults, least_of, first_fault}
+use Rattle.dic_reader.specs.Faults.{entry_limit, entries_faults, lines_faults, entry_said}
+use Rattle.dic_reader.specs.Faults.{entries_said, entries_read, lines_read, dic_read, IsRead}
 use Rattle.line_faults.specs.Faults.{is_before, fault_at, unless_fault}
 use Rattle.line_faults.specs.Laws.{NoneBefore, higher-line, none-before-stays}
-use Rattle.dic_reader.proofs.OrderLemmas.{AreBehind, AreNumbered, AreRising, rising, first-behind, first-number, entries-behind-stay}
+use Rattle.dic_reader.proofs.OrderLemmas.{AreBehind, AreNumbered, AreRising, rising, first-behind}
+use Rattle.dic_reader.proofs.OrderLemmas.{first-number, entries-behind-stay}
 use Rattle.lists.specs.Laws.{or-none}
 
 -- ---- the first line and those behind it
 
-pub rising-behind : (lines later : List Line) (count : Line) → lines ≡ count ∷ later → AreNumbered lines
+pub rising-behind : (lines later : List Line) (count : Line) → lines ≡ count ∷ later
+    → AreNumbered lines
     → AreRising later
 rising-behind lines later count is numbered =
     let all = rising (count ∷ later) (subst AreNumbered is numbered) in
     λ i j d lower within. all (suc i) (suc j) d (omega (arith, lower)) (omega (arith, within))
 
 -- where the first line counts, what is read is what is read of the entries
-pub counted : (affixes : Affixes) (bytes : List ℕ) (lines later : List Line) (count : Line) (result : Result (List Entry) DicFault)
+pub counted : (affixes : Affixes) (bytes : List ℕ) (lines later : List Line) (count : Line)
+    (result : Result (List Entry) DicFault)
     → lines ≡ count ∷ later → is_count (text_of bytes count) ≡ true
-    → IsRead (entries_read affixes entry_limit (listed bytes later)) result → IsRead (lines_read affixes bytes lines) result
+    → IsRead (entries_read affixes entry_limit (listed bytes later)) result
+    → IsRead (lines_read affixes bytes lines) result
 unfolding entries_read lines_read
 counted affixes bytes lines later count result is counts =
     let entries = listed bytes later in
     let said = map (entry_said affixes) entries in
     subst (λ (read : Result (List Entry) Fault). IsRead read result)
     (sym
-    (ap (λ own. unless_fault (least_of (lines_faults affixes bytes own)) (entries_said affixes bytes own)) is
-    ∙ ap (λ b. unless_fault (least_of (cond b [] (fault_at count.number BadCount ∷ []) ++ entries_faults affixes entry_limit entries)) said) counts))
+    (ap (λ own. unless_fault (least_of (lines_faults affixes bytes own))
+    (entries_said affixes bytes own)) is
+    ∙ ap (λ b. unless_fault
+    (least_of (cond b [] (fault_at count.number BadCount ∷ [])
+    ++ entries_faults affixes entry_limit entries)) said) counts))
 
 -- where it does not, its fault goes before those of the entries
-pub uncounted : (affixes : Affixes) (bytes : List ℕ) (lines later : List Line) (count : Line) → lines ≡ count ∷ later → AreNumbered lines
-    → is_count (text_of bytes count) ≡ false → lines_read affixes bytes lines ≡ Err (fault_at 1 BadCount)
+pub uncounted : (affixes : Affixes) (bytes : List ℕ) (lines later : List Line) (count : Line)
+    → lines ≡ count ∷ later → AreNumbered lines
+    → is_count (text_of bytes count) ≡ false
+    → lines_read affixes bytes lines ≡ Err (fault_at 1 BadCount)
 unfolding lines_read
 uncounted affixes bytes lines later count is numbered lacks =
     let entries = listed bytes later in
     let fault = fault_at count.number BadCount in
     let said = map (entry_said affixes) entries in
     let own = subst AreNumbered is numbered in
-    let behind : AreBehind count.number entries = first-behind bytes count later (rising (count ∷ later) own) in
+    let behind : AreBehind count.number entries =
+    first-behind bytes count later (rising (count ∷ later) own) in
     let none : NoneBefore cause_number fault (entries_faults affixes entry_limit entries) =
-    entries-behind-stay affixes (λ other. is_before cause_number other fault ≡ false) count.number (λ other above. higher-line cause_number fault other above) entry_limit entries behind in
-    ap (λ all. unless_fault (least_of (lines_faults affixes bytes all)) (entries_said affixes bytes all)) is
-    ∙ ap (λ b. unless_fault (least_of (cond b [] (fault ∷ []) ++ entries_faults affixes entry_limit entries)) said) lacks
-    ∙ ap (λ o. unless_fault o said) (none-before-stays cause_number fault (entries_faults affixes entry_limit entries) none)
+    entries-behind-stay affixes (λ other. is_before cause_number other fault ≡ false) count.number
+    (λ other above. higher-line cause_number fault other above) entry_limit entries behind in
+    ap (λ all. unless_fault (least_of (lines_faults affixes bytes all))
+    (entries_said affixes bytes all)) is
+    ∙ ap (λ b. unless_fault
+    (least_of (cond b [] (fault ∷ []) ++ entries_faults affixes entry_limit entries)) said)
+    lacks
+    ∙ ap (λ o. unless_fault o said)
+    (none-before-stays cause_number fault (entries_faults affixes entry_limit entries) none)
     ∙ ap (λ n. Err (fault_at n BadCount)) (first-number count later own)
 
-pub no-lines : (affixes : Affixes) (bytes : List ℕ) (lines : List Line) → length lines ≡ 0 → lines_read affixes bytes lines ≡ Err (fault_at 1 BadCount)
+pub no-lines : (affixes : Affixes) (bytes : List ℕ) (lines : List Line) → length lines ≡ 0
+    → lines_read affixes bytes lines ≡ Err (fault_at 1 BadCount)
 unfolding lines_read
 no-lines affixes bytes [] none = refl
 no-lines affixes bytes (line ∷ later) none = absurd (omega (arith, none))
 
 -- ---- a file
 
-pub bad-told : (affixes : Affixes) (bytes : List ℕ) (line : ℕ) → bad_line bytes ≡ Some line → dic_read affixes bytes ≡ Err (fault_at line NotUtf8)
+pub bad-told : (affixes : Affixes) (bytes : List ℕ) (line : ℕ) → bad_line bytes ≡ Some line
+    → dic_read affixes bytes ≡ Err (fault_at line NotUtf8)
 unfolding dic_read
 bad-told affixes bytes line bad =
-    ap (λ b. unless_fault (first_fault (bad_faults b ∷ lines_faults affixes bytes (good_lines bytes) ∷ [])) (entries_said affixes bytes (good_lines bytes))) bad
+    ap (λ b. unless_fault
+    (first_fault (bad_faults b ∷ lines_faults affixes bytes (good_lines bytes) ∷ []))
+    (entries_said affixes bytes (good_lines bytes))) bad
 
-pub of-lines : (affixes : Affixes) (bytes : List ℕ) (lines : List Line) (result : Result (List Entry) DicFault)
+pub of-lines : (affixes : Affixes) (bytes : List ℕ) (lines : List Line)
+    (result : Result (List Entry) DicFault)
     → lines ≡ good_lines bytes → bad_line bytes ≡ None
     → IsRead (lines_read affixes bytes lines) result → IsRead (dic_read affixes bytes) result
 unfolding lines_read dic_read
@@ -71,6 +94,8 @@ of-lines affixes bytes lines result is none =
     let good = good_lines bytes in
     let said = entries_said affixes bytes good in
     subst (λ (read : Result (List Entry) Fault). IsRead read result)
-    (ap (λ all. unless_fault (least_of (lines_faults affixes bytes all)) (entries_said affixes bytes all)) is
+    (ap (λ all. unless_fault (least_of (lines_faults affixes bytes all))
+    (entries_said affixes bytes all)) is
     ∙ ap (λ o. unless_fault o said) (sym (or-none (least_of (lines_faults affixes bytes good))))
-    ∙ sym (ap (λ b. unless_fault (first_fault (bad_faults b ∷ lines_faults affixes bytes good ∷ [])) said) none))
+    ∙ sym (ap (λ b. unless_fault (first_fault (bad_faults b ∷ lines_faults affixes bytes good ∷ []))
+    said) none))

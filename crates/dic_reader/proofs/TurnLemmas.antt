@@ -1,7 +1,10 @@
 -- A turn of the loop over the lines with entries.
-use Rattle.std.proofs.Common.{◌≡◌, ◌≢◌, ℕ, ◌+◌, ◌<◌, ◌≤◌, Bool, true, false, cond, List, [], ◌∷◌, ◌++◌, length, map, take, drop, Some, None, Ok, Err, All, sym, ap, ◌∙◌, subst, arith, get_or, add-one, length-append}
+use Rattle.std.proofs.Common.{◌≡◌, ◌≢◌, ℕ, ◌+◌, ◌<◌, ◌≤◌, Bool, true, false, cond, List, [], ◌∷◌}
+use Rattle.std.proofs.Common.{◌++◌, length, map, take, drop, Some, None, Ok, Err, All, sym, ap, ◌∙◌}
+use Rattle.std.proofs.Common.{subst, arith, get_or, add-one, length-append}
 use Rattle.std.specs.List.{cons_option}
-use Rattle.std.proofs.lemmas.List.{take_more, take-append-drop, take_all, append-nil, length-map, map-append}
+use Rattle.std.proofs.lemmas.List.{take_more, take-append-drop, take_all, append-nil, length-map}
+use Rattle.std.proofs.lemmas.List.{map-append}
 use Rattle.std.proofs.lemmas.List.Elements.{filter_map-append, All-push}
 use Rattle.std.proofs.Math.Seq.{drop-cons}
 use Rattle.text_lines.specs.declared.found.Line.{Line}
@@ -14,9 +17,11 @@ use Rattle.dic_reader.specs.declared.faults.DicWhy.TheVariants.{TooMany}
 use Rattle.dic_reader.specs.Entries.{Listed, entry_at, entry_of, is_passed_over, listed_in, listed}
 use Rattle.line_faults.specs.Faults.{fault_at, unless_fault}
 use Rattle.line_faults.specs.Laws.{least-none}
-use Rattle.dic_reader.specs.Faults.{cause_number, least_of, entry_faults, entries_faults, entry_said, entry_read, entries_read, IsTold}
+use Rattle.dic_reader.specs.Faults.{cause_number, least_of, entry_faults, entries_faults}
+use Rattle.dic_reader.specs.Faults.{entry_said, entry_read, entries_read, IsTold}
 use Rattle.dic_reader.proofs.FaultLemmas.{read-fault, read-said, told-fault}
-use Rattle.dic_reader.proofs.OrderLemmas.{own_faults, AreBehind, AreRising, own-seam, own-fault, many-fault, no-fault, listed-behind, lines-behind}
+use Rattle.dic_reader.proofs.OrderLemmas.{own_faults, AreBehind, AreRising, own-seam, own-fault}
+use Rattle.dic_reader.proofs.OrderLemmas.{many-fault, no-fault, listed-behind, lines-behind}
 
 abbrev pub no-line : Line
 no-line = record { number = 0; from = 0; to = 0 }
@@ -25,22 +30,26 @@ no-line = record { number = 0; from = 0; to = 0 }
 
 split-lines : (bytes : List ℕ) (lines : List Line) (place : ℕ) → place < length lines
     → listed bytes lines ≡ listed bytes (take place lines)
-    ++ cons_option (listed_in bytes (get_or lines place no-line)) (listed bytes (drop (place + 1) lines))
+    ++ cons_option (listed_in bytes (get_or lines place no-line))
+    (listed bytes (drop (place + 1) lines))
 split-lines bytes lines place within =
     let line = get_or lines place no-line in
     let cut : drop place lines ≡ line ∷ drop (place + 1) lines =
     drop-cons lines place no-line within ∙ ap (λ n. line ∷ drop n lines) (sym (add-one place)) in
-    ap (listed bytes) (sym (take-append-drop place lines) ∙ ap (λ rest. take place lines ++ rest) cut)
+    ap (listed bytes)
+    (sym (take-append-drop place lines) ∙ ap (λ rest. take place lines ++ rest) cut)
     ∙ filter_map-append (listed_in bytes) (take place lines) (line ∷ drop (place + 1) lines)
 
 more-lines : (bytes : List ℕ) (lines : List Line) (place : ℕ) → place < length lines
-    → listed bytes (take (place + 1) lines) ≡ listed bytes (take place lines) ++ cons_option (listed_in bytes (get_or lines place no-line)) []
+    → listed bytes (take (place + 1) lines) ≡ listed bytes (take place lines)
+    ++ cons_option (listed_in bytes (get_or lines place no-line)) []
 more-lines bytes lines place within =
     ap (listed bytes) (take_more lines place no-line within)
     ∙ filter_map-append (listed_in bytes) (take place lines) (get_or lines place no-line ∷ [])
 
 -- what a line has, by whether it is passed over
-line-says : (bytes : List ℕ) (line : Line) {text : List ℕ} {passed : Bool} → text ≡ text_of bytes line → is_passed_over text ≡ passed
+line-says : (bytes : List ℕ) (line : Line) {text : List ℕ} {passed : Bool}
+    → text ≡ text_of bytes line → is_passed_over text ≡ passed
     → listed_in bytes line ≡ cond passed None (Some (entry_at line.number (entry_of text)))
 line-says bytes line {text} is tested =
     ap (λ t. cond (is_passed_over t) None (Some (entry_at line.number (entry_of t)))) (sym is)
@@ -49,11 +58,14 @@ line-says bytes line {text} is tested =
 -- a place of the loop at which an entry stands
 pub record Turn (bytes : List ℕ) (lines : List Line) (place : ℕ) (entry : Listed) : Type 0 where
   pub next : listed bytes (take (place + 1) lines) ≡ listed bytes (take place lines) ++ entry ∷ []
-  pub whole : listed bytes lines ≡ listed bytes (take place lines) ++ entry ∷ listed bytes (drop (place + 1) lines)
+  pub whole : listed bytes lines ≡ listed bytes (take place lines) ++ entry
+      ∷ listed bytes (drop (place + 1) lines)
   pub behind : AreBehind entry.number (listed bytes (drop (place + 1) lines))
 
-pub turn-at : (bytes : List ℕ) (lines : List Line) (place : ℕ) {text own : List ℕ} → AreRising lines → place < length lines
-    → text ≡ text_of bytes (get_or lines place no-line) → is_passed_over text ≡ false → own ≡ entry_of text
+pub turn-at : (bytes : List ℕ) (lines : List Line) (place : ℕ) {text own : List ℕ} → AreRising lines
+    → place < length lines
+    → text ≡ text_of bytes (get_or lines place no-line) → is_passed_over text ≡ false
+    → own ≡ entry_of text
     → Turn bytes lines place (entry_at (get_or lines place no-line).number own)
 turn-at bytes lines place {text} {own} rises within is has own_is =
     let line = get_or lines place no-line in
@@ -64,32 +76,41 @@ turn-at bytes lines place {text} {own} rises within is has own_is =
     record {
       next = more-lines bytes lines place within ∙ ap (λ o. earlier ++ cons_option o []) made;
       whole = split-lines bytes lines place within ∙ ap (λ o. earlier ++ cons_option o more) made;
-      behind = listed-behind bytes line.number (drop (place + 1) lines) (lines-behind lines place no-line rises within);
+      behind = listed-behind bytes line.number (drop (place + 1) lines)
+          (lines-behind lines place no-line rises within);
     }
 
 -- ---- a turn of the loop over the lines
 
 -- the entries so far, none of which has a fault
-pub record AreRead (affixes : Affixes) (limit : ℕ) (earlier : List Listed) (entries : List Entry) : Type 0 where
+pub record AreRead (affixes : Affixes) (limit : ℕ) (earlier : List Listed)
+    (entries : List Entry) : Type 0 where
   pub same : entries ≡ map (entry_said affixes) earlier
   pub fine : own_faults affixes earlier ≡ []
   pub few : length entries ≤ limit
   pub words : All (λ entry. 0 < length entry.word) entries
 
-count-read : {affixes : Affixes} {limit : ℕ} {earlier : List Listed} {entries : List Entry} → AreRead affixes limit earlier entries
+count-read : {affixes : Affixes} {limit : ℕ} {earlier : List Listed} {entries : List Entry}
+    → AreRead affixes limit earlier entries
     → length earlier ≡ length entries
-count-read {affixes} {earlier = earlier} are = sym (ap length are.same ∙ length-map earlier (entry_said affixes))
+count-read {affixes} {earlier = earlier} are =
+    sym (ap length are.same ∙ length-map earlier (entry_said affixes))
 
 -- an entry that is read has no fault
-own-none : (affixes : Affixes) (entry : Listed) (made : Entry) → entry_read affixes entry ≡ Ok made → entry_faults affixes entry ≡ []
+own-none : (affixes : Affixes) (entry : Listed) (made : Entry) → entry_read affixes entry ≡ Ok made
+    → entry_faults affixes entry ≡ []
 own-none affixes entry made read =
     let faults = entry_faults affixes entry in
-    least-none cause_number faults (read-fault (least_of faults) (entry_said affixes entry) made read)
+    least-none cause_number faults
+    (read-fault (least_of faults) (entry_said affixes entry) made read)
 
 -- a line without an entry
-pub read-past : (bytes : List ℕ) (lines : List Line) (place : ℕ) {affixes : Affixes} {limit : ℕ} {entries : List Entry} {text : List ℕ}
-    → place < length lines → text ≡ text_of bytes (get_or lines place no-line) → is_passed_over text ≡ true
-    → AreRead affixes limit (listed bytes (take place lines)) entries → AreRead affixes limit (listed bytes (take (place + 1) lines)) entries
+pub read-past : (bytes : List ℕ) (lines : List Line) (place : ℕ) {affixes : Affixes} {limit : ℕ}
+    {entries : List Entry} {text : List ℕ}
+    → place < length lines → text ≡ text_of bytes (get_or lines place no-line)
+    → is_passed_over text ≡ true
+    → AreRead affixes limit (listed bytes (take place lines)) entries
+    → AreRead affixes limit (listed bytes (take (place + 1) lines)) entries
 read-past bytes lines place {affixes} {limit} {entries} within is lacks are =
     let earlier = listed bytes (take place lines) in
     let same : listed bytes (take (place + 1) lines) ≡ earlier =
@@ -98,41 +119,52 @@ read-past bytes lines place {affixes} {limit} {entries} within is lacks are =
     ∙ append-nil earlier in
     subst (λ (ls : List Listed). AreRead affixes limit ls entries) (sym same) are
 
-module _ {affixes : Affixes} {limit : ℕ} {bytes : List ℕ} {lines : List Line} {place : ℕ} {entry : Listed} {entries : List Entry} where
+module _ {affixes : Affixes} {limit : ℕ} {bytes : List ℕ} {lines : List Line} {place : ℕ}
+    {entry : Listed} {entries : List Entry} where
   -- a line with one that was read
   pub read-more : (made : Entry) (pushed : List Entry) → Turn bytes lines place entry
-      → AreRead affixes limit (listed bytes (take place lines)) entries → entry_read affixes entry ≡ Ok made → 0 < length made.word
-      → length entries ≢ limit → pushed ≡ entries ++ made ∷ [] → AreRead affixes limit (listed bytes (take (place + 1) lines)) pushed
+      → AreRead affixes limit (listed bytes (take place lines)) entries
+      → entry_read affixes entry ≡ Ok made → 0 < length made.word
+      → length entries ≢ limit → pushed ≡ entries ++ made ∷ []
+      → AreRead affixes limit (listed bytes (take (place + 1) lines)) pushed
   read-more made pushed turn are read word room grown =
       let earlier = listed bytes (take place lines) in
-      let said = read-said (least_of (entry_faults affixes entry)) (entry_said affixes entry) made read in
+      let said = read-said (least_of (entry_faults affixes entry)) (entry_said affixes entry) made
+      read in
       let next : AreRead affixes limit (earlier ++ entry ∷ []) (entries ++ made ∷ []) = record {
         same = ap (λ es. es ++ made ∷ []) are.same
             ∙ ap (λ e. map (entry_said affixes) earlier ++ e ∷ []) said
             ∙ sym (map-append (entry_said affixes) earlier (entry ∷ []));
-        fine = own-seam affixes earlier entry [] are.fine ∙ ap (λ faults. faults ++ []) (own-none affixes entry made read);
+        fine = own-seam affixes earlier entry [] are.fine
+            ∙ ap (λ faults. faults ++ []) (own-none affixes entry made read);
         few = omega (arith, are.few, room, length-append entries (made ∷ []));
         words = All-push (λ (e : Entry). 0 < length e.word) entries made are.words word;
       } in
       subst (λ (ls : List Listed). AreRead affixes limit ls pushed) (sym turn.next)
-      (subst (λ (es : List Entry). AreRead affixes limit (earlier ++ entry ∷ []) es) (sym grown) next)
+      (subst (λ (es : List Entry). AreRead affixes limit (earlier ++ entry ∷ []) es) (sym grown)
+      next)
 
   -- a line with one that has a fault
-  pub told-own : (fault : DicFault) → Turn bytes lines place entry → AreRead affixes limit (listed bytes (take place lines)) entries
-      → IsTold (entry_read affixes entry) fault → IsTold (entries_read affixes limit (listed bytes lines)) fault
+  pub told-own : (fault : DicFault) → Turn bytes lines place entry
+      → AreRead affixes limit (listed bytes (take place lines)) entries
+      → IsTold (entry_read affixes entry) fault
+      → IsTold (entries_read affixes limit (listed bytes lines)) fault
   unfolding entries_read
   told-own NoMemory turn are told = tt
   told-own (At number why) turn are told =
       let earlier = listed bytes (take place lines) in
       let fault = fault_at number why in
       let few : length earlier ≤ limit = omega (arith, are.few, count-read are) in
-      let own = told-fault (least_of (entry_faults affixes entry)) (entry_said affixes entry) fault told in
+      let own = told-fault (least_of (entry_faults affixes entry)) (entry_said affixes entry) fault
+      told in
       ap (λ o. unless_fault o (map (entry_said affixes) (listed bytes lines)))
       (ap (λ all. least_of (entries_faults affixes limit all)) turn.whole
-      ∙ own-fault affixes limit earlier entry (listed bytes (drop (place + 1) lines)) fault are.fine few turn.behind own)
+      ∙ own-fault affixes limit earlier entry (listed bytes (drop (place + 1) lines)) fault are.fine
+      few turn.behind own)
 
   -- a line with one too many
-  pub told-many : (made : Entry) → Turn bytes lines place entry → AreRead affixes limit (listed bytes (take place lines)) entries
+  pub told-many : (made : Entry) → Turn bytes lines place entry
+      → AreRead affixes limit (listed bytes (take place lines)) entries
       → entry_read affixes entry ≡ Ok made → length entries ≡ limit
       → entries_read affixes limit (listed bytes lines) ≡ Err (fault_at entry.number TooMany)
   unfolding entries_read
@@ -141,15 +173,20 @@ module _ {affixes : Affixes} {limit : ℕ} {bytes : List ℕ} {lines : List Line
       let more = listed bytes (drop (place + 1) lines) in
       ap (λ o. unless_fault o (map (entry_said affixes) (listed bytes lines)))
       (ap (λ all. least_of (entries_faults affixes limit all)) turn.whole
-      ∙ many-fault affixes limit earlier entry more are.fine (count-read are ∙ full) turn.behind (own-none affixes entry made read))
+      ∙ many-fault affixes limit earlier entry more are.fine (count-read are ∙ full) turn.behind
+      (own-none affixes entry made read))
 
 -- at the end
-pub read-all : (affixes : Affixes) (limit : ℕ) (bytes : List ℕ) (lines : List Line) (place : ℕ) (entries : List Entry) → length lines ≤ place
-    → AreRead affixes limit (listed bytes (take place lines)) entries → entries_read affixes limit (listed bytes lines) ≡ Ok entries
+pub read-all : (affixes : Affixes) (limit : ℕ) (bytes : List ℕ) (lines : List Line) (place : ℕ)
+    (entries : List Entry) → length lines ≤ place
+    → AreRead affixes limit (listed bytes (take place lines)) entries
+    → entries_read affixes limit (listed bytes lines) ≡ Ok entries
 unfolding entries_read
 read-all affixes limit bytes lines place entries past are =
-    let all : listed bytes (take place lines) ≡ listed bytes lines = ap (listed bytes) (take_all place lines past) in
-    let now : AreRead affixes limit (listed bytes lines) entries = subst (λ (ls : List Listed). AreRead affixes limit ls entries) all are in
+    let all : listed bytes (take place lines) ≡ listed bytes lines =
+    ap (listed bytes) (take_all place lines past) in
+    let now : AreRead affixes limit (listed bytes lines) entries =
+    subst (λ (ls : List Listed). AreRead affixes limit ls entries) all are in
     ap (λ o. unless_fault o (map (entry_said affixes) (listed bytes lines)))
     (no-fault affixes limit (listed bytes lines) now.fine (omega (arith, now.few, count-read now)))
     ∙ ap Ok (sym now.same)

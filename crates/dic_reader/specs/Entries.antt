@@ -1,5 +1,6 @@
 -- The entries of a .dic file: where they stand in their lines, and what they say.
-use Rattle.std.specs.Prelude.{ℕ, ◌-◌, Bool, false, ◌&&◌, ◌||◌, ◌==◌, List, [], ◌∷◌, length, take, drop, Option, None, Some, Result, unwrap_or, if◌then◌else◌}
+use Rattle.std.specs.Prelude.{ℕ, ◌-◌, Bool, false, ◌&&◌, ◌||◌, ◌==◌, List, [], ◌∷◌, length, take}
+use Rattle.std.specs.Prelude.{drop, Option, None, Some, Result, unwrap_or, if◌then◌else◌}
 use Rattle.std.specs.List.{list_all, filter_map, prefix_len, suffix_len}
 use Rattle.std.specs.Char.{is_ascii_digit, is_ascii_lowercase}
 use Rattle.std.specs.Str.{chars}
@@ -20,7 +21,8 @@ is_tab c = c == 9
 
 -- two small letters and a colon: so a field of morphology begins, as po:noun
 abbrev pub begins_field : List ℕ → Bool
-begins_field (first ∷ second ∷ colon ∷ rest) = is_ascii_lowercase first && is_ascii_lowercase second && colon == 58
+begins_field (first ∷ second ∷ colon ∷ rest) =
+    is_ascii_lowercase first && is_ascii_lowercase second && colon == 58
 begins_field _ = false
 
 -- whether an entry ends before this rest of its line: at a tab, or at a space before such a field
@@ -79,7 +81,8 @@ listed_in bytes line =
 abbrev pub listed : List ℕ → List Line → List Listed
 listed bytes lines = filter_map (listed_in bytes) lines
 
--- An entry's word stands before the slash. A slash that is the entry's first character is one of its word.
+-- An entry's word stands before the slash. A slash that is the entry's first character is one of
+-- its word.
 abbrev pub word_text : List ℕ → List ℕ
 word_text [] = []
 word_text (c ∷ more) = if is_slash c then c ∷ before_slash more else before_slash (c ∷ more)

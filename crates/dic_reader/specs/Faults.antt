@@ -1,5 +1,6 @@
 -- Which faults a .dic file has, which of them is told, and what a file without faults says.
-use Rattle.std.specs.Prelude.{◌≡◌, ℕ, ◌==◌, List, [], ◌∷◌, ◌++◌, length, map, drop, slice_get, codes, Option, None, Some, Result, Ok, Err, if◌then◌else◌}
+use Rattle.std.specs.Prelude.{◌≡◌, ℕ, ◌==◌, List, [], ◌∷◌, ◌++◌, length, map, drop, slice_get}
+use Rattle.std.specs.Prelude.{codes, Option, None, Some, Result, Ok, Err, if◌then◌else◌}
 use Rattle.std.specs.List.{flat_map}
 use Rattle.line_faults.specs.Faults as order
 use Rattle.line_faults.specs.Faults.{IsFault, fault_at, unless_fault}
@@ -14,7 +15,8 @@ use Rattle.flag_sets.specs.declared.FlagFault.TheVariants.{BadAlias as NoAlias}
 use Rattle.dic_reader.specs.declared.faults.DicFault.{DicFault}
 use Rattle.dic_reader.specs.declared.faults.DicFault.TheVariants.{At, NoMemory}
 use Rattle.dic_reader.specs.declared.faults.DicWhy.{DicWhy}
-use Rattle.dic_reader.specs.declared.faults.DicWhy.TheVariants.{NotUtf8, BadCount, EmptyWord, BadFlag, BadAlias, TooMany}
+use Rattle.dic_reader.specs.declared.faults.DicWhy.TheVariants.{NotUtf8, BadCount, EmptyWord}
+use Rattle.dic_reader.specs.declared.faults.DicWhy.TheVariants.{BadFlag, BadAlias, TooMany}
 use Rattle.dic_reader.specs.Entries.{Listed, listed, is_count, word_of, flags_of}
 
 -- the place of a cause among all causes, from 1
@@ -48,11 +50,13 @@ bad_faults (Some line) = fault_at line NotUtf8 ∷ []
 -- A file has to have a first line, and that has to count.
 abbrev pub count_faults : List ℕ → List Line → List Fault
 count_faults bytes [] = fault_at 1 BadCount ∷ []
-count_faults bytes (first ∷ later) = if is_count (text_of bytes first) then [] else fault_at first.number BadCount ∷ []
+count_faults bytes (first ∷ later) =
+    if is_count (text_of bytes first) then [] else fault_at first.number BadCount ∷ []
 
 -- An entry has to have a word, also without the characters to ignore.
 abbrev pub word_faults : Affixes → Listed → List Fault
-word_faults affixes entry = if length (word_of affixes entry.text) == 0 then fault_at entry.number EmptyWord ∷ [] else []
+word_faults affixes entry =
+    if length (word_of affixes entry.text) == 0 then fault_at entry.number EmptyWord ∷ [] else []
 
 -- what is wrong with flags
 abbrev pub flag_whys : Result (List Flag) FlagFault → List DicWhy
@@ -75,13 +79,16 @@ abbrev pub too_many : Option Listed → List Fault
 too_many None = []
 too_many (Some entry) = fault_at entry.number TooMany ∷ []
 
--- Where there are more entries than so many, the first that is one too many is a fault, and those behind it are none.
+-- Where there are more entries than so many, the first that is one too many is a fault, and those
+-- behind it are none.
 abbrev pub many_faults : ℕ → List Listed → List Fault
 many_faults limit entries = too_many (slice_get entries limit)
 
--- the faults of entries of which so many are allowed: every entry is asked, also those that are too many
+-- the faults of entries of which so many are allowed: every entry is asked, also those that are too
+-- many
 abbrev pub entries_faults : Affixes → ℕ → List Listed → List Fault
-entries_faults affixes limit entries = flat_map (entry_faults affixes) entries ++ many_faults limit entries
+entries_faults affixes limit entries =
+    flat_map (entry_faults affixes) entries ++ many_faults limit entries
 
 -- the entries of all lines behind the first
 abbrev pub entries_behind : List ℕ → List Line → List Listed
@@ -89,11 +96,13 @@ entries_behind bytes lines = listed bytes (drop 1 lines)
 
 -- the faults of the lines that are UTF-8
 abbrev pub lines_faults : Affixes → List ℕ → List Line → List Fault
-lines_faults affixes bytes lines = count_faults bytes lines ++ entries_faults affixes entry_limit (entries_behind bytes lines)
+lines_faults affixes bytes lines =
+    count_faults bytes lines ++ entries_faults affixes entry_limit (entries_behind bytes lines)
 
 -- the faults of a file in two passes: that of a line that is not UTF-8, and then all others
 abbrev pub dic_passes : Affixes → List ℕ → List (List Fault)
-dic_passes affixes bytes = bad_faults (bad_line bytes) ∷ lines_faults affixes bytes (good_lines bytes) ∷ []
+dic_passes affixes bytes =
+    bad_faults (bad_line bytes) ∷ lines_faults affixes bytes (good_lines bytes) ∷ []
 
 -- ---- which of them is told: by line, and at one line by the place of its cause
 
@@ -117,7 +126,8 @@ or_none (Ok set) = set
 or_none (Err _) = []
 
 abbrev pub entry_said : Affixes → Listed → Entry
-entry_said affixes entry = record { word = word_of affixes entry.text; flags = or_none (flags_of affixes entry.text) }
+entry_said affixes entry =
+    record { word = word_of affixes entry.text; flags = or_none (flags_of affixes entry.text) }
 
 -- what a file with these lines says, if it has no fault
 abbrev pub entries_said : Affixes → List ℕ → List Line → List Entry
@@ -128,28 +138,36 @@ pub record DicReads (affixes : Affixes) (bytes : List ℕ) (entries : List Entry
   pub no_fault : (pass : ℕ) (fault : Fault) → ¬ DicBad affixes bytes pass fault
   pub says : entries ≡ entries_said affixes bytes (good_lines bytes)
 
--- the fault is the first of the file: of the first pass that has one, at the lowest line, and there of the lowest cause
+-- the fault is the first of the file: of the first pass that has one, at the lowest line, and there
+-- of the lowest cause
 abbrev pub DicRefuses : Affixes → List ℕ → DicFault → Type 0
-DicRefuses affixes bytes (At line why) = (pass : ℕ) × IsLeast (DicBad affixes bytes pass) (fault_at line why)
+DicRefuses affixes bytes (At line why) =
+    (pass : ℕ) × IsLeast (DicBad affixes bytes pass) (fault_at line why)
 DicRefuses affixes bytes NoMemory = Unit {0}
 
 -- ---- the same as a value
 
 -- what is read of an entry, or its first fault
 abbrev pub entry_read : Affixes → Listed → Result Entry Fault
-entry_read affixes entry = unless_fault (least_of (entry_faults affixes entry)) (entry_said affixes entry)
+entry_read affixes entry =
+    unless_fault (least_of (entry_faults affixes entry)) (entry_said affixes entry)
 
 -- what is read of entries of which so many are allowed, or their first fault
 unfoldable pub entries_read : Affixes → ℕ → List Listed → Result (List Entry) Fault
-entries_read affixes limit entries = unless_fault (least_of (entries_faults affixes limit entries)) (map (entry_said affixes) entries)
+entries_read affixes limit entries =
+    unless_fault (least_of (entries_faults affixes limit entries))
+    (map (entry_said affixes) entries)
 
 -- what is read of the lines that are UTF-8, or their first fault
 unfoldable pub lines_read : Affixes → List ℕ → List Line → Result (List Entry) Fault
-lines_read affixes bytes lines = unless_fault (least_of (lines_faults affixes bytes lines)) (entries_said affixes bytes lines)
+lines_read affixes bytes lines =
+    unless_fault (least_of (lines_faults affixes bytes lines)) (entries_said affixes bytes lines)
 
 -- what is read of a file, or its first fault
 unfoldable pub dic_read : Affixes → List ℕ → Result (List Entry) Fault
-dic_read affixes bytes = unless_fault (first_fault (dic_passes affixes bytes)) (entries_said affixes bytes (good_lines bytes))
+dic_read affixes bytes =
+    unless_fault (first_fault (dic_passes affixes bytes))
+    (entries_said affixes bytes (good_lines bytes))
 
 -- the fault is the one that was told in place of what is read
 abbrev pub IsTold : {A : Type 0} → Result A Fault → DicFault → Type 0

@@ -2,7 +2,10 @@
 
 ghost use Rattle.std.specs.Prelude.{◌≡◌, ◌+◌, ◌<◌, ◌≤◌, length, slice_index};
 ghost use Rattle.std.specs.List.{prefix_len, suffix_len, list_all};
-ghost use Rattle.dic_reader.specs.Entries.{is_space, is_blank, begins_field, ends_entry, before_fields, without_leading, without_trailing, entry_of, begins_with_tab, begins_with_digit, is_passed_over, is_count};
+ghost use Rattle.dic_reader.specs.Entries.{is_space, is_blank, begins_field, ends_entry};
+ghost use Rattle.dic_reader.specs.Entries.{before_fields, without_leading, without_trailing};
+ghost use Rattle.dic_reader.specs.Entries.{entry_of, begins_with_tab, begins_with_digit};
+ghost use Rattle.dic_reader.specs.Entries.{is_passed_over, is_count};
 
 /// Whether the line begins, behind spaces, with a digit.
 #[tactic(auto, unfolding(crate::specs::Entries::is_count))]

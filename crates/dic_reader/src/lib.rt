@@ -1,19 +1,22 @@
 //! Reads .dic files: the words of a dictionary with their flags.
 //!
-//! The first line holds a count, of which only its first digit is looked at. Behind it each line has one
-//! entry, except lines that are blank or begin with a tab. An entry goes to the first tab, or to a space
-//! before a field of morphology as `po:noun`; spaces at its ends are dropped. Its flags stand behind its first
-//! slash that is not its first character and that no backslash precedes. `\/` is a slash of the word. The
-//! characters to ignore are left out of words.
+//! The first line holds a count, of which only its first digit is looked at. Behind it each line
+//! has one entry, except lines that are blank or begin with a tab. An entry goes to the first tab,
+//! or to a space before a field of morphology as `po:noun`; spaces at its ends are dropped. Its
+//! flags stand behind its first slash that is not its first character and that no backslash
+//! precedes. `\/` is a slash of the word. The characters to ignore are left out of words.
 #![tactic(auto)]
 
-ghost use Rattle.std.specs.Prelude.{◌≡◌, ℕ, ◌<◌, ◌≤◌, ◌^◌, List, length, map, All, Some, None, IfOk, IfErr};
+ghost use Rattle.std.specs.Prelude.{◌≡◌, ℕ, ◌<◌, ◌≤◌, ◌^◌, List, length, map, All, Some, None};
+ghost use Rattle.std.specs.Prelude.{IfOk, IfErr};
 ghost use Rattle.std.specs.List.{range_with_len, AllPairs};
 ghost use Rattle.text_lines.specs.Lines.{IsInside};
 ghost use Rattle.spell_types.specs.declared.Affixes.{Affixes};
 ghost use Rattle.spell_types.specs.Sanity.{AreSaneEntries, HasOrdinaryFlags, HaveOrdinaryFlags};
 ghost use Rattle.dic_reader.specs.Entries.{listed};
-ghost use Rattle.dic_reader.specs.Faults.{Fault, entry_limit, dic_passes, first_fault, entries_read, lines_read, dic_read, DicBad, IsLeast, IsRead, DicReads, DicRefuses};
+ghost use Rattle.dic_reader.specs.Faults.{Fault, entry_limit, dic_passes, first_fault};
+ghost use Rattle.dic_reader.specs.Faults.{entries_read, lines_read, dic_read, DicBad, IsLeast};
+ghost use Rattle.dic_reader.specs.Faults.{IsRead, DicReads, DicRefuses};
 
 use crate::cutting::{entry_of, is_count, is_passed_over};
 use crate::words::read_entry;
@@ -32,9 +35,10 @@ pub use faults::{DicFault, DicWhy};
 /// How many entries a file may have.
 const ENTRY_LIMIT: usize = 1_000_000;
 
-/// The entries of a .dic file in their order, or its first fault. `affixes` says how its flags are written. A
-/// line that is not UTF-8 is told before all other faults; of those the one at the lowest line is told, and at
-/// one line the one whose cause stands first in `DicWhy`. A file without lines lacks its count at line 1.
+/// The entries of a .dic file in their order, or its first fault. `affixes` says how its flags are
+/// written. A line that is not UTF-8 is told before all other faults; of those the one at the
+/// lowest line is told, and at one line the one whose cause stands first in `DicWhy`. A file
+/// without lines lacks its count at line 1.
 pub fn read_dic(alloc: Global, affixes: &Affixes, bytes: &[u8]) -> Result<Entries, DicFault>
     ensures read { IfOk result (DicReads affixes.now bytes.now) }
     ensures refused { IfErr result (DicRefuses affixes.now bytes.now) }
@@ -48,10 +52,11 @@ pub fn read_dic(alloc: Global, affixes: &Affixes, bytes: &[u8]) -> Result<Entrie
     read_file(alloc, affixes, bytes)
 }
 
-/// The fault that is told of a file is the least of those that the first pass with a fault has, and a file of
-/// which none is told has none.
+/// The fault that is told of a file is the least of those that the first pass with a fault has, and
+/// a file of which none is told has none.
 pub fn first_fault_is_least()
-    ensures none { (affixes : Affixes) (bytes : List ℕ) → first_fault (dic_passes affixes bytes) ≡ None
+    ensures none { (affixes : Affixes) (bytes : List ℕ) → first_fault (dic_passes affixes bytes)
+        ≡ None
         → (pass : ℕ) (fault : Fault) → ¬ DicBad affixes bytes pass fault }
     ensures least { (affixes : Affixes) (bytes : List ℕ) (fault : Fault)
         → first_fault (dic_passes affixes bytes) ≡ Some fault

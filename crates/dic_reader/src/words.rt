@@ -13,7 +13,8 @@ use lists::{Items, NoMemory};
 use spell_types::{Affixes, Chars, Entry, alias_sets};
 use std::alloc::Global;
 
-/// The entry with this text, of the line with this number. Its word is without the characters to ignore.
+/// The entry with this text, of the line with this number. Its word is without the characters to
+/// ignore.
 pub(crate) fn read_entry(
     alloc: Global,
     affixes: &Affixes,
@@ -42,8 +43,8 @@ pub(crate) fn read_entry(
     Err(DicFault::At { line: number, why })
 }
 
-/// Adds the characters of an entry's word, and gives the text of its flags. A slash at the front of the entry
-/// is one of its word.
+/// Adds the characters of an entry's word, and gives the text of its flags. A slash at the front of
+/// the entry is one of its word.
 fn push_word<'a>(alloc: Global, word: &mut Chars, entry: &'a str) -> Result<&'a str, NoMemory>
     ensures word { OnOk result (word.new ≡ word.old ++ whole_word entry.now) }
     ensures flags { IfOk result (λ flags. flags.now ≡ flag_text entry.now) }

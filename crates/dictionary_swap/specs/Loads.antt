@@ -3,7 +3,10 @@ use Rattle.std.specs.Prelude.{ℕ, List, Option, Result, Ok}
 use Rattle.lists.specs.Answers.{◌>>=◌, failing}
 use Rattle.outside.specs.Files.{Folder, file_due as loaded_due}
 use Rattle.outside.specs.declared.faults.FileFault.{FileFault}
-use Rattle.outside.specs.declared.faults.FileFault.TheVariants.{Failed as FailedFile, Missing as MissingFile, TooLong as LongFile, NoMemory as OutOfMemory}
+use Rattle.outside.specs.declared.faults.FileFault.TheVariants.{Failed as FailedFile}
+use Rattle.outside.specs.declared.faults.FileFault.TheVariants.{Missing as MissingFile}
+use Rattle.outside.specs.declared.faults.FileFault.TheVariants.{TooLong as LongFile}
+use Rattle.outside.specs.declared.faults.FileFault.TheVariants.{NoMemory as OutOfMemory}
 use Rattle.spell_types.specs.declared.Affixes.{Affixes}
 use Rattle.spell_types.specs.declared.Entry.{Entry}
 use Rattle.spell_types.specs.declared.Lexicon.{Lexicon}
@@ -11,7 +14,8 @@ use Rattle.aff_lines.specs.Faults.{Fault as AffLineFault}
 use Rattle.aff_reader.specs.Grammar.{aff_read}
 use Rattle.dic_reader.specs.Faults.{Fault as DicLineFault, dic_read}
 use Rattle.dictionary_swap.specs.declared.fault.LoadFault.{LoadFault}
-use Rattle.dictionary_swap.specs.declared.fault.LoadFault.TheVariants.{Failed, Missing, TooLong, Aff, Dic, NoMemory}
+use Rattle.dictionary_swap.specs.declared.fault.LoadFault.TheVariants.{Failed, Missing, TooLong}
+use Rattle.dictionary_swap.specs.declared.fault.LoadFault.TheVariants.{Aff, Dic, NoMemory}
 use Rattle.dictionary_swap.specs.declared.limits.TheConstants.{SIZE_LIMIT}
 
 -- why a file is not loaded that may have so many bytes
@@ -55,7 +59,8 @@ entries_due affixes file = do
   bytes ← file_due SIZE_LIMIT file
   entries_step affixes bytes
 
--- the dictionary that two files are, or its first fault: each file before its lines, and the .aff file before the .dic file
+-- the dictionary that two files are, or its first fault: each file before its lines, and the .aff
+-- file before the .dic file
 unfoldable pub lexicon_due : DictionaryFiles → Result Lexicon LoadFault
 lexicon_due files = do
   affixes ← affixes_due files.aff

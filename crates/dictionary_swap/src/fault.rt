@@ -11,7 +11,8 @@ use lists::NoMemory;
 use outside::FileFault;
 use thiserror::Error;
 
-/// Why a dictionary is not loaded. The messages are for people; no line that the program prints is made of one.
+/// Why a dictionary is not loaded. The messages are for people; no line that the program prints is
+/// made of one.
 #[derive(Clone, Copy, Debug, PartialEq, Eq, Error)]
 pub enum LoadFault {
     /// The files failed.

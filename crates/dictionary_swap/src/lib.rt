@@ -19,8 +19,9 @@ use std::alloc::Global;
 use steps::{load_affixes, load_entries};
 use word_verdict::Speller;
 
-/// The dictionary of these two files, or what is wrong first: the .aff file is loaded and read before the .dic file, and of
-/// each file its bytes come before its lines. No file may have more than 16,777,216 bytes.
+/// The dictionary of these two files, or what is wrong first: the .aff file is loaded and read
+/// before the .dic file, and of each file its bytes come before its lines. No file may have more
+/// than 16,777,216 bytes.
 #[tactic(auto, unfolding(crate::specs::Loads::lexicon_due))]
 pub fn load<F: Files>(
     alloc: Global,

@@ -7,7 +7,9 @@ use Rattle.lists.specs.Answers.{◌>>=◌}
 use Rattle.spell_types.specs.declared.Lexicon.{Lexicon}
 use Rattle.text_lines.specs.Lines.{bad_line, line_texts}
 use Rattle.document_report.specs.declared.fault.DocumentFault.{DocumentFault}
-use Rattle.document_report.specs.declared.fault.DocumentFault.TheVariants.{NotUtf8, TooManyParagraphs, LongParagraph, NoMemory}
+use Rattle.document_report.specs.declared.fault.DocumentFault.TheVariants.{NotUtf8}
+use Rattle.document_report.specs.declared.fault.DocumentFault.TheVariants.{TooManyParagraphs}
+use Rattle.document_report.specs.declared.fault.DocumentFault.TheVariants.{LongParagraph, NoMemory}
 use Rattle.document_report.specs.Reports.{Printed}
 use Rattle.paragraph_text.specs.declared.limits.TheConstants.{MOST_PARAGRAPHS, MOST_BYTES}
 
@@ -18,7 +20,8 @@ unless_bad (Some line) texts = Err (NotUtf8 line)
 
 -- paragraphs, if they are not too many
 unfoldable pub unless_many : List (List ℕ) → Result (List (List ℕ)) DocumentFault
-unless_many texts = if nat_lt MOST_PARAGRAPHS (length texts) then Err (TooManyParagraphs MOST_PARAGRAPHS) else Ok texts
+unless_many texts = if nat_lt MOST_PARAGRAPHS (length texts)
+    then Err (TooManyParagraphs MOST_PARAGRAPHS) else Ok texts
 
 -- and if none is too long
 abbrev pub is_long : List ℕ → Bool
@@ -27,8 +30,10 @@ is_long text = nat_lt MOST_BYTES (length text)
 unfoldable pub unless_long : List (List ℕ) → Result (List (List ℕ)) DocumentFault
 unless_long texts = if list_any is_long texts then Err (LongParagraph MOST_BYTES) else Ok texts
 
--- what is due of a document: what is to be printed of its lines, which are its paragraphs, if each is UTF-8 and they pass no limit
-unfoldable pub document_due : (Lexicon → List (List ℕ) → Printed) → Lexicon → List ℕ → Result Printed DocumentFault
+-- what is due of a document: what is to be printed of its lines, which are its paragraphs, if each
+-- is UTF-8 and they pass no limit
+unfoldable pub document_due : (Lexicon → List (List ℕ) → Printed) → Lexicon → List ℕ
+    → Result Printed DocumentFault
 document_due printed lexicon document = do
   lines ← unless_bad (bad_line document) (line_texts document)
   few ← unless_many lines

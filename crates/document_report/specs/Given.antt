@@ -8,7 +8,8 @@ use Rattle.document_report.specs.declared.printing.Report.{Report}
 use Rattle.document_report.specs.Reports.{Printed, report_of, summary_of}
 
 abbrev pub printed_by : Report → Printed
-printed_by report = record { text = string_bytes report.text; marks = report.marks; words = report.words }
+printed_by report =
+    record { text = string_bytes report.text; marks = report.marks; words = report.words }
 
 -- what is to be printed of a text by a dictionary
 abbrev pub printed_as : Output → Lexicon → List (List ℕ) → Printed

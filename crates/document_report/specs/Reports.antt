@@ -15,7 +15,8 @@ line_end = 10 ∷ []
 -- a mark's paragraph, its first byte, the byte past its end, and its word
 abbrev pub mark_line : ℕ → ℕ → ℕ → List ℕ → List ℕ
 mark_line paragraph from to word =
-    decimal paragraph ++ (space ∷ decimal from ++ (space ∷ decimal to ++ (space ∷ word ++ line_end)))
+    decimal paragraph
+    ++ (space ∷ decimal from ++ (space ∷ decimal to ++ (space ∷ word ++ line_end)))
 
 abbrev pub line_of : LocatedWord → List ℕ
 line_of mark = mark_line mark.paragraph mark.from mark.to (encode_utf8_all mark.characters)
@@ -35,25 +36,36 @@ abbrev pub report_of : Lexicon → List (List ℕ) → Printed
 report_of lexicon paragraphs =
     let marks = marks_of lexicon paragraphs in
     let words = located_words lexicon.affixes.wordchars paragraphs in
-    record { text = flat_map line_of marks ++ count_line (length marks) (length words); marks = length marks; words = length words }
+    record {
+      text = flat_map line_of marks ++ count_line (length marks) (length words);
+      marks = length marks;
+      words = length words;
+    }
 
 -- a name and a number
 abbrev pub number_line : List ℕ → ℕ → List ℕ
 number_line name number = name ++ (codes " " ++ (decimal number ++ codes "\n"))
 
 abbrev pub summary_lines : ℕ → ℕ → ℕ → List ℕ
-summary_lines entries words marks = number_line (codes "entries") entries ++ (number_line (codes "words") words ++ number_line (codes "marks") marks)
+summary_lines entries words marks =
+    number_line (codes "entries") entries
+    ++ (number_line (codes "words") words ++ number_line (codes "marks") marks)
 
 -- of a dictionary with so many entries, and of a text: how many entries, words and marks there are
 abbrev pub summary_of : ℕ → Lexicon → List (List ℕ) → Printed
 summary_of entries lexicon paragraphs =
     let marks = marks_of lexicon paragraphs in
     let words = located_words lexicon.affixes.wordchars paragraphs in
-    record { text = summary_lines entries (length words) (length marks); marks = length marks; words = length words }
+    record {
+      text = summary_lines entries (length words) (length marks);
+      marks = length marks;
+      words = length words;
+    }
 
 -- the lines of the marks of one paragraph
 abbrev pub paragraph_lines : Lexicon → ℕ → List ℕ → List ℕ
-paragraph_lines lexicon number paragraph = flat_map line_of (map (in_paragraph number) (marks_of lexicon (paragraph ∷ [])))
+paragraph_lines lexicon number paragraph =
+    flat_map line_of (map (in_paragraph number) (marks_of lexicon (paragraph ∷ [])))
 
 -- the lines of these marks of the paragraph with this number
 abbrev pub lines_of : ℕ → List Mark → List ℕ

@@ -7,7 +7,8 @@ use lists::NoMemory;
 use std::alloc::AllocFailed;
 use thiserror::Error;
 
-/// Why there is no report on a document. The messages are for people; no line that the program prints is made of one.
+/// Why there is no report on a document. The messages are for people; no line that the program
+/// prints is made of one.
 #[derive(Clone, Copy, Debug, PartialEq, Eq, Error)]
 pub enum DocumentFault {
     /// This is the first line that is not UTF-8. Lines count from 1.

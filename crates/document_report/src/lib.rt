@@ -1,7 +1,7 @@
 //! A document by a dictionary, to the report on it.
 //!
-//! A document is bytes in UTF-8, of which each line is a paragraph. At most 20,000 paragraphs are read, each of at most
-//! 65,536 bytes.
+//! A document is bytes in UTF-8, of which each line is a paragraph. At most 20,000 paragraphs are
+//! read, each of at most 65,536 bytes.
 #![tactic(auto)]
 
 ghost use Rattle.std.specs.Prelude.{◌≡◌};
@@ -20,8 +20,8 @@ use printing::print;
 pub use printing::{Output, Report};
 use std::alloc::Global;
 
-/// What is to be printed of a document, by the asker's dictionary; or what is wrong first: a line that is not UTF-8, then
-/// the number of the paragraphs, then the length of one.
+/// What is to be printed of a document, by the asker's dictionary; or what is wrong first: a line
+/// that is not UTF-8, then the number of the paragraphs, then the length of one.
 #[tactic(auto, unfolding(crate::specs::Documents::document_due))]
 pub fn report<K: Asker>(
     alloc: Global,

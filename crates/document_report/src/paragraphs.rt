@@ -1,4 +1,5 @@
-//! The paragraphs of a document: its bytes are found to be UTF-8 once, and gone over once for their lines.
+//! The paragraphs of a document: its bytes are found to be UTF-8 once, and gone over once for their
+//! lines.
 
 ghost use Rattle.std.specs.Prelude.{◌≡◌, ◌∷◌, ◌<◌, ◌≤◌, All, IfOk, OnOk, drop, length};
 ghost use Rattle.std.specs.List.{list_any};
@@ -63,7 +64,8 @@ pub fn paragraphs_in<'a>(alloc: Global, text: &'a str) -> Result<Vec<&'a str>, D
 pub fn check_lengths(paragraphs: &[&str]) -> Result<(), DocumentFault>
     ensures due { GivesDue MayCome (λ _. lent paragraphs.now)
         (unless_long (lent paragraphs.now)) result }
-    ensures short { OnOk result (All (λ paragraph. length paragraph.now ≤ MOST_BYTES) paragraphs.now) }
+    ensures short { OnOk result
+        (All (λ paragraph. length paragraph.now ≤ MOST_BYTES) paragraphs.now) }
 {
     if has_long(paragraphs) {
         return Err(DocumentFault::LongParagraph {

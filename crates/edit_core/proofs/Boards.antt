@@ -25,13 +25,16 @@ further n point most = omega (arith, most)
 further-one : (n point : ℕ) → n ≤ MOST_PARAGRAPHS + point → n + 1 ≤ MOST_PARAGRAPHS + (point + 1)
 further-one n point most = omega (arith, most)
 
-pub ids-after : (next_id point : ℕ) (edit : Edit) → next_id ≤ MOST_PARAGRAPHS + point → next_id_after next_id edit ≤ MOST_PARAGRAPHS + (point + 1)
+pub ids-after : (next_id point : ℕ) (edit : Edit) → next_id ≤ MOST_PARAGRAPHS + point
+    → next_id_after next_id edit ≤ MOST_PARAGRAPHS + (point + 1)
 ids-after next_id point (Replace id rev from to text) most = further next_id point most
 ids-after next_id point (Insert before text) most = further-one next_id point most
 ids-after next_id point (Remove id rev) most = further next_id point most
 
 -- ---- the next board is valid
-pub valid-moved : (board : Seen) (standings : List Standing) → IsValidBoard board → board.point < 2 ^ 62 → length standings ≡ length board.paragraphs → IsValidBoard (record board { point = board.point + 1; standings = standings })
+pub valid-moved : (board : Seen) (standings : List Standing) → IsValidBoard board
+    → board.point < 2 ^ 62 → length standings ≡ length board.paragraphs
+    → IsValidBoard (record board { point = board.point + 1; standings = standings })
 valid-moved board standings valid goes_on long =
     record {
       paragraphs = valid.paragraphs;
@@ -42,7 +45,15 @@ valid-moved board standings valid goes_on long =
       point = one-more board.point (2 ^ 62) goes_on;
     }
 
-pub valid-loaded : (board : Seen) (lexicon : Lexicon) (standings : List Standing) → IsValidBoard board → board.point < 2 ^ 62 → length standings ≡ length board.paragraphs → IsValidBoard (record board { point = board.point + 1; dict_version = board.dict_version + 1; lexicon = lexicon; standings = standings })
+pub valid-loaded : (board : Seen) (lexicon : Lexicon) (standings : List Standing)
+    → IsValidBoard board → board.point < 2 ^ 62 → length standings ≡ length board.paragraphs
+    → IsValidBoard
+    (record board {
+      point = board.point + 1;
+      dict_version = board.dict_version + 1;
+      lexicon = lexicon;
+      standings = standings;
+    })
 valid-loaded board lexicon standings valid goes_on long =
     record {
       paragraphs = valid.paragraphs;
@@ -53,7 +64,18 @@ valid-loaded board lexicon standings valid goes_on long =
       point = one-more board.point (2 ^ 62) goes_on;
     }
 
-pub valid-edited : (board : Seen) (edit : Edit) (paragraphs : List Paragraph) (standings : List Standing) → IsValidBoard board → board.point < 2 ^ 62 → AreValid (board.text_version + 1 + 1) (next_id_after board.next_id edit) paragraphs → length standings ≡ length paragraphs → IsValidBoard (record board { point = board.point + 1; text_version = board.text_version + 1; paragraphs = paragraphs; standings = standings; next_id = next_id_after board.next_id edit })
+pub valid-edited : (board : Seen) (edit : Edit) (paragraphs : List Paragraph)
+    (standings : List Standing) → IsValidBoard board → board.point < 2 ^ 62
+    → AreValid (board.text_version + 1 + 1) (next_id_after board.next_id edit) paragraphs
+    → length standings ≡ length paragraphs
+    → IsValidBoard
+    (record board {
+      point = board.point + 1;
+      text_version = board.text_version + 1;
+      paragraphs = paragraphs;
+      standings = standings;
+      next_id = next_id_after board.next_id edit;
+    })
 valid-edited board edit paragraphs standings valid goes_on made long =
     record {
       paragraphs = made;

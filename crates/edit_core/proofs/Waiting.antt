@@ -1,5 +1,6 @@
 -- The first paragraph that waits.
-use Rattle.std.proofs.Common.{◌≡◌, ◌∙◌, refl, sym, ap, ℕ, suc, Bool, true, false, List, [], ◌∷◌, map, get_or, position, slice_get, Option, None, Some}
+use Rattle.std.proofs.Common.{◌≡◌, ◌∙◌, refl, sym, ap, ℕ, suc, Bool, true, false, List, [], ◌∷◌}
+use Rattle.std.proofs.Common.{map, get_or, position, slice_get, Option, None, Some}
 use Rattle.std.specs.List.{AllByRecursion}
 use Rattle.std.specs.Option.{option_map}
 use Rattle.std.proofs.lemmas.Bool.{false≢true}
@@ -12,7 +13,8 @@ use Rattle.edit_core.specs.declared.state.Standing.TheVariants.{Waiting, Held, P
 use Rattle.edit_core.proofs.Places.{position-hit, position-miss}
 
 -- the first of what is made of each item that passes
-pub position-map : {X Y : Type 0} (p : Y → Bool) (f : X → Y) (xs : List X) → position (λ x. p (f x)) xs ≡ position p (map f xs)
+pub position-map : {X Y : Type 0} (p : Y → Bool) (f : X → Y) (xs : List X)
+    → position (λ x. p (f x)) xs ≡ position p (map f xs)
 position-map p f [] = refl
 position-map p f (x ∷ xs) = by (position-map p f xs) (p (f x)) refl
   where
@@ -24,7 +26,8 @@ position-map p f (x ∷ xs) = by (position-map p f xs) (p (f x)) refl
         ∙ sym (position-miss p (f x) (map f xs) is)
 
 -- where none is the first that passes, none passes
-pub none-passes : {X : Type 0} (p : X → Bool) (xs : List X) → position p xs ≡ None → AllByRecursion (λ x. p x ≡ false) xs
+pub none-passes : {X : Type 0} (p : X → Bool) (xs : List X) → position p xs ≡ None
+    → AllByRecursion (λ x. p x ≡ false) xs
 none-passes p [] none = tt
 none-passes p (x ∷ xs) none = by (none-passes p xs) (p x) refl
   where
@@ -43,7 +46,8 @@ waits (Held worker) is = absurd (false≢true is)
 waits Parked is = absurd (false≢true is)
 waits Finished is = absurd (false≢true is)
 
--- what stands at the place of the first that waits does, and where there is no such place none waits
+-- what stands at the place of the first that waits does, and where there is no such place none
+-- waits
 pub waits-at : (standings : List Standing) (place : ℕ) → position is_waiting standings ≡ Some place
     → slice_get standings place ≡ Some Waiting
 waits-at standings place is =
@@ -54,5 +58,6 @@ waits-at standings place is =
 pub none-waits : (standings : List Standing) → position is_waiting standings ≡ None
     → AllByRecursion (λ stands. ¬ (stands ≡ Waiting)) standings
 none-waits standings none =
-    each-weaker (λ s. is_waiting s ≡ false) (λ s. ¬ (s ≡ Waiting)) (λ s not same. false≢true (sym not ∙ ap is_waiting same))
+    each-weaker (λ s. is_waiting s ≡ false) (λ s. ¬ (s ≡ Waiting))
+    (λ s not same. false≢true (sym not ∙ ap is_waiting same))
     standings (none-passes is_waiting standings none)

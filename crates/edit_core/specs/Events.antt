@@ -16,7 +16,8 @@ pub data SeenEvent : Type 0 where
   ALoad : Lexicon → SeenEvent
   -- a worker takes a paragraph with a rev
   AClaim : (worker id rev : ℕ) → SeenEvent
-  -- a worker has checked a text by a dictionary, for a paragraph with a rev and for a dictionary version
+  -- a worker has checked a text by a dictionary, for a paragraph with a rev and for a dictionary
+  -- version
   AFinish : (worker id rev dict : ℕ) → (text : List ℕ) → Lexicon → SeenEvent
   -- a session stops the check of a paragraph
   APark : (session id : ℕ) → SeenEvent
@@ -28,7 +29,8 @@ abbrev pub event_of : {J : Type 0} → (J → Lexicon) → Event J → SeenEvent
 event_of lexicon_of (variant.Edit session edit) = AnEdit session edit
 event_of lexicon_of (variant.Load judge) = ALoad (lexicon_of (arc_value judge))
 event_of lexicon_of (variant.Claim worker id rev) = AClaim worker id rev
-event_of lexicon_of (variant.Finish worker id rev dict checked) = AFinish worker id rev dict checked.text (lexicon_of checked.judge)
+event_of lexicon_of (variant.Finish worker id rev dict checked) =
+    AFinish worker id rev dict checked.text (lexicon_of checked.judge)
 event_of lexicon_of (variant.Park session id) = APark session id
 event_of lexicon_of (variant.Ask session id) = AnAsk session id
 

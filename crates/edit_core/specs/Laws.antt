@@ -1,5 +1,6 @@
 -- Laws of what is found in two lists, place by place, that the proofs of crates above cite too.
-use Rattle.std.proofs.Common.{◌≡◌, refl, ℕ, zero, suc, Bool, true, false, cond, List, [], ◌∷◌, find, slice_get, Option, None, Some, arith}
+use Rattle.std.proofs.Common.{◌≡◌, refl, ℕ, zero, suc, Bool, true, false, cond, List, [], ◌∷◌, find}
+use Rattle.std.proofs.Common.{slice_get, Option, None, Some, arith}
 use Rattle.std.specs.List.{position_or_len, zip}
 
 -- the first pair is found whose first item passes
@@ -9,7 +10,8 @@ pub find-beside : {X Y : Type 0} (p : X → Bool) (xs : List X) (ys : List Y) (k
 find-beside p [] ys k x y is here beside = cc
 find-beside p (z ∷ xs) [] k x y is here beside = cc
 find-beside p (z ∷ xs) (w ∷ ys) zero x y is here beside = grind arith
-find-beside p (z ∷ xs) (w ∷ ys) (suc k) x y is here beside = grind (arith, find-beside p xs ys k x y)
+find-beside p (z ∷ xs) (w ∷ ys) (suc k) x y is here beside =
+    grind (arith, find-beside p xs ys k x y)
 
 -- where no item passes no pair is found
 pub none-beside : {X Y : Type 0} (p : X → Bool) (xs : List X) (ys : List Y) → find p xs ≡ None

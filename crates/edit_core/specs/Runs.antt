@@ -1,5 +1,6 @@
 -- A history: the boards that one event after another makes of an opening board.
-use Rattle.std.specs.Prelude.{◌≡◌, ℕ, ◌+◌, ◌*◌, ◌≤◌, Bool, true, false, not, ◌&&◌, ◌==◌, ◌⊎◌, List, [], ◌∷◌, Some}
+use Rattle.std.specs.Prelude.{◌≡◌, ℕ, ◌+◌, ◌*◌, ◌≤◌, Bool, true, false, not, ◌&&◌, ◌==◌, ◌⊎◌, List}
+use Rattle.std.specs.Prelude.{[], ◌∷◌, Some}
 use Rattle.std.specs.List.{AllZip, count_by}
 use Rattle.spell_types.specs.declared.Lexicon.{Lexicon}
 use Rattle.paragraph_text.specs.Paragraphs.{Paragraph}
@@ -14,7 +15,8 @@ use Rattle.edit_core.specs.declared.refusal.Refusal.{Refusal}
 use Rattle.edit_core.specs.declared.state.Standing.{Standing}
 use Rattle.edit_core.specs.declared.state.Standing.TheVariants as standing
 
--- an event of a history: the number of the one through whom it came, the event, and the board behind it
+-- an event of a history: the number of the one through whom it came, the event, and the board
+-- behind it
 pub record Entry : Type 0 where
   pub by : ℕ
   pub event : SeenEvent
@@ -23,7 +25,8 @@ pub record Entry : Type 0 where
 -- each board is made of the one before it by its event
 abbrev pub AreSteps : Seen → List Entry → Type 0
 AreSteps before [] = Unit {0}
-AreSteps before (entry ∷ entries) = Step before entry.event entry.board × AreSteps entry.board entries
+AreSteps before (entry ∷ entries) =
+    Step before entry.event entry.board × AreSteps entry.board entries
 
 -- the board that a history has come to
 abbrev pub last_board : Seen → List Entry → Seen
@@ -89,9 +92,11 @@ pub record OnlyGrew (earlier later : Seen) : Type 0 where
   pub dict : earlier.dict_version ≤ later.dict_version
   pub next_id : earlier.next_id ≤ later.next_id
   -- an id that is live was live, or is new
-  pub live : (id : ℕ) → IsLive id later.paragraphs → IsLive id earlier.paragraphs ⊎ (earlier.next_id ≤ id)
+  pub live : (id : ℕ) → IsLive id later.paragraphs → IsLive id earlier.paragraphs
+      ⊎ (earlier.next_id ≤ id)
   -- the rev of an id does not fall, and equal revs have equal texts
-  pub revs : (id : ℕ) (old new : Paragraph) → with_id id earlier.paragraphs ≡ Some old → with_id id later.paragraphs ≡ Some new
+  pub revs : (id : ℕ) (old new : Paragraph) → with_id id earlier.paragraphs ≡ Some old
+      → with_id id later.paragraphs ≡ Some new
       → (old.rev ≤ new.rev) × (old.rev ≡ new.rev → old.text ≡ new.text)
   -- equal text versions have equal texts
   pub texts : earlier.text_version ≡ later.text_version → earlier.paragraphs ≡ later.paragraphs
@@ -108,7 +113,8 @@ is_workers _ = false
 abbrev pub is_quiet : SeenEvent → Bool
 is_quiet event = is_workers (kind_of event)
 
--- how one paragraph may stand behind events of workers: what is parked stays so, and nothing else becomes so; what is finished stays so
+-- how one paragraph may stand behind events of workers: what is parked stays so, and nothing else
+-- becomes so; what is finished stays so
 pub record MayBecome (before after : Standing) : Type 0 where
   pub parked : is_parked after ≡ is_parked before
   pub finished : is_finished before ≡ true → is_finished after ≡ true
@@ -132,9 +138,11 @@ abbrev pub is_held : Standing → Bool
 is_held (standing.Held worker) = true
 is_held _ = false
 
--- the furthest point that events of workers alone can lead to: what waits can be claimed and finished, what is held can be finished
+-- the furthest point that events of workers alone can lead to: what waits can be claimed and
+-- finished, what is held can be finished
 abbrev pub furthest_point : Seen → ℕ
-furthest_point board = board.point + (2 * count_by is_waiting board.standings + count_by is_held board.standings)
+furthest_point board =
+    board.point + (2 * count_by is_waiting board.standings + count_by is_held board.standings)
 
 -- how many events of a history are not of workers
 abbrev pub asked_of : List Entry → ℕ
@@ -153,7 +161,8 @@ AreQuiet (entry ∷ entries) = (is_quiet entry.event ≡ true) × AreQuiet entri
 
 -- what an event makes of a board: a refused event leaves it
 abbrev pub IsAnswered : Seen → SeenEvent → Seen → Type 0
-IsAnswered board event after = Step board event after ⊎ ((refusal : Refusal) × IsRefused board event refusal × (after ≡ board))
+IsAnswered board event after =
+    Step board event after ⊎ ((refusal : Refusal) × IsRefused board event refusal × (after ≡ board))
 
 -- each event is fit for each board that may be there when its turn comes
 abbrev pub AreFit : Seen → List SeenEvent → Type 0
@@ -169,7 +178,8 @@ pub record IsCheckOf (board : Seen) (id rev : ℕ) (text : List ℕ) (lexicon : 
   pub text_is : text ≡ paragraph.text
   pub lexicon_is : lexicon ≡ board.lexicon
 
--- an event brings nothing but what is of a board: its checks are of the board's paragraphs, and its dictionary is the board's
+-- an event brings nothing but what is of a board: its checks are of the board's paragraphs, and its
+-- dictionary is the board's
 abbrev pub IsOfBoard : Seen → SeenEvent → Type 0
 IsOfBoard board (ALoad lexicon) = lexicon ≡ board.lexicon
 IsOfBoard board (AFinish worker id rev dict text lexicon) = IsCheckOf board id rev text lexicon
@@ -178,9 +188,11 @@ IsOfBoard board _ = Unit {0}
 -- what a list of events makes of a board, one after another
 abbrev pub Replays : Seen → List SeenEvent → Seen → Type 0
 Replays board [] after = after ≡ board
-Replays board (event ∷ events) after = (next : Seen) × IsAnswered board event next × Replays next events after
+Replays board (event ∷ events) after =
+    (next : Seen) × IsAnswered board event next × Replays next events after
 
--- a board is the last of a history that goes on from another, by some of these events, in their order
+-- a board is the last of a history that goes on from another, by some of these events, in their
+-- order
 abbrev pub AreTakenFrom : List SeenEvent → List Entry → Type 0
 AreTakenFrom events [] = Unit {0}
 AreTakenFrom [] (entry ∷ entries) = ⊥

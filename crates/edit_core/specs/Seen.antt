@@ -1,5 +1,6 @@
 -- What a board is seen as, and what every board meets.
-use Rattle.std.specs.Prelude.{◌≡◌, ℕ, ◌+◌, ◌≤◌, ◌^◌, ◌==◌, List, [], ◌∷◌, length, map, position, nat_le, if◌then◌else◌, Option, None, Some}
+use Rattle.std.specs.Prelude.{◌≡◌, ℕ, ◌+◌, ◌≤◌, ◌^◌, ◌==◌, List, [], ◌∷◌, length, map, position}
+use Rattle.std.specs.Prelude.{nat_le, if◌then◌else◌, Option, None, Some}
 use Rattle.std.specs.List.{AllZip}
 use Rattle.std.specs.Option.{option_map, option_or}
 use Rattle.spell_types.specs.declared.Lexicon.{Lexicon}
@@ -9,11 +10,14 @@ use Rattle.edit_core.specs.declared.state.Standing.TheVariants.{Waiting, Held, P
 use Rattle.edit_core.specs.declared.opening.OpeningFault.{OpeningFault}
 use Rattle.edit_core.specs.declared.opening.OpeningFault.TheVariants.{Full, HasBreak, TooLong}
 use Rattle.edit_core.specs.declared.state.State.{State}
-use Rattle.edit_core.specs.declared.state.State.TheVariants.{Waiting as OfWaiting, Held as OfHeld, Parked as OfParked, Finished as OfFinished}
+use Rattle.edit_core.specs.declared.state.State.TheVariants.{Waiting as OfWaiting, Held as OfHeld}
+use Rattle.edit_core.specs.declared.state.State.TheVariants.{Parked as OfParked}
+use Rattle.edit_core.specs.declared.state.State.TheVariants.{Finished as OfFinished}
 use Rattle.paragraph_text.specs.declared.limits.TheConstants.{MOST_BYTES, MOST_PARAGRAPHS}
 
--- A point of a history: how many events led to it, how many of them were edits and how many were loads, the dictionary in force,
--- the paragraphs in their order, how each stands, and the id that the next one gets that is put in.
+-- A point of a history: how many events led to it, how many of them were edits and how many were
+-- loads, the dictionary in force, the paragraphs in their order, how each stands, and the id that
+-- the next one gets that is put in.
 pub record Seen : Type 0 where
   pub point : ℕ
   pub text_version : ℕ
@@ -23,7 +27,8 @@ pub record Seen : Type 0 where
   pub standings : List Standing
   pub next_id : ℕ
 
--- how a paragraph stands that is kept so; the marks of a finished one follow from its text and the dictionary
+-- how a paragraph stands that is kept so; the marks of a finished one follow from its text and the
+-- dictionary
 abbrev pub standing_of : {J : Type 0} → State J → Standing
 standing_of OfWaiting = Waiting
 standing_of (OfHeld worker) = Held worker
@@ -41,12 +46,15 @@ pub record IsValidBoard (board : Seen) : Type 0 where
 
 -- a check is of this paragraph's text, by this dictionary
 abbrev pub IsTheirs : {J : Type 0} → (J → Lexicon) → Lexicon → Paragraph → State J → Type 0
-IsTheirs lexicon_of lexicon paragraph (OfFinished checked) = (checked.text ≡ paragraph.text) × (lexicon_of checked.judge ≡ lexicon)
+IsTheirs lexicon_of lexicon paragraph (OfFinished checked) =
+    (checked.text ≡ paragraph.text) × (lexicon_of checked.judge ≡ lexicon)
 IsTheirs lexicon_of lexicon paragraph _ = Unit {0}
 
 -- each paragraph that is finished has a check of its own text, by this dictionary
-abbrev pub AreTheirs : {J : Type 0} → (J → Lexicon) → Lexicon → List Paragraph → List (State J) → Type 0
-AreTheirs lexicon_of lexicon paragraphs states = AllZip (IsTheirs lexicon_of lexicon) paragraphs states
+abbrev pub AreTheirs : {J : Type 0} → (J → Lexicon) → Lexicon → List Paragraph → List (State J)
+    → Type 0
+AreTheirs lexicon_of lexicon paragraphs states =
+    AllZip (IsTheirs lexicon_of lexicon) paragraphs states
 
 -- the board that a history opens with: texts that nothing has touched, and that all wait
 abbrev pub opening_of : Lexicon → List (List ℕ) → Seen
@@ -84,4 +92,5 @@ fault_from place (text ∷ texts) = option_or (text_fault place text) (fault_fro
 
 -- the first fault of texts
 abbrev pub opening_fault : List (List ℕ) → Option OpeningFault
-opening_fault texts = if nat_le (length texts) MOST_PARAGRAPHS then fault_from 0 texts else Some (Full (length texts))
+opening_fault texts =
+    if nat_le (length texts) MOST_PARAGRAPHS then fault_from 0 texts else Some (Full (length texts))

@@ -1,5 +1,6 @@
 -- What a board shows.
-use Rattle.std.specs.Prelude.{◌≡◌, ℕ, ◌+◌, Bool, true, false, ◌==◌, List, [], ◌∷◌, filter, map, length, slice_get, Option, None, Some}
+use Rattle.std.specs.Prelude.{◌≡◌, ℕ, ◌+◌, Bool, true, false, ◌==◌, List, [], ◌∷◌, filter, map}
+use Rattle.std.specs.Prelude.{length, slice_get, Option, None, Some}
 use Rattle.std.specs.Arc.{arc_value}
 use Rattle.std.specs.List.{count_by}
 use Rattle.std.specs.Str.{chars}
@@ -20,7 +21,8 @@ use Rattle.edit_core.specs.declared.view.Versions.{Versions}
 use Rattle.edit_core.specs.declared.view.Shown.{Shown}
 use Rattle.edit_core.specs.declared.view.Shown.TheVariants.{Marks, Pending}
 
--- what is shown of a paragraph: its marks, or that they are not there, whether the paragraph is parked, and which worker holds it
+-- what is shown of a paragraph: its marks, or that they are not there, whether the paragraph is
+-- parked, and which worker holds it
 pub data ShownMarks : Type 0 where
   Marked : List Mark → ShownMarks
   Unmarked : (parked : Bool) → (held_by : Option ℕ) → ShownMarks
@@ -36,25 +38,29 @@ texts_of board = map (λ paragraph. chars paragraph.text) board.paragraphs
 
 -- the marks of the paragraph with a number, from 1, among the marks of all texts together
 unfoldable pub marks_numbered : Lexicon → List (List ℕ) → ℕ → List Mark
-marks_numbered lexicon texts number = map mark_of (filter (λ word. word.paragraph == number) (marks_of lexicon texts))
+marks_numbered lexicon texts number =
+    map mark_of (filter (λ word. word.paragraph == number) (marks_of lexicon texts))
 
 -- what is shown of the paragraph with a number that stands so
 abbrev pub shown_as : Seen → ℕ → Standing → ShownMarks
 shown_as board number standing.Waiting = Unmarked false None
 shown_as board number (standing.Held worker) = Unmarked false (Some worker)
 shown_as board number standing.Parked = Unmarked true None
-shown_as board number standing.Finished = Marked (marks_numbered board.lexicon (texts_of board) number)
+shown_as board number standing.Finished =
+    Marked (marks_numbered board.lexicon (texts_of board) number)
 
 -- what is shown of a paragraph that is kept so, by its own check
 abbrev pub shown_alone : {J : Type 0} → (J → Lexicon) → State J → ShownMarks
 shown_alone lexicon_of state.Waiting = Unmarked false None
 shown_alone lexicon_of (state.Held worker) = Unmarked false (Some worker)
 shown_alone lexicon_of state.Parked = Unmarked true None
-shown_alone lexicon_of (state.Finished checked) = Marked (marks_in (lexicon_of checked.judge) (chars checked.text))
+shown_alone lexicon_of (state.Finished checked) =
+    Marked (marks_in (lexicon_of checked.judge) (chars checked.text))
 
 abbrev pub shown_from : Seen → ℕ → List Standing → List ShownMarks
 shown_from board number [] = []
-shown_from board number (stands ∷ standings) = shown_as board number stands ∷ shown_from board (number + 1) standings
+shown_from board number (stands ∷ standings) =
+    shown_as board number stands ∷ shown_from board (number + 1) standings
 
 -- what a look at a board tells: its point, its versions, and what it shows of each paragraph
 pub record BoardView : Type 0 where

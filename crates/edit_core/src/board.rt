@@ -11,8 +11,9 @@ use paragraph_text::Paragraphs;
 use std::marker::Model;
 use std::sync::Arc;
 
-/// The paragraphs of a text, how each stands, and the dictionary in force, at one point of one history. Contracts see it without
-/// its judge and its checks: the marks of a finished paragraph follow from its text and the dictionary.
+/// The paragraphs of a text, how each stands, and the dictionary in force, at one point of one
+/// history. Contracts see it without its judge and its checks: the marks of a finished paragraph
+/// follow from its text and the dictionary.
 #[derive(Drop)]
 pub struct Board<J: Judge> {
     pub(crate) point: u64,
@@ -50,7 +51,8 @@ impl<J: Judge> Model for Board<J> {
           paragraphs = inside.paragraphs;
           standings = map standing_of inside.states;
           next_id = inside.next_id;
-        }) × AreTheirs J.lexicon (J.lexicon (arc_value inside.judge)) inside.paragraphs inside.states };
+        }) × AreTheirs J.lexicon (J.lexicon (arc_value inside.judge)) inside.paragraphs
+        inside.states };
 }
 
 impl<J: Judge> Board<J> {

@@ -1,5 +1,6 @@
-//! Threads may have boards, events and refusals, and may be lent them, where they may have the judge. Where a field forbids it, the
-//! proof of this crate fails, and not first that of a program that starts threads.
+//! Threads may have boards, events and refusals, and may be lent them, where they may have the
+//! judge. Where a field forbids it, the proof of this crate fails, and not first that of a program
+//! that starts threads.
 
 use crate::board::Board;
 use crate::event::Event;

@@ -8,7 +8,8 @@ use paragraph_marks::Checked;
 use paragraph_text::Edit;
 use std::sync::Arc;
 
-/// What is asked of a board. A session and a worker are known by their numbers, a paragraph by its id.
+/// What is asked of a board. A session and a worker are known by their numbers, a paragraph by its
+/// id.
 #[derive(Drop)]
 pub enum Event<J: Judge> {
     /// A session edits the text.

@@ -1,6 +1,7 @@
 //! The board that a history opens with.
 
-ghost use Rattle.std.specs.Prelude.{◌≡◌, ◌≤◌, ◌==◌, None, Some, length, map, position, IfOk, IfErr, OnOk};
+ghost use Rattle.std.specs.Prelude.{◌≡◌, ◌≤◌, ◌==◌, None, Some, length, map, position, IfOk, IfErr};
+ghost use Rattle.std.specs.Prelude.{OnOk};
 ghost use Rattle.std.specs.Arc.{arc_value};
 ghost use Rattle.std.specs.List.{AllByRecursion};
 ghost use Rattle.lists.specs.Answers.{IsDueOr};
@@ -19,7 +20,8 @@ use std::alloc::{AllocError, Global};
 use std::sync::Arc;
 use text_lines::Text;
 
-/// Why texts are no opening board: that there are too many, or what is wrong with the first that is not right.
+/// Why texts are no opening board: that there are too many, or what is wrong with the first that is
+/// not right.
 #[derive(Clone, Copy, Debug, PartialEq, Eq)]
 pub enum OpeningFault {
     /// There are so many texts, more than 20,000.
@@ -41,10 +43,11 @@ impl From<NoMemory> for OpeningFault {
 }
 
 impl<J: Judge + Drop> Board<J> {
-    /// The board that a history opens with: the texts in their order, with ids from 0 on, which all wait. Its point, its versions and
-    /// all revs are 0.
+    /// The board that a history opens with: the texts in their order, with ids from 0 on, which all
+    /// wait. Its point, its versions and all revs are 0.
     pub fn opening(alloc: Global, judge: Arc<J>, texts: Vec<Text>) -> Result<Board<J>, OpeningFault>
-        ensures opened { IfOk result (λ board. board ≡ opening_of (J.lexicon (arc_value judge)) texts.items) }
+        ensures opened { IfOk result
+            (λ board. board ≡ opening_of (J.lexicon (arc_value judge)) texts.items) }
         ensures right { IfOk result (λ board. opening_fault texts.items ≡ None) }
         ensures refused { IfErr result (IsDueOr OutOfMemory (opening_fault texts.items)) }
     {
@@ -82,7 +85,8 @@ fn waiting<J: Judge + Drop>(
 fn check_texts(texts: &[Text]) -> Result<(), OpeningFault>
     ensures right { OnOk result (opening_fault texts.now ≡ None) }
     ensures few { OnOk result (length texts.now ≤ MOST_PARAGRAPHS) }
-    ensures each { OnOk result (AllByRecursion (λ text. (length text ≤ MOST_BYTES) × HasNoBreak text) texts.now) }
+    ensures each { OnOk result
+        (AllByRecursion (λ text. (length text ≤ MOST_BYTES) × HasNoBreak text) texts.now) }
     ensures refused { IfErr result (λ fault. opening_fault texts.now ≡ Some fault) }
 {
     if texts.len() > MOST_PARAGRAPHS {

@@ -8,8 +8,8 @@ use lists::NoMemory;
 use paragraph_text::EditRefusal;
 use std::alloc::AllocError;
 
-/// Why a board refuses an event. Where several causes are there, `Spent` is told first; then come those of the event, in this order; and
-/// want of memory may be told at any time.
+/// Why a board refuses an event. Where several causes are there, `Spent` is told first; then come
+/// those of the event, in this order; and want of memory may be told at any time.
 #[derive(Clone, Copy, Debug, PartialEq, Eq)]
 pub enum Refusal {
     /// The board stands at the last point of its history, which is this one: 2^62.

@@ -13,8 +13,9 @@ use mark_types::Judge;
 use std::alloc::Global;
 
 impl<J: Judge + Drop> Board<J> {
-    /// The board that events make of this one, each in its turn. A refused event leaves the board. Each check that is to finish a
-    /// paragraph has to be fit for the board that is there when its turn comes.
+    /// The board that events make of this one, each in its turn. A refused event leaves the board.
+    /// Each check that is to finish a paragraph has to be fit for the board that is there when its
+    /// turn comes.
     pub fn replay(self, alloc: Global, events: Vec<Event<J>>) -> Result<Board<J>, NoMemory>
         requires { AreFit self (map (event_of J.lexicon) events.items) }
         ensures { IfOk result (Replays self (map (event_of J.lexicon) events.items)) }

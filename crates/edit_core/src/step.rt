@@ -1,6 +1,7 @@
 //! What an event makes of a board.
 
-ghost use Rattle.std.specs.Prelude.{◌≡◌, ◌+◌, ◌<◌, ◌^◌, ◌==◌, ℕ, true, Option, None, Some, length, map, set, slice_get, IfOk, IfErr, IfSome, OnOk, OnErr, IfNone};
+ghost use Rattle.std.specs.Prelude.{◌≡◌, ◌+◌, ◌<◌, ◌^◌, ◌==◌, ℕ, true, Option, None, Some, length};
+ghost use Rattle.std.specs.Prelude.{map, set, slice_get, IfOk, IfErr, IfSome, OnOk, OnErr, IfNone};
 ghost use Rattle.std.specs.Arc.{arc_value};
 ghost use Rattle.std.specs.Option.{option_map};
 ghost use Rattle.lists.specs.Answers.{IsDueOr};
@@ -8,9 +9,15 @@ ghost use Rattle.paragraph_text.specs.Paragraphs.{Paragraph};
 ghost use Rattle.paragraph_text.specs.Edits.{first_refusal as edit_refusal, next_id_after};
 ghost use Rattle.edit_core.specs.Seen.{IsTheirs, standing_of};
 ghost use Rattle.edit_core.specs.Events.{event_of};
-ghost use Rattle.edit_core.specs.Steps.{Edits, IsFit, IsFitCheck, IsFoundAt, Loads, MayClaim, MayFinish, Moves, Step, claim_refusal, finish_refusal, first_refusal, found, gone_or, is_open, not_parked, not_waiting, outdated, refusal_of, reloaded_state, settled, unless};
-ghost use Rattle.edit_core.specs.declared.refusal.Refusal.TheVariants.{Behind, Gone, NoMemory as OutOfMemory};
-ghost use Rattle.edit_core.specs.declared.state.Standing.TheVariants.{Finished, Held, Parked, Waiting};
+ghost use Rattle.edit_core.specs.Steps.{Edits, IsFit, IsFitCheck, IsFoundAt, Loads, MayClaim};
+ghost use Rattle.edit_core.specs.Steps.{MayFinish, Moves, Step, claim_refusal, finish_refusal};
+ghost use Rattle.edit_core.specs.Steps.{first_refusal, found, gone_or, is_open, not_parked};
+ghost use Rattle.edit_core.specs.Steps.{not_waiting, outdated, refusal_of, reloaded_state, settled};
+ghost use Rattle.edit_core.specs.Steps.{unless};
+ghost use Rattle.edit_core.specs.declared.refusal.Refusal.TheVariants.{Behind, Gone};
+ghost use Rattle.edit_core.specs.declared.refusal.Refusal.TheVariants.{NoMemory as OutOfMemory};
+ghost use Rattle.edit_core.specs.declared.state.Standing.TheVariants.{Finished, Held, Parked};
+ghost use Rattle.edit_core.specs.declared.state.Standing.TheVariants.{Waiting};
 
 use crate::board::Board;
 use crate::event::Event;
@@ -35,17 +42,20 @@ struct Found {
 }
 
 impl<J: Judge + Drop> Board<J> {
-    /// The board that an event makes of this one, which stays as it is. A check that is finished is one of the paragraph's text by the
-    /// dictionary in force, if its rev and its dictionary version are the board's.
+    /// The board that an event makes of this one, which stays as it is. A check that is finished is
+    /// one of the paragraph's text by the dictionary in force, if its rev and its dictionary
+    /// version are the board's.
     pub fn next(&self, alloc: Global, event: Event<J>) -> Result<Board<J>, Refusal>
         requires { IsFit self.now (event_of J.lexicon event) }
         ensures stepped { IfOk result (Step self.now (event_of J.lexicon event)) }
-        ensures refused { IfErr result (IsDueOr OutOfMemory (first_refusal self.now (event_of J.lexicon event))) }
+        ensures refused { IfErr result
+            (IsDueOr OutOfMemory (first_refusal self.now (event_of J.lexicon event))) }
     {
         self.next_near(alloc, event, 0)
     }
 
-    /// The same board. The paragraph that the event names is looked for at `near` first; where it stands there no other is looked at.
+    /// The same board. The paragraph that the event names is looked for at `near` first; where it
+    /// stands there no other is looked at.
     pub fn next_near(
         &self,
         alloc: Global,
@@ -54,7 +64,8 @@ impl<J: Judge + Drop> Board<J> {
     ) -> Result<Board<J>, Refusal>
         requires { IsFit self.now (event_of J.lexicon event) }
         ensures stepped { IfOk result (Step self.now (event_of J.lexicon event)) }
-        ensures refused { IfErr result (IsDueOr OutOfMemory (first_refusal self.now (event_of J.lexicon event))) }
+        ensures refused { IfErr result
+            (IsDueOr OutOfMemory (first_refusal self.now (event_of J.lexicon event))) }
     {
         if self.point >= LAST_POINT {
             return Err(Refusal::Spent { point: self.point });
@@ -79,7 +90,9 @@ impl<J: Judge + Drop> Board<J> {
     fn edited(&self, alloc: Global, edit: &Edit, near: usize) -> Result<Board<J>, Refusal>
         requires { self.now.point < 2 ^ 62 }
         ensures made { IfOk result (Edits self.now edit.now) }
-        ensures refused { IfErr result (IsDueOr OutOfMemory (option_map refusal_of (edit_refusal self.now.paragraphs edit.now))) }
+        ensures refused { IfErr result
+            (IsDueOr OutOfMemory
+            (option_map refusal_of (edit_refusal self.now.paragraphs edit.now))) }
     {
         let text = self.text + 1;
         let paragraphs = apply_near(alloc, &self.paragraphs, text, self.next_id, edit, near)?;
@@ -128,7 +141,8 @@ impl<J: Judge + Drop> Board<J> {
     ) -> Result<Board<J>, Refusal>
         requires { self.now.point < 2 ^ 62 }
         ensures made { IfOk result (Moves self.now id (MayClaim rev) (Held worker)) }
-        ensures refused { IfErr result (IsDueOr OutOfMemory (gone_or id self.now (claim_refusal rev))) }
+        ensures refused { IfErr result
+            (IsDueOr OutOfMemory (gone_or id self.now (claim_refusal rev))) }
     {
         let found = self.current(id, near)?;
         found.check_rev(rev)?;
@@ -148,8 +162,11 @@ impl<J: Judge + Drop> Board<J> {
     ) -> Result<Board<J>, Refusal>
         requires goes_on { self.now.point < 2 ^ 62 }
         requires fit { IsFitCheck self.now id rev dict checked.text (J.lexicon checked.judge) }
-        ensures made { IfOk result (Moves self.now id (MayFinish self.now rev dict checked.text (J.lexicon checked.judge)) Finished) }
-        ensures refused { IfErr result (IsDueOr OutOfMemory (gone_or id self.now (finish_refusal self.now rev dict))) }
+        ensures made { IfOk result
+            (Moves self.now id (MayFinish self.now rev dict checked.text (J.lexicon checked.judge))
+            Finished) }
+        ensures refused { IfErr result
+            (IsDueOr OutOfMemory (gone_or id self.now (finish_refusal self.now rev dict))) }
     {
         let found = self.current(id, near)?;
         found.check_rev(rev)?;
@@ -162,7 +179,9 @@ impl<J: Judge + Drop> Board<J> {
     fn parked(&self, alloc: Global, id: u64, near: usize) -> Result<Board<J>, Refusal>
         requires { self.now.point < 2 ^ 62 }
         ensures made { IfOk result (Moves self.now id (λ _ stands. is_open stands ≡ true) Parked) }
-        ensures refused { IfErr result (IsDueOr OutOfMemory (gone_or id self.now (λ paragraph stands. settled paragraph.rev stands))) }
+        ensures refused { IfErr result
+            (IsDueOr OutOfMemory
+            (gone_or id self.now (λ paragraph stands. settled paragraph.rev stands))) }
     {
         let found = self.current(id, near)?;
         found.check_open()?;
@@ -173,14 +192,17 @@ impl<J: Judge + Drop> Board<J> {
     fn asked(&self, alloc: Global, id: u64, near: usize) -> Result<Board<J>, Refusal>
         requires { self.now.point < 2 ^ 62 }
         ensures made { IfOk result (Moves self.now id (λ _ stands. stands ≡ Parked) Waiting) }
-        ensures refused { IfErr result (IsDueOr OutOfMemory (gone_or id self.now (λ paragraph stands. not_parked paragraph.rev stands))) }
+        ensures refused { IfErr result
+            (IsDueOr OutOfMemory
+            (gone_or id self.now (λ paragraph stands. not_parked paragraph.rev stands))) }
     {
         let found = self.current(id, near)?;
         found.check_parked()?;
         Ok(self.with_state(alloc, found.place, State::Waiting)?)
     }
 
-    /// Where the paragraph with an id stands, or that it is gone. It is looked for at a place first.
+    /// Where the paragraph with an id stands, or that it is gone. It is looked for at a place
+    /// first.
     fn current(&self, id: u64, near: usize) -> Result<Found, Refusal>
         ensures found { IfOk result (λ row. IsFoundAt self.now id row.place row.rev row.standing) }
         ensures inside { IfOk result (λ row. row.place < length self.now.standings) }
@@ -196,7 +218,8 @@ impl<J: Judge + Drop> Board<J> {
     /// Where the paragraph with an id stands.
     fn found(&self, id: u64, near: usize) -> Option<Found>
         ensures none { IfNone result (found id self.now ≡ None) }
-        ensures found { IfSome result (λ row. IsFoundAt self.now id row.place row.rev row.standing) }
+        ensures found { IfSome result
+            (λ row. IsFoundAt self.now id row.place row.rev row.standing) }
         ensures inside { IfSome result (λ row. row.place < length self.now.standings) }
     {
         match self.paragraphs.place_near(id, near) {
@@ -232,7 +255,8 @@ impl<J: Judge + Drop> Board<J> {
     fn with_state(&self, alloc: Global, place: usize, state: State<J>) -> Result<Board<J>, NoMemory>
         requires goes_on { self.now.point < 2 ^ 62 }
         requires inside { place < length self.now.standings }
-        requires theirs { (paragraph : Paragraph) → slice_get self.now.paragraphs place ≡ Some paragraph
+        requires theirs { (paragraph : Paragraph) → slice_get self.now.paragraphs place
+            ≡ Some paragraph
             → IsTheirs J.lexicon self.now.lexicon paragraph state }
         ensures { IfOk result (λ after. after ≡ record self.now {
           point = self.now.point + 1;
@@ -257,7 +281,8 @@ impl Found {
     fn check_rev(&self, rev: u64) -> Result<(), Refusal>
         ensures current { OnOk result (self.now.rev ≡ rev) }
         ensures passed { OnOk result (unless (self.now.rev == rev) (Behind self.now.rev) ≡ None) }
-        ensures refused { IfErr result (λ refusal. unless (self.now.rev == rev) (Behind self.now.rev) ≡ Some refusal) }
+        ensures refused { IfErr result
+            (λ refusal. unless (self.now.rev == rev) (Behind self.now.rev) ≡ Some refusal) }
     {
         if self.rev == rev {
             Ok(())
@@ -270,7 +295,8 @@ impl Found {
     fn check_waiting(&self) -> Result<(), Refusal>
         ensures waits { OnOk result (self.now.standing ≡ Waiting) }
         ensures passed { OnOk result (not_waiting self.now.rev self.now.standing ≡ None) }
-        ensures refused { IfErr result (λ refusal. not_waiting self.now.rev self.now.standing ≡ Some refusal) }
+        ensures refused { IfErr result
+            (λ refusal. not_waiting self.now.rev self.now.standing ≡ Some refusal) }
     {
         match self.standing {
             Standing::Held { worker } => Err(Refusal::Taken { by: worker }),
@@ -282,7 +308,8 @@ impl Found {
     fn check_open(&self) -> Result<(), Refusal>
         ensures free { OnOk result (is_open self.now.standing ≡ true) }
         ensures passed { OnOk result (settled self.now.rev self.now.standing ≡ None) }
-        ensures refused { IfErr result (λ refusal. settled self.now.rev self.now.standing ≡ Some refusal) }
+        ensures refused { IfErr result
+            (λ refusal. settled self.now.rev self.now.standing ≡ Some refusal) }
     {
         match self.standing {
             Standing::Waiting | Standing::Held { .. } => Ok(()),
@@ -295,7 +322,8 @@ impl Found {
     fn check_parked(&self) -> Result<(), Refusal>
         ensures parked { OnOk result (self.now.standing ≡ Parked) }
         ensures passed { OnOk result (not_parked self.now.rev self.now.standing ≡ None) }
-        ensures refused { IfErr result (λ refusal. not_parked self.now.rev self.now.standing ≡ Some refusal) }
+        ensures refused { IfErr result
+            (λ refusal. not_parked self.now.rev self.now.standing ≡ Some refusal) }
     {
         match self.standing {
             Standing::Parked => Ok(()),

@@ -1,13 +1,15 @@
 //! What a board shows.
 
-ghost use Rattle.std.specs.Prelude.{◌≡◌, ◌+◌, ◌≤◌, ℕ, List, None, Some, length, position, slice_get, IfNone, IfSome};
+ghost use Rattle.std.specs.Prelude.{◌≡◌, ◌+◌, ◌≤◌, ℕ, List, None, Some, length, position};
+ghost use Rattle.std.specs.Prelude.{slice_get, IfNone, IfSome};
 ghost use Rattle.std.specs.List.{AllByRecursion, count_by};
 ghost use Rattle.spell_types.specs.declared.Lexicon.{Lexicon};
 ghost use Rattle.paragraph_marks.specs.Paragraphs.{marks_in};
 ghost use Rattle.edit_core.specs.Runs.{is_waiting};
 ghost use Rattle.edit_core.specs.Seen.{IsValidBoard, standing_of};
 ghost use Rattle.edit_core.specs.Steps.{place_of};
-ghost use Rattle.edit_core.specs.Views.{Shows, is_finished, is_parked, marks_numbered, progress_of, shown_in, versions_of};
+ghost use Rattle.edit_core.specs.Views.{Shows, is_finished, is_parked, marks_numbered, progress_of};
+ghost use Rattle.edit_core.specs.Views.{shown_in, versions_of};
 ghost use Rattle.edit_core.specs.declared.state.Standing.TheVariants.{Waiting};
 
 use crate::board::Board;
@@ -39,7 +41,8 @@ pub enum Shown<'a> {
     Pending { parked: bool, held_by: Option<u32> },
 }
 
-/// How far a board is: its point, its versions, and how many paragraphs there are, finished and parked ones among them.
+/// How far a board is: its point, its versions, and how many paragraphs there are, finished and
+/// parked ones among them.
 #[derive(Clone, Copy, Debug, PartialEq, Eq)]
 pub struct Progress {
     pub point: u64,
@@ -50,8 +53,8 @@ pub struct Progress {
     pub parked: u64,
 }
 
-/// Where a board stands in its history: its point, its versions, the id of the next paragraph that is put in, and how many paragraphs
-/// there are.
+/// Where a board stands in its history: its point, its versions, the id of the next paragraph that
+/// is put in, and how many paragraphs there are.
 #[derive(Clone, Copy, Debug, PartialEq, Eq)]
 pub struct Versions {
     pub point: u64,
@@ -62,8 +65,8 @@ pub struct Versions {
 }
 
 impl<J: Judge> Board<J> {
-    /// What the board shows of the paragraph with a place, from 0; none past the end. Its marks are those that it has among the marks
-    /// of all texts of the board together.
+    /// What the board shows of the paragraph with a place, from 0; none past the end. Its marks are
+    /// those that it has among the marks of all texts of the board together.
     pub fn para(&self, place: usize) -> Option<ParaView<'_>>
         ensures none { IfNone result (length self.now.paragraphs ≤ place) }
         ensures some { IfSome result (Shows self.now place) }
@@ -83,8 +86,9 @@ impl<J: Judge> Board<J> {
         }
     }
 
-    /// The place of the paragraph with an id, from 0, and what the board shows of it; none where no paragraph has the id. It looks first
-    /// at the place `near`, and goes over the ids only where another paragraph stands there.
+    /// The place of the paragraph with an id, from 0, and what the board shows of it; none where no
+    /// paragraph has the id. It looks first at the place `near`, and goes over the ids only where
+    /// another paragraph stands there.
     pub fn para_near(&self, id: u64, near: usize) -> Option<(usize, ParaView<'_>)>
         ensures none { IfNone result (place_of id self.now.paragraphs ≡ None) }
         ensures at { IfSome result (λ found. place_of id self.now.paragraphs ≡ Some found.0) }
@@ -99,11 +103,13 @@ impl<J: Judge> Board<J> {
         }
     }
 
-    /// The place of the first paragraph that waits, from 0; none where none waits. It goes no further than that place.
+    /// The place of the first paragraph that waits, from 0; none where none waits. It goes no
+    /// further than that place.
     pub fn first_waiting(&self) -> Option<usize>
         ensures first { result ≡ position is_waiting self.now.standings }
         ensures waits { IfSome result (λ place. slice_get self.now.standings place ≡ Some Waiting) }
-        ensures none { IfNone result (AllByRecursion (λ stands. ¬ (stands ≡ Waiting)) self.now.standings) }
+        ensures none { IfNone result
+            (AllByRecursion (λ stands. ¬ (stands ≡ Waiting)) self.now.standings) }
     {
         first_waiting_among(&self.states)
     }
@@ -164,9 +170,11 @@ fn first_waiting_among<J: Judge>(states: &SharedItems<State<J>>) -> Option<usize
     states.iter().position(|state| state.is_waiting())
 }
 
-/// The marks that a paragraph has among those of all texts together are the marks of its text alone.
+/// The marks that a paragraph has among those of all texts together are the marks of its text
+/// alone.
 pub fn shown_marks_are_local()
-    ensures { (lexicon : Lexicon) (texts : List (List ℕ)) (place : ℕ) (text : List ℕ) → slice_get texts place ≡ Some text
+    ensures { (lexicon : Lexicon) (texts : List (List ℕ)) (place : ℕ) (text : List ℕ)
+        → slice_get texts place ≡ Some text
         → marks_numbered lexicon texts (place + 1) ≡ marks_in lexicon text }
 {
     marks_are_local();

@@ -1,5 +1,7 @@
 -- How the text before a slash goes on after its first character.
-use Rattle.std.proofs.Common.{◌≡◌, ◌≢◌, ◌∙◌, refl, sym, ap, ℕ, ◌<◌, ◌==◌, ◌&&◌, Bool, true, false, cond, List, [], ◌∷◌, ◌++◌, length, get_or, Option, Some, None, Bor, MatchOption, arith, suc, lit<}
+use Rattle.std.proofs.Common.{◌≡◌, ◌≢◌, ◌∙◌, refl, sym, ap, ℕ, ◌<◌, ◌==◌, ◌&&◌, Bool, true, false}
+use Rattle.std.proofs.Common.{cond, List, [], ◌∷◌, ◌++◌, length, get_or, Option, Some, None, Bor}
+use Rattle.std.proofs.Common.{MatchOption, arith, suc, lit<}
 use Rattle.std.specs.Option.{option_copied}
 use Rattle.std.specs.Str.{chars, IsUtf8}
 use Rattle.std.specs.Char.{IsScalar}
@@ -7,7 +9,8 @@ use Rattle.std.specs.Str.Pattern.{FindsTextPrefix, LacksTextAt, StripsPrefix}
 use Rattle.std.proofs.lemmas.Bool.{and_parts, ne_eqb}
 use Rattle.std.proofs.lemmas.Bool.Decides.{nat_tests}
 use Rattle.std.proofs.lemmas.List.{append-nil}
-use Rattle.std.proofs.lemmas.Str.{chars-append, chars_past_char, scalars-chars, inside_one, IsUtf8-encode, encode_ascii, chars-nil}
+use Rattle.std.proofs.lemmas.Str.{chars-append, chars_past_char, scalars-chars, inside_one}
+use Rattle.std.proofs.lemmas.Str.{IsUtf8-encode, encode_ascii, chars-nil}
 use lib.Utf8.{encode, scalar, scalars}
 use Rattle.flag_sets.specs.Slashes.{is_slash, is_backslash, before_slash, behind_slash}
 
@@ -18,54 +21,73 @@ IsPlain b = (is_slash b ≡ false) × (is_backslash b ≡ false)
 plain-before : (b : ℕ) (rest : List ℕ) → IsPlain b → before_slash (b ∷ rest) ≡ b ∷ before_slash rest
 plain-before b [] plain = ap (λ t. cond t [] (b ∷ [])) plain.0
 plain-before b (next ∷ more) plain =
-    ap (λ t. cond t [] (cond (is_backslash b && is_slash next) (next ∷ before_slash more) (b ∷ before_slash (next ∷ more)))) plain.0
-    ∙ ap (λ t. cond (t && is_slash next) (next ∷ before_slash more) (b ∷ before_slash (next ∷ more))) plain.1
+    ap (λ t. cond t []
+    (cond (is_backslash b && is_slash next) (next ∷ before_slash more)
+    (b ∷ before_slash (next ∷ more)))) plain.0
+    ∙ ap (λ t. cond (t && is_slash next) (next ∷ before_slash more)
+    (b ∷ before_slash (next ∷ more))) plain.1
 
 plain-behind : (b : ℕ) (rest : List ℕ) → IsPlain b → behind_slash (b ∷ rest) ≡ behind_slash rest
 plain-behind b [] plain = ap (λ t. cond t (Some []) None) plain.0
 plain-behind b (next ∷ more) plain =
-    ap (λ t. cond t (Some (next ∷ more)) (cond (is_backslash b && is_slash next) (behind_slash more) (behind_slash (next ∷ more)))) plain.0
+    ap (λ t. cond t (Some (next ∷ more))
+    (cond (is_backslash b && is_slash next) (behind_slash more) (behind_slash (next ∷ more))))
+    plain.0
     ∙ ap (λ t. cond (t && is_slash next) (behind_slash more) (behind_slash (next ∷ more))) plain.1
 
 abbrev ArePlain : List ℕ → Type 0
 ArePlain bytes = (k : ℕ) → k < length bytes → IsPlain (get_or bytes k 0)
 
-all-before : (bytes rest : List ℕ) → ArePlain bytes → before_slash (bytes ++ rest) ≡ bytes ++ before_slash rest
+all-before : (bytes rest : List ℕ) → ArePlain bytes → before_slash (bytes ++ rest) ≡ bytes
+    ++ before_slash rest
 all-before [] rest plain = refl
 all-before (b ∷ bytes) rest plain =
-    plain-before b (bytes ++ rest) (plain 0 (omega arith)) ∙ ap (λ text. b ∷ text) (all-before bytes rest (λ k within. plain (suc k) (omega (arith, within))))
+    plain-before b (bytes ++ rest) (plain 0 (omega arith))
+    ∙ ap (λ text. b ∷ text)
+    (all-before bytes rest (λ k within. plain (suc k) (omega (arith, within))))
 
-all-behind : (bytes rest : List ℕ) → ArePlain bytes → behind_slash (bytes ++ rest) ≡ behind_slash rest
+all-behind : (bytes rest : List ℕ) → ArePlain bytes
+    → behind_slash (bytes ++ rest) ≡ behind_slash rest
 all-behind [] rest plain = refl
 all-behind (b ∷ bytes) rest plain =
-    plain-behind b (bytes ++ rest) (plain 0 (omega arith)) ∙ all-behind bytes rest (λ k within. plain (suc k) (omega (arith, within)))
+    plain-behind b (bytes ++ rest) (plain 0 (omega arith))
+    ∙ all-behind bytes rest (λ k within. plain (suc k) (omega (arith, within)))
 
 plain-character : (c : ℕ) → c ≢ 47 → c ≢ 92 → ArePlain (encode c)
 plain-character c no_slash no_backslash k within =
-    let inside : get_or (encode c) k 0 < 128 → c ≡ get_or (encode c) k 0 = inside_one c [] (encode c) k (sym (append-nil (encode c))) within in (
+    let inside : get_or (encode c) k 0 < 128 → c ≡ get_or (encode c) k 0 =
+    inside_one c [] (encode c) k (sym (append-nil (encode c))) within in (
       ne_eqb (get_or (encode c) k 0) 47 (λ is. no_slash (inside (omega (arith, is)) ∙ is)),
       ne_eqb (get_or (encode c) k 0) 92 (λ is. no_backslash (inside (omega (arith, is)) ∙ is)),
     )
 
 -- ---- a backslash that no slash follows
-lone-before : (rest : List ℕ) → ((more : List ℕ) → rest ≢ 47 ∷ more) → before_slash (92 ∷ rest) ≡ 92 ∷ before_slash rest
+lone-before : (rest : List ℕ) → ((more : List ℕ) → rest ≢ 47 ∷ more) → before_slash (92 ∷ rest) ≡ 92
+    ∷ before_slash rest
 lone-before [] lone = refl
 lone-before (next ∷ more) lone =
-    ap (λ t. cond t (next ∷ before_slash more) (92 ∷ before_slash (next ∷ more))) (ne_eqb next 47 (λ is. lone more (ap (λ n. n ∷ more) is)))
+    ap (λ t. cond t (next ∷ before_slash more) (92 ∷ before_slash (next ∷ more)))
+    (ne_eqb next 47 (λ is. lone more (ap (λ n. n ∷ more) is)))
 
-lone-behind : (rest : List ℕ) → ((more : List ℕ) → rest ≢ 47 ∷ more) → behind_slash (92 ∷ rest) ≡ behind_slash rest
+lone-behind : (rest : List ℕ) → ((more : List ℕ) → rest ≢ 47 ∷ more)
+    → behind_slash (92 ∷ rest) ≡ behind_slash rest
 lone-behind [] lone = refl
 lone-behind (next ∷ more) lone =
-    ap (λ t. cond t (behind_slash more) (behind_slash (next ∷ more))) (ne_eqb next 47 (λ is. lone more (ap (λ n. n ∷ more) is)))
+    ap (λ t. cond t (behind_slash more) (behind_slash (next ∷ more)))
+    (ne_eqb next 47 (λ is. lone more (ap (λ n. n ∷ more) is)))
 
 -- ---- the first character of a text
 first-scalar : (text rest : List ℕ) (c : ℕ) → IsUtf8 text → text ≡ encode c ++ rest → IsScalar c
-first-scalar text rest c utf8 is = (and_parts (scalar c) (scalars (chars rest)) (sym (ap scalars (chars_past_char text rest c utf8 is)) ∙ scalars-chars text utf8)).0
+first-scalar text rest c utf8 is =
+    (and_parts (scalar c) (scalars (chars rest))
+    (sym (ap scalars (chars_past_char text rest c utf8 is)) ∙ scalars-chars text utf8)).0
 
 chars-after : (c : ℕ) (rest : List ℕ) → IsScalar c → chars (encode c ++ rest) ≡ c ∷ chars rest
 chars-after c rest is =
     chars-append (encode c) rest (IsUtf8-encode c is)
-    ∙ ap (λ cs. cs ++ chars rest) (chars_past_char (encode c) [] c (IsUtf8-encode c is) (sym (append-nil (encode c))) ∙ ap (λ cs. c ∷ cs) chars-nil)
+    ∙ ap (λ cs. cs ++ chars rest)
+    (chars_past_char (encode c) [] c (IsUtf8-encode c is) (sym (append-nil (encode c)))
+    ∙ ap (λ cs. c ∷ cs) chars-nil)
 
 -- the text does not begin with a backslash and a slash
 abbrev pub HasNoEscape : List ℕ → Type 0
@@ -74,31 +96,48 @@ HasNoEscape text = (more : List ℕ) → text ≢ 92 ∷ 47 ∷ more
 pub goes-on : (text rest : List ℕ) (c : ℕ) → text ≡ encode c ++ rest → HasNoEscape text → c ≢ 47
     → (before_slash text ≡ encode c ++ before_slash rest) × (behind_slash text ≡ behind_slash rest)
 goes-on text rest c is no_escape no_slash =
-    elim (c == 92) as (λ b. (c == 92) ≡ b → (before_slash text ≡ encode c ++ before_slash rest) × (behind_slash text ≡ behind_slash rest)) [
+    elim (c == 92) as
+    (λ b. (c == 92) ≡ b → (before_slash text ≡ encode c ++ before_slash rest)
+    × (behind_slash text ≡ behind_slash rest)) [
       | true ↦ λ h. backslash (grind (arith, nat_tests))
       | false ↦ λ h. other (λ same. grind (arith, nat_tests))
     ] refl
   where
-    backslash : c ≡ 92 → (before_slash text ≡ encode c ++ before_slash rest) × (behind_slash text ≡ behind_slash rest)
+    backslash : c ≡ 92 → (before_slash text ≡ encode c ++ before_slash rest)
+        × (behind_slash text ≡ behind_slash rest)
     backslash same =
-        let begins : text ≡ 92 ∷ rest = is ∙ ap (λ n. encode n ++ rest) same ∙ ap (λ front. front ++ rest) (encode_ascii 92 (lit< tt)) in
-        let lone : (more : List ℕ) → rest ≢ 47 ∷ more = λ more h. no_escape more (begins ∙ ap (λ t. 92 ∷ t) h) in (
-          ap before_slash begins ∙ lone-before rest lone ∙ sym (ap (λ n. encode n ++ before_slash rest) same ∙ ap (λ front. front ++ before_slash rest) (encode_ascii 92 (lit< tt))),
+        let begins : text ≡ 92 ∷ rest = is ∙ ap (λ n. encode n ++ rest) same
+        ∙ ap (λ front. front ++ rest) (encode_ascii 92 (lit< tt)) in
+        let lone : (more : List ℕ) → rest ≢ 47 ∷ more =
+        λ more h. no_escape more (begins ∙ ap (λ t. 92 ∷ t) h) in (
+          ap before_slash begins ∙ lone-before rest lone
+              ∙ sym (ap (λ n. encode n ++ before_slash rest) same
+              ∙ ap (λ front. front ++ before_slash rest) (encode_ascii 92 (lit< tt))),
           ap behind_slash begins ∙ lone-behind rest lone,
         )
 
-    other : c ≢ 92 → (before_slash text ≡ encode c ++ before_slash rest) × (behind_slash text ≡ behind_slash rest)
+    other : c ≢ 92 → (before_slash text ≡ encode c ++ before_slash rest)
+        × (behind_slash text ≡ behind_slash rest)
     other differs =
-        let plain = plain-character c no_slash differs in
-        (ap before_slash is ∙ all-before (encode c) rest plain, ap behind_slash is ∙ all-behind (encode c) rest plain)
+        let plain = plain-character c no_slash differs in (
+          ap before_slash is ∙ all-before (encode c) rest plain,
+          ap behind_slash is
+              ∙ all-behind (encode c) rest plain,
+        )
 
-pub first-before : (text rest : List ℕ) (c : ℕ) → IsUtf8 text → text ≡ encode c ++ rest → HasNoEscape text → c ≢ 47
+pub first-before : (text rest : List ℕ) (c : ℕ) → IsUtf8 text → text ≡ encode c ++ rest
+    → HasNoEscape text → c ≢ 47
     → chars (before_slash text) ≡ c ∷ chars (before_slash rest)
 first-before text rest c utf8 is no_escape no_slash =
-    ap chars (goes-on text rest c is no_escape no_slash).0 ∙ chars-after c (before_slash rest) (first-scalar text rest c utf8 is)
+    ap chars (goes-on text rest c is no_escape no_slash).0
+    ∙ chars-after c (before_slash rest) (first-scalar text rest c utf8 is)
 
-pub slash-before : (text rest : List ℕ) (c : ℕ) → text ≡ encode c ++ rest → c ≡ 47 → before_slash text ≡ []
-slash-before text rest c is slash = ap before_slash (is ∙ ap (λ n. encode n ++ rest) slash ∙ ap (λ front. front ++ rest) (encode_ascii 47 (lit< tt))) ∙ stops rest
+pub slash-before : (text rest : List ℕ) (c : ℕ) → text ≡ encode c ++ rest → c ≡ 47
+    → before_slash text ≡ []
+slash-before text rest c is slash =
+    ap before_slash
+    (is ∙ ap (λ n. encode n ++ rest) slash
+    ∙ ap (λ front. front ++ rest) (encode_ascii 47 (lit< tt))) ∙ stops rest
   where
     stops : (rest : List ℕ) → before_slash (47 ∷ rest) ≡ []
     stops [] = refl
@@ -106,30 +145,41 @@ slash-before text rest c is slash = ap before_slash (is ∙ ap (λ n. encode n +
 
 -- ---- an escaped slash
 pub escape-behind : (text : List ℕ) (r : Option (Bor (List ℕ)))
-    → MatchOption r (LacksTextAt (92 ∷ 47 ∷ []) text 0) (λ x. StripsPrefix (FindsTextPrefix (92 ∷ 47 ∷ [])) text x.now)
+    → MatchOption r (LacksTextAt (92 ∷ 47 ∷ []) text 0)
+    (λ x. StripsPrefix (FindsTextPrefix (92 ∷ 47 ∷ [])) text x.now)
     → MatchOption r (HasNoEscape text) (λ x. text ≡ 92 ∷ 47 ∷ x.now)
 escape-behind text None lacks = lacks
-escape-behind text (Some x) (n, found, rest, long) = found.1 ∙ ap (λ more. 92 ∷ 47 ∷ more) (sym rest)
+escape-behind text (Some x) (n, found, rest, long) =
+    found.1 ∙ ap (λ more. 92 ∷ 47 ∷ more) (sym rest)
 
-pub escaped-before : (text rest : List ℕ) → text ≡ 92 ∷ 47 ∷ rest → chars (before_slash text) ≡ 47 ∷ chars (before_slash rest)
-escaped-before text rest is = ap (λ t. chars (before_slash t)) is ∙ ap chars (sym (ap (λ front. front ++ before_slash rest) (encode_ascii 47 (lit< tt)))) ∙ chars-after 47 (before_slash rest) refl
+pub escaped-before : (text rest : List ℕ) → text ≡ 92 ∷ 47 ∷ rest → chars (before_slash text) ≡ 47
+    ∷ chars (before_slash rest)
+escaped-before text rest is = ap (λ t. chars (before_slash t)) is
+    ∙ ap chars (sym (ap (λ front. front ++ before_slash rest) (encode_ascii 47 (lit< tt))))
+    ∙ chars-after 47 (before_slash rest) refl
 
 -- ---- the end
 pub nothing-before : (text : List ℕ) (r : Option (Bor (List ℕ))) → before_slash text ≡ []
-    → MatchOption r ((rest : List ℕ) → text ≢ 47 ∷ rest) (λ x. text ≡ 47 ∷ x.now) → option_copied r ≡ behind_slash text
+    → MatchOption r ((rest : List ℕ) → text ≢ 47 ∷ rest) (λ x. text ≡ 47 ∷ x.now)
+    → option_copied r ≡ behind_slash text
 nothing-before text (Some x) none is = sym (ap behind_slash is ∙ stops x.now)
   where
     stops : (rest : List ℕ) → behind_slash (47 ∷ rest) ≡ Some rest
     stops [] = refl
     stops (next ∷ more) = refl
 nothing-before [] None none isnt = refl
-nothing-before (c ∷ text) None none isnt = absurd (begins c text (ne_eqb c 47 (λ is. isnt text (ap (λ n. n ∷ text) is))) none)
+nothing-before (c ∷ text) None none isnt =
+    absurd (begins c text (ne_eqb c 47 (λ is. isnt text (ap (λ n. n ∷ text) is))) none)
   where
     begins : (c : ℕ) (text : List ℕ) → is_slash c ≡ false → before_slash (c ∷ text) ≡ [] → ⊥
     begins c [] no_slash none = cc
     begins c (next ∷ more) no_slash none =
-        one (is_backslash c && is_slash next) (sym (ap (λ t. cond t [] (cond (is_backslash c && is_slash next) (next ∷ before_slash more) (c ∷ before_slash (next ∷ more)))) no_slash) ∙ none)
+        one (is_backslash c && is_slash next)
+        (sym (ap (λ t.
+        cond t [] (cond (is_backslash c && is_slash next) (next ∷ before_slash more)
+        (c ∷ before_slash (next ∷ more)))) no_slash) ∙ none)
       where
-        one : (escaped : Bool) → cond escaped (next ∷ before_slash more) (c ∷ before_slash (next ∷ more)) ≡ [] → ⊥
+        one : (escaped : Bool)
+            → cond escaped (next ∷ before_slash more) (c ∷ before_slash (next ∷ more)) ≡ [] → ⊥
         one true none = cc
         one false none = cc

@@ -1,5 +1,7 @@
 -- Which flags a text lists, what a flag field is, and which text is one flag.
-use Rattle.std.specs.Prelude.{◌≡◌, ℕ, zero, suc, ◌+◌, ◌*◌, ◌^◌, ◌<◌, ◌==◌, ◌&&◌, nat_le, Bool, List, [], ◌∷◌, map, length, slice_get, Option, None, Some, option_and_then, Result, Ok, if◌then◌else◌}
+use Rattle.std.specs.Prelude.{◌≡◌, ℕ, zero, suc, ◌+◌, ◌*◌, ◌^◌, ◌<◌, ◌==◌, ◌&&◌, nat_le, Bool, List}
+use Rattle.std.specs.Prelude.{[], ◌∷◌, map, length, slice_get, Option, None, Some, option_and_then}
+use Rattle.std.specs.Prelude.{Result, Ok, if◌then◌else◌}
 use Rattle.std.specs.Borrow.{Bor}
 use Rattle.std.specs.List.{slice_split}
 use Rattle.std.specs.Option.{option_map, ok_or}
@@ -24,17 +26,21 @@ with_first flag listed = option_map (λ flags. flag ∷ flags) listed
 abbrev pub paired_flags : List ℕ → Option (List Flag)
 paired_flags [] = Some []
 paired_flags (first ∷ []) = None
-paired_flags (first ∷ second ∷ more) = with_first (flag_of (first * 2 ^ 32 + second)) (paired_flags more)
+paired_flags (first ∷ second ∷ more) =
+    with_first (flag_of (first * 2 ^ 32 + second)) (paired_flags more)
 
 -- the flag of an item, which is a decimal from 1 to 65000
 abbrev pub flag_of_item : List ℕ → Option Flag
 flag_of_item item =
-    option_and_then (λ number. if nat_le 1 number && nat_le number 65000 then Some (flag_of number) else None) (decimal_of item)
+    option_and_then
+    (λ number. if nat_le 1 number && nat_le number 65000 then Some (flag_of number) else None)
+    (decimal_of item)
 
 -- the flags of all items; there are none if an item has none
 abbrev pub flags_of_items : List (List ℕ) → Option (List Flag)
 flags_of_items [] = Some []
-flags_of_items (item ∷ more) = option_and_then (λ flag. with_first flag (flags_of_items more)) (flag_of_item item)
+flags_of_items (item ∷ more) =
+    option_and_then (λ flag. with_first flag (flags_of_items more)) (flag_of_item item)
 
 abbrev pub is_comma : ℕ → Bool
 is_comma byte = byte == 44
@@ -69,7 +75,8 @@ alias_of aliases text = option_and_then (alias_at aliases) (decimal_of text)
 
 -- what a flag field is in a file with these aliases: nothing, or the ordinal of one
 abbrev pub alias_field : List (List Flag) → List ℕ → Result (List Flag) FlagFault
-alias_field aliases text = if length text == 0 then Ok [] else ok_or (alias_of aliases text) BadAlias
+alias_field aliases text =
+    if length text == 0 then Ok [] else ok_or (alias_of aliases text) BadAlias
 
 -- what a flag field is: the set of the flags that it lists, if the file has no aliases
 abbrev pub flag_field : FlagKind → Option (List (List Flag)) → List ℕ → Result (List Flag) FlagFault
@@ -86,7 +93,9 @@ only_of (flag ∷ next ∷ more) = None
 abbrev pub one_flag : FlagKind → List ℕ → Option Flag
 one_flag kind text = option_and_then only_of (listed_flags kind text)
 
--- how a reader of flags goes on in a text: it lists none, or this flag and then what a shorter rest lists
+-- how a reader of flags goes on in a text: it lists none, or this flag and then what a shorter rest
+-- lists
 abbrev pub GoesOn : (List ℕ → Option (List Flag)) → List ℕ → Option (Flag × Bor (List ℕ)) → Type 0
 GoesOn listed text None = listed text ≡ None
-GoesOn listed text (Some (flag, rest)) = (listed text ≡ with_first flag (listed rest.now)) × (length rest.now < length text)
+GoesOn listed text (Some (flag, rest)) =
+    (listed text ≡ with_first flag (listed rest.now)) × (length rest.now < length text)

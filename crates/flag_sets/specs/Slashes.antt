@@ -7,13 +7,15 @@ is_slash c = c == 47
 abbrev pub is_backslash : ℕ → Bool
 is_backslash c = c == 92
 
--- the text before its first slash that no backslash precedes, with a slash for each slash that one precedes
+-- the text before its first slash that no backslash precedes, with a slash for each slash that one
+-- precedes
 abbrev pub before_slash : List ℕ → List ℕ
 before_slash [] = []
 before_slash (c ∷ []) = if is_slash c then [] else c ∷ []
 before_slash (c ∷ next ∷ more) =
     if is_slash c then []
-    else (if is_backslash c && is_slash next then next ∷ before_slash more else c ∷ before_slash (next ∷ more))
+    else (if is_backslash c && is_slash next then next ∷ before_slash more
+    else c ∷ before_slash (next ∷ more))
 
 -- what stands behind that slash, if there is one
 abbrev pub behind_slash : List ℕ → Option (List ℕ)

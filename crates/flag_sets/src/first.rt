@@ -4,7 +4,8 @@ ghost use Rattle.std.specs.Prelude.{◌≡◌, ◌<◌, [], ◌∷◌, ◌++◌,
 ghost use Rattle.std.specs.Char.{encode_utf8};
 ghost use Rattle.std.specs.Str.{chars};
 ghost use Rattle.spell_types.specs.Flags.{IsOrdinary};
-ghost use Rattle.flag_sets.specs.FlagTexts.{listed_flags, character_flags, long_flags, number_flags, flag_of_item, GoesOn};
+ghost use Rattle.flag_sets.specs.FlagTexts.{listed_flags, character_flags, long_flags};
+ghost use Rattle.flag_sets.specs.FlagTexts.{number_flags, flag_of_item, GoesOn};
 
 use spell_types::{Flag, FlagKind};
 use text_lines::decimal;

@@ -1,12 +1,14 @@
 //! The texts of flags: fields of flags, also through aliases, and single flags.
 #![tactic(auto)]
 
-ghost use Rattle.std.specs.Prelude.{◌≡◌, ◌≢◌, ◌↔◌, ℕ, List, [], Ok, Err, None, Some, IsTrue, All, IfSome, IfOk, IfErr, IsSomeAnd, Contains, is_some};
+ghost use Rattle.std.specs.Prelude.{◌≡◌, ◌≢◌, ◌↔◌, ℕ, List, [], Ok, Err, None, Some, IsTrue, All};
+ghost use Rattle.std.specs.Prelude.{IfSome, IfOk, IfErr, IsSomeAnd, Contains, is_some};
 ghost use Rattle.std.specs.Option.{option_copied};
 ghost use Rattle.spell_types.specs.declared.flags.Flag.{Flag};
 ghost use Rattle.spell_types.specs.declared.flags.FlagKind.{FlagKind};
 ghost use Rattle.spell_types.specs.Flags.{IsRising, IsOrdinary, AreOrdinary};
-ghost use Rattle.flag_sets.specs.FlagTexts.{listed_flags, alias_of, alias_field, flag_field, one_flag};
+ghost use Rattle.flag_sets.specs.FlagTexts.{listed_flags, alias_of, alias_field, flag_field};
+ghost use Rattle.flag_sets.specs.FlagTexts.{one_flag};
 
 use crate::first::first_flag;
 use lists::{Copied, NoMemory};
@@ -41,8 +43,8 @@ impl From<NoMemory> for FlagFault {
     }
 }
 
-/// The set that a flag field is. In a file with aliases, also with none of them, a field is empty or an
-/// alias's ordinal, from 1.
+/// The set that a flag field is. In a file with aliases, also with none of them, a field is empty
+/// or an alias's ordinal, from 1.
 pub fn read_flags(
     alloc: Global,
     kind: FlagKind,
@@ -54,7 +56,8 @@ pub fn read_flags(
     ensures fault { IfErr result
         (λ fault. fault ≢ FlagFault.NoMemory
         → flag_field kind (option_copied aliases.entry) text.now ≡ Err fault) }
-    ensures ordinary { IfSome (option_copied aliases.entry) (All AreOrdinary) → IfOk result AreOrdinary }
+    ensures ordinary { IfSome (option_copied aliases.entry) (All AreOrdinary)
+        → IfOk result AreOrdinary }
 {
     match aliases {
         None => read_listed(alloc, kind, text),
@@ -88,9 +91,11 @@ pub fn lists_flags(kind: FlagKind, text: &str) -> bool
     true
 }
 
-/// Where a file has no aliases, the set of a field rises and has exactly the flags that the field lists.
+/// Where a file has no aliases, the set of a field rises and has exactly the flags that the field
+/// lists.
 pub fn fields_have_their_flags()
-    ensures { (kind : FlagKind) (text : List ℕ) (set : List Flag) → flag_field kind None text ≡ Ok set
+    ensures { (kind : FlagKind) (text : List ℕ) (set : List Flag)
+        → flag_field kind None text ≡ Ok set
         → IsRising set × IsSomeAnd (listed_flags kind text)
         (λ flags. (flag : Flag) → Contains set flag ↔ Contains flags flag) }
 {

@@ -1,6 +1,7 @@
 //! Texts with flags behind a slash.
 
-ghost use Rattle.std.specs.Prelude.{◌≡◌, ◌<◌, [], ◌∷◌, ◌++◌, length, IfNone, IfSome, OnOk, OnErr, IfOk};
+ghost use Rattle.std.specs.Prelude.{◌≡◌, ◌<◌, [], ◌∷◌, ◌++◌, length, IfNone, IfSome, OnOk, OnErr};
+ghost use Rattle.std.specs.Prelude.{IfOk};
 ghost use Rattle.std.specs.Option.{option_copied};
 ghost use Rattle.std.specs.Str.{chars};
 ghost use Rattle.flag_sets.specs.Slashes.{before_slash, behind_slash};
@@ -10,8 +11,9 @@ use lists::{Copied, NoMemory};
 use spell_types::Chars;
 use std::alloc::Global;
 
-/// Adds the characters of a text up to its first slash that no backslash precedes, and gives the text behind
-/// that slash, if there is one. `\/` adds a slash. Where memory is wanting the word stays.
+/// Adds the characters of a text up to its first slash that no backslash precedes, and gives the
+/// text behind that slash, if there is one. `\/` adds a slash. Where memory is wanting the word
+/// stays.
 pub fn push_before_slash<'a>(
     alloc: Global,
     word: &mut Chars,

@@ -1,5 +1,6 @@
 -- The lines of an input that comes in pieces.
-use Rattle.std.specs.Prelude.{◌≡◌, ℕ, ◌≤◌, Bool, true, not, ◌⊎◌, List, [], ◌∷◌, ◌++◌, length, drop, take_while, if◌then◌else◌}
+use Rattle.std.specs.Prelude.{◌≡◌, ℕ, ◌≤◌, Bool, true, not, ◌⊎◌, List, [], ◌∷◌, ◌++◌, length, drop}
+use Rattle.std.specs.Prelude.{take_while, if◌then◌else◌}
 use Rattle.std.specs.List.{list_any}
 use Rattle.std.specs.Str.Lines.{strip_carriage_return}
 use Rattle.text_lines.specs.Lines.{first_place, line_texts}
@@ -13,7 +14,8 @@ IsShort line = length line ≤ LINE_LIMIT
 abbrev pub EndsLine : List ℕ → Type 0
 EndsLine bytes = (bytes ≡ []) ⊎ ((before : List ℕ) × (bytes ≡ before ++ 10 ∷ []))
 
--- the bytes of a piece between two line feeds without a byte order mark, which may stand at the start of the first
+-- the bytes of a piece between two line feeds without a byte order mark, which may stand at the
+-- start of the first
 abbrev pub unmarked : Bool → List ℕ → List ℕ
 unmarked is_first piece = if is_first then drop (first_place piece) piece else piece
 

@@ -1,4 +1,5 @@
-//! Reads an input line by line, piece by piece, and writes what is answered to each line before more is read.
+//! Reads an input line by line, piece by piece, and writes what is answered to each line before
+//! more is read.
 #![tactic(auto)]
 
 mod laws;

@@ -1,10 +1,12 @@
 //! What hears an input piece by piece, and has each line answered as soon as it is whole.
 
-ghost use Rattle.std.specs.Prelude.{◌≡◌, ◌+◌, ◌≤◌, ◌++◌, [], List, ℕ, true, false, length, OnOk, IfErr};
+ghost use Rattle.std.specs.Prelude.{◌≡◌, ◌+◌, ◌≤◌, ◌++◌, [], List, ℕ, true, false, length, OnOk};
+ghost use Rattle.std.specs.Prelude.{IfErr};
 ghost use Rattle.std.specs.String.{string_bytes};
 ghost use Rattle.input_lines.specs.Answers.{HasNoBreak};
 ghost use Rattle.input_lines.specs.Lines.{unmarked};
-ghost use Rattle.input_lines.specs.Turns.{IsHeardAs, IsNotKept, IsUnderWay, PutLeaves, Channel, Since, Stops, Turns, line_of, channel, midway};
+ghost use Rattle.input_lines.specs.Turns.{IsHeardAs, IsNotKept, IsUnderWay, PutLeaves, Channel};
+ghost use Rattle.input_lines.specs.Turns.{Since, Stops, Turns, line_of, channel, midway};
 ghost use Rattle.input_lines.specs.declared.limits.TheConstants.{INPUT_LIMIT};
 
 use crate::limits::LINE_LIMIT;
@@ -44,7 +46,8 @@ impl Listener {
         }
     }
 
-    /// Hears the next bytes of an input: the lines that are whole with them are answered, and the answers are written.
+    /// Hears the next bytes of an input: the lines that are whole with them are answered, and the
+    /// answers are written.
     pub fn hear<B, R: Responder<B>, K: Sink>(
         &mut self,
         alloc: Global,
@@ -56,8 +59,10 @@ impl Listener {
         requires no_more { HasNoBreak self.old.pending.items }
         requires room { length piece.now ≤ R.room responder.old }
         ensures hears { IsHeardAs R.quits R.Leads
-            (midway (responder.old, beside.old) (channel (K.written out.old) (K.faults out.old)) self.old)
-            (midway (responder.new, beside.new) (channel (K.written out.new) (K.faults out.new)) self.new)
+            (midway (responder.old, beside.old) (channel (K.written out.old) (K.faults out.old))
+            self.old)
+            (midway (responder.new, beside.new) (channel (K.written out.new) (K.faults out.new))
+            self.new)
             piece.now result }
         ensures empty { string_bytes self.new.answers ≡ [] }
         ensures no_more { OnOk result (HasNoBreak self.new.pending.items) }
@@ -69,7 +74,8 @@ impl Listener {
         heard
     }
 
-    /// Hears that the input is at its end: a last line without a line feed is answered, and the answer is written.
+    /// Hears that the input is at its end: a last line without a line feed is answered, and the
+    /// answer is written.
     pub fn end<B, R: Responder<B>, K: Sink>(
         &mut self,
         alloc: Global,
@@ -79,11 +85,13 @@ impl Listener {
     ) -> ReadingEnd
         requires room { 1 ≤ R.room responder.old }
         requires no_more { HasNoBreak self.old.pending.items }
-        ensures ends { (first : R × B) (before : Channel) (heard : List ℕ) → length heard ≤ INPUT_LIMIT
+        ensures ends { (first : R × B) (before : Channel) (heard : List ℕ)
+            → length heard ≤ INPUT_LIMIT
             → IsUnderWay R.quits (Since R.Leads first (responder.old, beside.old)) before
             (channel (K.written out.old) (K.faults out.old)) self.old heard
             → Stops R.quits (Since R.Leads first (responder.new, beside.new)) before
-            (channel (K.written out.new) (K.faults out.new)) (string_bytes self.new.answers) heard result }
+            (channel (K.written out.new) (K.faults out.new)) (string_bytes self.new.answers) heard
+            result }
         ensures empty { string_bytes self.new.answers ≡ [] }
         ensures count { K.faults out.old ≤ K.faults out.new }
     {
@@ -106,8 +114,10 @@ impl Listener {
         requires no_more { HasNoBreak self.old.pending.items }
         requires room { length piece.now ≤ R.room responder.old }
         ensures hears { IsHeardAs R.quits R.Leads
-            (midway (responder.old, beside.old) (channel (K.written out.old) (K.faults out.old)) self.old)
-            (midway (responder.new, beside.new) (channel (K.written out.new) (K.faults out.new)) self.new)
+            (midway (responder.old, beside.old) (channel (K.written out.old) (K.faults out.old))
+            self.old)
+            (midway (responder.new, beside.new) (channel (K.written out.new) (K.faults out.new))
+            self.new)
             piece.now result }
         ensures no_more { OnOk result (HasNoBreak self.new.pending.items) }
         ensures room { R.room responder.old ≤ R.room responder.new + length piece.now }
@@ -131,8 +141,10 @@ impl Listener {
     ) -> ReadingEnd
         requires room { 1 ≤ R.room responder.old }
         requires no_more { HasNoBreak self.old.pending.items }
-        ensures ends { (first : R × B) (before now : Channel) (heard : List ℕ) → length heard ≤ INPUT_LIMIT
-            → IsUnderWay R.quits (Since R.Leads first (responder.old, beside.old)) before now self.old heard
+        ensures ends { (first : R × B) (before now : Channel) (heard : List ℕ)
+            → length heard ≤ INPUT_LIMIT
+            → IsUnderWay R.quits (Since R.Leads first (responder.old, beside.old)) before now
+            self.old heard
             → Stops R.quits (Since R.Leads first (responder.new, beside.new)) before now
             (string_bytes self.new.answers) heard result }
     {
@@ -155,8 +167,10 @@ impl Listener {
     ) -> Result<(), ReadingEnd>
         requires whole { HasNoBreak (self.old.pending.items ++ bytes.now) }
         requires room { 1 ≤ R.room responder.old }
-        ensures turns { Turns R.quits R.Leads (responder.old, beside.old) (responder.new, beside.new)
-            (line_of self.old bytes.now) (string_bytes self.old.answers) (string_bytes self.new.answers) result }
+        ensures turns { Turns R.quits R.Leads (responder.old, beside.old)
+            (responder.new, beside.new)
+            (line_of self.old bytes.now) (string_bytes self.old.answers)
+            (string_bytes self.new.answers) result }
         ensures empty { OnOk result (self.new.pending.items ≡ []) }
         ensures later { OnOk result (self.new.is_first ≡ false) }
         ensures room { R.room responder.old ≤ R.room responder.new + 1 }
@@ -179,10 +193,12 @@ impl Listener {
         Ok(())
     }
 
-    /// Keeps the bytes of a line that is not whole. One that is too long already, whatever comes, is not waited for.
+    /// Keeps the bytes of a line that is not whole. One that is too long already, whatever comes,
+    /// is not waited for.
     fn keep(&mut self, rest: &[u8]) -> Result<(), ReadingEnd>
         ensures kept { OnOk result (self.new.pending.items ≡ self.old.pending.items ++ rest.now) }
-        ensures stopped { IfErr result (IsNotKept (unmarked self.old.is_first (self.old.pending.items ++ rest.now))) }
+        ensures stopped { IfErr result
+            (IsNotKept (unmarked self.old.is_first (self.old.pending.items ++ rest.now))) }
         ensures first { self.new.is_first ≡ self.old.is_first }
         ensures answers { self.new.answers ≡ self.old.answers }
     {
@@ -196,7 +212,8 @@ impl Listener {
 
     /// Writes the answers that are gathered, if they are many.
     fn put_many<K: Sink>(&mut self, out: &mut K) -> Result<(), ReadingEnd>
-        ensures puts { PutLeaves (channel (K.written out.old) (K.faults out.old)) (channel (K.written out.new) (K.faults out.new))
+        ensures puts { PutLeaves (channel (K.written out.old) (K.faults out.old))
+            (channel (K.written out.new) (K.faults out.new))
             (string_bytes self.old.answers) (string_bytes self.new.answers) result }
         ensures pending { self.new.pending ≡ self.old.pending }
         ensures first { self.new.is_first ≡ self.old.is_first }
@@ -210,7 +227,8 @@ impl Listener {
 
     /// Writes the answers that are gathered.
     fn put_all<K: Sink>(&mut self, out: &mut K) -> Result<(), ReadingEnd>
-        ensures puts { PutLeaves (channel (K.written out.old) (K.faults out.old)) (channel (K.written out.new) (K.faults out.new))
+        ensures puts { PutLeaves (channel (K.written out.old) (K.faults out.old))
+            (channel (K.written out.new) (K.faults out.new))
             (string_bytes self.old.answers) (string_bytes self.new.answers) result }
         ensures empty { string_bytes self.new.answers ≡ [] }
         ensures pending { self.new.pending ≡ self.old.pending }
@@ -240,7 +258,8 @@ fn answer_line<B, R: Responder<B>>(
 ) -> Result<(), ReadingEnd>
     requires whole { HasNoBreak line.now }
     requires room { 1 ≤ R.room responder.old }
-    ensures turns { Turns R.quits R.Leads (responder.old, beside.old) (responder.new, beside.new) line.now
+    ensures turns { Turns R.quits R.Leads (responder.old, beside.old) (responder.new, beside.new)
+        line.now
         (string_bytes answers.old) (string_bytes answers.new) result }
     ensures room { R.room responder.old ≤ R.room responder.new + 1 }
 {

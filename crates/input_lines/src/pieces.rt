@@ -17,7 +17,8 @@ pub fn split_line(bytes: &[u8]) -> Option<(&[u8], &[u8])>
     Some((&bytes[..end], &bytes[end + 1..]))
 }
 
-/// The bytes of a piece between two line feeds without the byte order mark that may stand at the start of an input.
+/// The bytes of a piece between two line feeds without the byte order mark that may stand at the
+/// start of an input.
 pub fn unmarked(bytes: &[u8], is_first: bool) -> &[u8]
     ensures { result.now ≡ unmarked is_first bytes.now }
 {

@@ -3,7 +3,8 @@
 ghost use Rattle.std.specs.Prelude.{◌≡◌, ◌+◌, ◌<◌, ◌≤◌, ℕ, length, IfOk, IfSome, OnOk};
 ghost use Rattle.input_lines.specs.Answers.{HasNoBreak};
 ghost use Rattle.input_lines.specs.Ends.{Reading};
-ghost use Rattle.input_lines.specs.Turns.{Comes, IsOver, IsTaken, Channel, Since, read_between, channel};
+ghost use Rattle.input_lines.specs.Turns.{Comes, IsOver, IsTaken, Channel, Since, read_between};
+ghost use Rattle.input_lines.specs.Turns.{channel};
 ghost use Rattle.input_lines.specs.declared.limits.TheConstants.{INPUT_LIMIT};
 
 use crate::limits::INPUT_LIMIT;
@@ -16,9 +17,9 @@ use std::alloc::Global;
 /// How many bytes are read at once at most.
 const PIECE: usize = 65_536;
 
-/// Reads an input to its end, or to a line that ends it, and has each line answered as soon as it is whole. All answers to
-/// what was read are written before more is read, a put for each 64 KB or so. An input of more than 4,294,967,295 bytes and a line of more than
-/// 131,072 end the reading.
+/// Reads an input to its end, or to a line that ends it, and has each line answered as soon as it
+/// is whole. All answers to what was read are written before more is read, a put for each 64 KB or
+/// so. An input of more than 4,294,967,295 bytes and a line of more than 131,072 end the reading.
 pub fn answer_lines<B, R: Responder<B>, S: Source, K: Sink>(
     alloc: Global,
     responder: &mut R,
@@ -28,12 +29,15 @@ pub fn answer_lines<B, R: Responder<B>, S: Source, K: Sink>(
 ) -> ReadingEnd
     requires room { INPUT_LIMIT + 1 ≤ R.room responder.old }
     // What was written is what these lines are answered from here on.
-    ensures over { IsOver R.quits (λ lines said. R.Leads responder.old beside.old lines said responder.new beside.new) (record {
-      before = S.left input.old;
-      after = S.left input.new;
-      faults_before = S.Source.faults input.old;
-      faults_after = S.Source.faults input.new;
-    }) (K.Sink.faults out.old < K.Sink.faults out.new) (K.written out.old) (K.written out.new) result }
+    ensures over { IsOver R.quits
+        (λ lines said. R.Leads responder.old beside.old lines said responder.new beside.new)
+        (record {
+          before = S.left input.old;
+          after = S.left input.new;
+          faults_before = S.Source.faults input.old;
+          faults_after = S.Source.faults input.new;
+        }) (K.Sink.faults out.old < K.Sink.faults out.new) (K.written out.old) (K.written out.new)
+        result }
     ensures input_count { S.Source.faults input.old ≤ S.Source.faults input.new }
     ensures sink_count { K.Sink.faults out.old ≤ K.Sink.faults out.new }
 {
@@ -63,12 +67,15 @@ fn read_all<B, R: Responder<B>, S: Source, K: Sink>(
     requires some { 0 < length buffer.old }
     requires few { length buffer.old ≤ 65536 }
     requires room { INPUT_LIMIT + 1 ≤ R.room responder.old }
-    ensures over { IsOver R.quits (λ lines said. R.Leads responder.old beside.old lines said responder.new beside.new) (record {
-      before = S.left input.old;
-      after = S.left input.new;
-      faults_before = S.Source.faults input.old;
-      faults_after = S.Source.faults input.new;
-    }) (K.Sink.faults out.old < K.Sink.faults out.new) (K.written out.old) (K.written out.new) result }
+    ensures over { IsOver R.quits
+        (λ lines said. R.Leads responder.old beside.old lines said responder.new beside.new)
+        (record {
+          before = S.left input.old;
+          after = S.left input.new;
+          faults_before = S.Source.faults input.old;
+          faults_after = S.Source.faults input.new;
+        }) (K.Sink.faults out.old < K.Sink.faults out.new) (K.written out.old) (K.written out.new)
+        result }
     ensures input_count { S.Source.faults input.old ≤ S.Source.faults input.new }
     ensures sink_count { K.Sink.faults out.old ≤ K.Sink.faults out.new }
 {
@@ -99,7 +106,8 @@ impl Listener {
         requires some { 0 < length piece.old }
         requires room { length piece.old + 1 ≤ R.room responder.old }
         requires no_more { HasNoBreak self.old.pending.items }
-        ensures comes { (first : R × B) (before begun : Channel) (taken : ℕ) → taken + length piece.old ≤ INPUT_LIMIT
+        ensures comes { (first : R × B) (before begun : Channel) (taken : ℕ)
+            → taken + length piece.old ≤ INPUT_LIMIT
             → IsTaken R.quits (Since R.Leads first (responder.old, beside.old)) before
             (channel (K.written out.old) (K.Sink.faults out.old)) self.old
             begun (channel (S.left input.old) (S.Source.faults input.old)) taken

@@ -1,5 +1,7 @@
 -- Joints that are added one by one, each unless it is there, are all joints, each once.
-use Rattle.std.proofs.Common.{◌≡◌, ℕ, Bool, true, false, not, cond, ◌&&◌, ◌||◌, List, [], ◌∷◌, ◌++◌, fold, Option, None, Some, refl, sym, ap, ◌∙◌, append_assoc, append-nil}
+use Rattle.std.proofs.Common.{◌≡◌, ℕ, Bool, true, false, not, cond, ◌&&◌, ◌||◌, List, [], ◌∷◌, ◌++◌}
+use Rattle.std.proofs.Common.{fold, Option, None, Some, refl, sym, ap, ◌∙◌, append_assoc}
+use Rattle.std.proofs.Common.{append-nil}
 use Rattle.std.specs.List.{filter, filter_map, cons_option, list_any}
 use Rattle.std.specs.Option.{option_map_or}
 use Rattle.std.proofs.lemmas.List.Folds.{list_any-append}
@@ -7,7 +9,8 @@ use Rattle.spell_types.specs.declared.Lexicon.{Lexicon}
 use Rattle.spell_types.specs.declared.derivations.Derivation.{Derivation}
 use Rattle.spell_types.specs.declared.joints.JointPattern.{JointPattern}
 use Rattle.spell_types.specs.declared.joints.WrittenJoint.{WrittenJoint}
-use Rattle.spell_types.specs.Joints.{all_joints, each_once, is_same_joint, joint_of_row, joints_of, is_written_joint, plain_joint, simplified_joint}
+use Rattle.spell_types.specs.Joints.{all_joints, each_once, is_same_joint, joint_of_row, joints_of}
+use Rattle.spell_types.specs.Joints.{is_written_joint, plain_joint, simplified_joint}
 use Rattle.spell_types.specs.JointLaws.{same-joint}
 use Rattle.joint_checks.specs.Listing.{is_listed, with_joint, with_row}
 

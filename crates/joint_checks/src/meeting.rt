@@ -2,7 +2,10 @@
 
 ghost use Rattle.std.specs.Prelude.{◌≡◌};
 ghost use Rattle.std.specs.Option.{option_copied};
-ghost use Rattle.spell_types.specs.Joints.{first_of, last_of, is_capital, is_dash, is_capital_inside, is_tripled, has_entry_as_given, ends_as, fits_joint, has_fitting, is_case, is_dup, is_joint_of, is_joint, is_triple};
+ghost use Rattle.spell_types.specs.Joints.{first_of, last_of, is_capital, is_dash};
+ghost use Rattle.spell_types.specs.Joints.{is_capital_inside, is_tripled, has_entry_as_given};
+ghost use Rattle.spell_types.specs.Joints.{ends_as, fits_joint, has_fitting, is_case, is_dup};
+ghost use Rattle.spell_types.specs.Joints.{is_joint_of, is_joint, is_triple};
 
 use letter_case::is_upper;
 use spell_types::{
@@ -36,8 +39,8 @@ pub(crate) fn one_fits(
         .any(|row| fits_joint(lexicon, x, d, y, e, row))
 }
 
-/// Whether a row of CHECKCOMPOUNDPATTERN fits two parts: the first ends and the second begins as it says, and their entries have
-/// its flags.
+/// Whether a row of CHECKCOMPOUNDPATTERN fits two parts: the first ends and the second begins as it
+/// says, and their entries have its flags.
 #[tactic(auto, unfolding(spell_types::specs::Joints::fits_joint))]
 pub(crate) fn fits_joint(
     lexicon: &Lexicon,

@@ -1,17 +1,21 @@
 //! Which derivations may stand at a place of a compound.
 
 ghost use Rattle.std.specs.Prelude.{◌≡◌};
-ghost use Rattle.spell_types.specs.Parts.{is_first, is_last, sign_at, is_allowed_at, has_right_entry, is_not_forbidden_at, are_affixes_permitted_at, are_suffixes_few_at, stands_at, is_long_enough, is_part, stands_in_rule};
+ghost use Rattle.spell_types.specs.Parts.{is_first, is_last, sign_at, is_allowed_at};
+ghost use Rattle.spell_types.specs.Parts.{has_right_entry, is_not_forbidden_at};
+ghost use Rattle.spell_types.specs.Parts.{are_affixes_permitted_at, are_suffixes_few_at, stands_at};
+ghost use Rattle.spell_types.specs.Parts.{is_long_enough, is_part, stands_in_rule};
 
 use spell_types::{
     Derivation, Flag, Lexicon, Place, Signs, has_affix_with, has_entry_with, has_prefix_without,
     has_some_with, has_suffix_without,
 };
 
-/// Whether a sound derivation, whose form is the text, is a part of a compound at a place: by its compound flags, as long as
-/// COMPOUNDMIN asks, with affixes that are permitted there. These are the options COMPOUNDFLAG, COMPOUNDBEGIN, COMPOUNDMIDDLE,
-/// COMPOUNDLAST, COMPOUNDPERMITFLAG, COMPOUNDFORBIDFLAG, COMPOUNDMORESUFFIXES and COMPOUNDMIN of hunspell(5). The length is
-/// that of the text in characters.
+/// Whether a sound derivation, whose form is the text, is a part of a compound at a place: by its
+/// compound flags, as long as COMPOUNDMIN asks, with affixes that are permitted there. These are
+/// the options COMPOUNDFLAG, COMPOUNDBEGIN, COMPOUNDMIDDLE, COMPOUNDLAST, COMPOUNDPERMITFLAG,
+/// COMPOUNDFORBIDFLAG, COMPOUNDMORESUFFIXES and COMPOUNDMIN of hunspell(5). The length is that of
+/// the text in characters.
 #[tactic(auto, unfolding(spell_types::specs::Parts::is_part))]
 pub fn part_ok(lexicon: &Lexicon, text: &[char], d: &Derivation, place: Place) -> bool
     ensures { result ≡ is_part lexicon.now text.now d.now place }
@@ -31,8 +35,9 @@ pub fn stands_at(lexicon: &Lexicon, d: &Derivation, place: Place) -> bool
         && are_suffixes_few_at(lexicon, d, place)
 }
 
-/// Whether a derivation may stand at a place of a compound that follows a compound rule: the option COMPOUNDRULE of
-/// hunspell(5). All parts but the last are without an affix, and the last is without a prefix. This is this project's own rule.
+/// Whether a derivation may stand at a place of a compound that follows a compound rule: the option
+/// COMPOUNDRULE of hunspell(5). All parts but the last are without an affix, and the last is
+/// without a prefix. This is this project's own rule.
 #[tactic(auto, unfolding(spell_types::specs::Parts::stands_in_rule))]
 pub fn stands_in_rule(lexicon: &Lexicon, d: &Derivation, place: Place) -> bool
     ensures { result ≡ stands_in_rule lexicon.now d.now place }

@@ -3,7 +3,8 @@
 ghost use Rattle.std.specs.Prelude.{◌≡◌, false, length, if◌then◌else◌};
 ghost use Rattle.std.specs.List.{list_any};
 ghost use Rattle.std.specs.Option.{option_map_or};
-ghost use Rattle.spell_types.specs.Joints.{is_replaced_by, is_same_joint, is_simplified, is_written_joint, joint_of_row};
+ghost use Rattle.spell_types.specs.Joints.{is_replaced_by, is_same_joint, is_simplified};
+ghost use Rattle.spell_types.specs.Joints.{is_written_joint, joint_of_row};
 
 use crate::meeting::{fits_joint, is_case, is_dup, is_joint_of, is_triple, joint_ok, one_fits};
 use spell_types::{Derivation, JointPattern, Lexicon, WrittenJoint};

@@ -14,8 +14,11 @@ bit_of key = key % 64
 
 -- whether the key may be there: its bit is set, or there is no word with its place
 unfoldable pub may_have : KeyFilter → ℕ → Bool
-may_have filter key = option_map_or (λ word. bit_at word (bit_of key) == 1) (slice_get filter.words.items (place_of filter key)) true
+may_have filter key =
+    option_map_or (λ word. bit_at word (bit_of key) == 1)
+    (slice_get filter.words.items (place_of filter key)) true
 
 -- whether two keys have one bit
 abbrev pub share_a_bit : KeyFilter → ℕ → ℕ → Bool
-share_a_bit filter key other = nat_eq (place_of filter key) (place_of filter other) && nat_eq (bit_of key) (bit_of other)
+share_a_bit filter key other =
+    nat_eq (place_of filter key) (place_of filter other) && nat_eq (bit_of key) (bit_of other)

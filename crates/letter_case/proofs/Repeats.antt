@@ -1,9 +1,12 @@
 -- A list of words, and the same without repeats.
-use Rattle.std.proofs.Common.{◌≡◌, ℕ, Bool, true, false, not, cond, ◌&&◌, ◌||◌, List, [], ◌∷◌, ◌++◌, filter, fold, refl, sym, ap, ◌∙◌, append_assoc, append-nil}
+use Rattle.std.proofs.Common.{◌≡◌, ℕ, Bool, true, false, not, cond, ◌&&◌, ◌||◌, List, [], ◌∷◌, ◌++◌}
+use Rattle.std.proofs.Common.{filter, fold, refl, sym, ap, ◌∙◌, append_assoc, append-nil}
 use Rattle.std.proofs.lemmas.Grind.{fold-append}
 use Rattle.std.proofs.lemmas.List.Folds.{list_any-append}
 use Rattle.std.proofs.lemmas.Slice.Eq.{bytes_eq-Decides}
-use Rattle.spell_types.specs.Cases.{is_same_word, is_among, without_repeats, covered_by, spellings_of_capital, spellings_of_capitals, spellings_of_sharps}
+use Rattle.spell_types.specs.Cases.{is_same_word, is_among, without_repeats, covered_by}
+use Rattle.spell_types.specs.Cases.{spellings_of_capital, spellings_of_capitals}
+use Rattle.spell_types.specs.Cases.{spellings_of_sharps}
 use Rattle.letter_case.specs.Found.{with_word}
 
 -- two filters, one after the other, are one
@@ -16,10 +19,12 @@ filter-filter p q r both (x ∷ xs) =
     (elim (q x) as
     (λ b. filter p (cond b (x ∷ filter q xs) (filter q xs)) ≡ cond (b && p x) (x ∷ filter r xs)
     (filter r xs)) [
-      | true ↦ elim (p x) as (λ b. cond b (x ∷ filter p (filter q xs)) (filter p (filter q xs)) ≡ cond b (x ∷ filter r xs) (filter r xs)) [
-        | true ↦ ap (λ ys. x ∷ ys) rest
-        | false ↦ rest
-      ]
+      | true ↦ elim (p x) as
+          (λ b. cond b (x ∷ filter p (filter q xs)) (filter p (filter q xs))
+          ≡ cond b (x ∷ filter r xs) (filter r xs)) [
+            | true ↦ ap (λ ys. x ∷ ys) rest
+            | false ↦ rest
+          ]
       | false ↦ rest
     ])
 
@@ -50,8 +55,10 @@ new_at_push words word other =
     ap not (list_any-append (λ w. is_same_word w other) words (word ∷ []))
     ∙ (elim (is_same_word word other) as
     (λ b. not (is_among words other || (b || false)) ≡ (not b && is_new words other)) [
-      | true ↦ elim (is_among words other) as (λ b. not (b || true) ≡ false) [ true ↦ refl | false ↦ refl ]
-      | false ↦ elim (is_among words other) as (λ b. not (b || false) ≡ not b) [ true ↦ refl | false ↦ refl ]
+      | true ↦ elim (is_among words other) as (λ b. not (b || true) ≡ false)
+          [ true ↦ refl | false ↦ refl ]
+      | false ↦ elim (is_among words other) as (λ b. not (b || false) ≡ not b)
+          [ true ↦ refl | false ↦ refl ]
     ])
 
 -- adding words one by one, each unless it is there, leaves them without repeats
@@ -65,7 +72,10 @@ fold-with_word words (word ∷ more) =
     (word ∷ filter (is_new words)
     (filter (λ other. not (is_same_word word other)) (without_repeats more))) (filter (is_new words)
     (filter (λ other. not (is_same_word word other)) (without_repeats more)))) [
-      | true ↦ λ there. fold-with_word words more ∙ ap (λ found. words ++ found) (sym (filter-filter (is_new words) (λ other. not (is_same_word word other)) (is_new words) (new_is_other words word there) (without_repeats more)))
+      | true ↦ λ there. fold-with_word words more
+          ∙ ap (λ found. words ++ found)
+          (sym (filter-filter (is_new words) (λ other. not (is_same_word word other)) (is_new words)
+          (new_is_other words word there) (without_repeats more)))
       | false ↦ λ _. fold-with_word (words ++ word ∷ []) more
           ∙ (append_assoc words (word ∷ []) _
           ∙ ap (λ found. words ++ (word ∷ found))

@@ -1,11 +1,17 @@
 -- The words that a word covers, as a list and as a rule.
-use Rattle.std.proofs.Common.{◌≡◌, ◌≢◌, ◌↔◌, ℕ, Bool, true, false, not, cond, ◌||◌, ◌⊎◌, inl, inr, List, [], ◌∷◌, ◌++◌, filter, AllPairs, IsTrue, Some, slice_get, refl, sym, ap, ◌∙◌, arith}
+use Rattle.std.proofs.Common.{◌≡◌, ◌≢◌, ◌↔◌, ℕ, Bool, true, false, not, cond, ◌||◌, ◌⊎◌, inl, inr}
+use Rattle.std.proofs.Common.{List, [], ◌∷◌, ◌++◌, filter, AllPairs, IsTrue, Some, slice_get, refl}
+use Rattle.std.proofs.Common.{sym, ap, ◌∙◌, arith}
 use Rattle.std.proofs.lemmas.Bool.{false≢true, or_right, or_left, or_cases}
 use Rattle.std.proofs.lemmas.List.Folds.{list_any-append}
 use Rattle.std.proofs.lemmas.List.Elements.{filter_passes}
 use Rattle.std.proofs.lemmas.List.Kept.{AllPairs-cons, AllPairs-filter}
 use Rattle.std.proofs.lemmas.Slice.Eq.{bytes_eq-Decides}
-use Rattle.spell_types.specs.Cases.{begins_upper, has_lower, first_lowered, all_lowered, rest_lowered, is_same_word, is_among, without_repeats, covered_by, spellings_of_capital, spellings_of_capitals, spellings_of_sharps, sharp_lowered, sharp_kept, most_pairs, IsOne, Covers}
+use Rattle.spell_types.specs.Cases.{begins_upper, has_lower, first_lowered, all_lowered}
+use Rattle.spell_types.specs.Cases.{rest_lowered, is_same_word, is_among, without_repeats}
+use Rattle.spell_types.specs.Cases.{covered_by, spellings_of_capital, spellings_of_capitals}
+use Rattle.spell_types.specs.Cases.{spellings_of_sharps, sharp_lowered, sharp_kept, most_pairs}
+use Rattle.spell_types.specs.Cases.{IsOne, Covers}
 use Rattle.letter_case.proofs.Repeats.{same-≡}
 
 ≡-same : (word other : List ℕ) → word ≡ other → is_same_word word other ≡ true
@@ -22,7 +28,9 @@ among-filter word other differs (w ∷ words) =
     → is_among (cond (not b) (w ∷ filter (λ w. not (is_same_word word w)) words)
     (filter (λ w. not (is_same_word word w))
     words)) other ≡ (is_same_word w other || is_among words other)) [
-      | true ↦ λ same. rest ∙ sym (ap (λ b. b || is_among words other) (sym (ap (λ v. is_same_word v other) (same-≡ word w same)) ∙ differs))
+      | true ↦ λ same. rest
+          ∙ sym (ap (λ b. b || is_among words other)
+          (sym (ap (λ v. is_same_word v other) (same-≡ word w same)) ∙ differs))
       | false ↦ λ _. ap (λ b. is_same_word w other || b) rest
     ] refl
 
@@ -36,7 +44,8 @@ among-without_repeats (word ∷ words) other =
     → (b || is_among (filter (λ w. not (is_same_word word w)) (without_repeats words)) other) ≡
     (b || is_among words other)) [
       | true ↦ λ _. refl
-      | false ↦ λ differs. among-filter word other differs (without_repeats words) ∙ among-without_repeats words other
+      | false ↦ λ differs. among-filter word other differs (without_repeats words)
+          ∙ among-without_repeats words other
     ] refl
 
 differs_from : (word other : List ℕ) → not (is_same_word word other) ≡ true → word ≢ other

@@ -1,8 +1,12 @@
 //! Upper and lower case, and the spellings that a written word stands for.
 #![tactic(auto)]
 
-ghost use Rattle.std.specs.Prelude.{◌≡◌, ℕ, ◌↔◌, Bool, List, IsTrue, slice_get, Some, AllPairs, ◌≢◌, fold, IfOk, OnOk};
-ghost use Rattle.spell_types.specs.Cases.{is_upper, is_lower, low, begins_upper, has_lower, first_lowered, all_lowered, rest_lowered, is_among, spellings_of_capital, spellings_of_capitals, spellings_of_sharps, covered_by, Covers};
+ghost use Rattle.std.specs.Prelude.{◌≡◌, ℕ, ◌↔◌, Bool, List, IsTrue, slice_get, Some, AllPairs};
+ghost use Rattle.std.specs.Prelude.{◌≢◌, fold, IfOk, OnOk};
+ghost use Rattle.spell_types.specs.Cases.{is_upper, is_lower, low, begins_upper, has_lower};
+ghost use Rattle.spell_types.specs.Cases.{first_lowered, all_lowered, rest_lowered, is_among};
+ghost use Rattle.spell_types.specs.Cases.{spellings_of_capital, spellings_of_capitals};
+ghost use Rattle.spell_types.specs.Cases.{spellings_of_sharps, covered_by, Covers};
 ghost use Rattle.letter_case.specs.Found.{with_word};
 
 mod sharps;
@@ -64,9 +68,9 @@ pub fn has_lower(word: &[char]) -> bool
     word.iter().any(|c| is_lower(*c))
 }
 
-/// The words that a written word covers: the written one first, and none twice. `sharps` says that SS may stand for ß: the
-/// option CHECKSHARPS of hunspell(5). At most the first five pairs SS are looked at, which is this project's own rule, so that
-/// there are at most 66 words.
+/// The words that a written word covers: the written one first, and none twice. `sharps` says that
+/// SS may stand for ß: the option CHECKSHARPS of hunspell(5). At most the first five pairs SS are
+/// looked at, which is this project's own rule, so that there are at most 66 words.
 pub fn covered(alloc: Global, word: &[char], sharps: bool) -> Result<SmallVec<Chars, 4>, NoMemory>
     ensures { IfOk result (λ found. found.items ≡ covered_by sharps word.now) }
 {
@@ -78,13 +82,15 @@ pub fn covered(alloc: Global, word: &[char], sharps: bool) -> Result<SmallVec<Ch
     Ok(found)
 }
 
-/// The words that a written word covers are those that the rule names, the written one first, and no two of
-/// them are the same.
+/// The words that a written word covers are those that the rule names, the written one first, and
+/// no two of them are the same.
 pub fn covered_words_are()
     ensures members { (sharps : Bool) (written word : List ℕ) →
         IsTrue (is_among (covered_by sharps written) word) ↔ Covers sharps written word }
-    ensures first { (sharps : Bool) (written : List ℕ) → slice_get (covered_by sharps written) 0 ≡ Some written }
-    ensures once { (sharps : Bool) (written : List ℕ) → AllPairs (λ one other. one ≢ other) (covered_by sharps written) }
+    ensures first { (sharps : Bool) (written : List ℕ) → slice_get (covered_by sharps written) 0
+        ≡ Some written }
+    ensures once { (sharps : Bool) (written : List ℕ)
+        → AllPairs (λ one other. one ≢ other) (covered_by sharps written) }
 {}
 
 /// Adds what a word that begins in upper case stands for.

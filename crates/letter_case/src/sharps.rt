@@ -50,14 +50,16 @@ fn front_of(alloc: Global, text: &[char]) -> Result<Vec<Chars>, NoMemory>
     Ok(fronts)
 }
 
-/// Each of these fronts with each way to lower the word behind it, where so many of its first pairs may be written as ß.
+/// Each of these fronts with each way to lower the word behind it, where so many of its first pairs
+/// may be written as ß.
 fn lowered_behind(
     alloc: Global,
     fronts: Vec<Chars>,
     pairs: usize,
     word: &[char],
 ) -> Result<Vec<Chars>, NoMemory>
-    ensures { IfOk result (λ made. made.items ≡ behind_each fronts.items (sharp_lowered pairs word.now)) }
+    ensures { IfOk result
+        (λ made. made.items ≡ behind_each fronts.items (sharp_lowered pairs word.now)) }
 {
     let mut made = fronts;
     let mut left = pairs;

@@ -1,5 +1,5 @@
-//! What the limits are. Definitions name the constants of the code, so that each number stands there once; this law says the numbers
-//! again, so that no change of one passes unseen.
+//! What the limits are. Definitions name the constants of the code, so that each number stands
+//! there once; this law says the numbers again, so that no change of one passes unseen.
 #![tactic(auto)]
 
 ghost use Rattle.std.specs.Prelude.{◌≡◌};

@@ -1,5 +1,6 @@
 -- Faults at lines, which of some is told, and which of those of passes.
-use Rattle.std.specs.Prelude.{◌≡◌, ℕ, zero, suc, ◌==◌, ◌||◌, ◌&&◌, ◌⊎◌, nat_lt, Bool, false, List, [], ◌∷◌, ◌++◌, Option, None, Some, Result, Ok, Err, if◌then◌else◌}
+use Rattle.std.specs.Prelude.{◌≡◌, ℕ, zero, suc, ◌==◌, ◌||◌, ◌&&◌, ◌⊎◌, nat_lt, Bool, false, List}
+use Rattle.std.specs.Prelude.{[], ◌∷◌, ◌++◌, Option, None, Some, Result, Ok, Err, if◌then◌else◌}
 use Rattle.std.specs.Option.{option_or}
 use Rattle.line_faults.specs.declared.Fault.{Fault}
 
@@ -10,7 +11,8 @@ abbrev pub IsAmong : {W : Type 0} → List (Fault W) → Fault W → Type 0
 IsAmong [] fault = ⊥
 IsAmong (first ∷ more) fault = (first ≡ fault) ⊎ IsAmong more fault
 
--- the fault is one of the pass with this number, from 0; a pass counts only where the passes before it have no fault
+-- the fault is one of the pass with this number, from 0; a pass counts only where the passes before
+-- it have no fault
 abbrev pub IsFault : {W : Type 0} → List (List (Fault W)) → ℕ → Fault W → Type 0
 IsFault [] pass fault = ⊥
 IsFault (faults ∷ later) zero fault = IsAmong faults fault
@@ -23,10 +25,12 @@ unless_fault (Some fault) read = Err fault
 
 -- Each cause has a number, its place among all causes.
 module _ {W : Type 0} (number : W → ℕ) where
-  -- whether a fault goes before another: it is at a lower line, or at the same line with a lower cause
+  -- whether a fault goes before another: it is at a lower line, or at the same line with a lower
+  -- cause
   abbrev pub is_before : Fault W → Fault W → Bool
   is_before fault other =
-      nat_lt fault.line other.line || (fault.line == other.line && nat_lt (number fault.why) (number other.why))
+      nat_lt fault.line other.line
+      || (fault.line == other.line && nat_lt (number fault.why) (number other.why))
 
   -- the earlier of two faults
   abbrev pub sooner : Option (Fault W) → Option (Fault W) → Option (Fault W)
@@ -64,4 +68,5 @@ module _ {W : Type 0} (number : W → ℕ) where
 
   -- the earliest fault of two lists is the earlier of those of each
   abbrev pub FaultsJoin : Type 0
-  FaultsJoin = (faults more : List (Fault W)) → least_of (faults ++ more) ≡ sooner (least_of faults) (least_of more)
+  FaultsJoin = (faults more : List (Fault W))
+      → least_of (faults ++ more) ≡ sooner (least_of faults) (least_of more)

@@ -1,10 +1,12 @@
 -- Laws of the order of faults, of the earliest of some, and of the first of passes.
-use Rattle.std.proofs.Common.{◌≡◌, ℕ, zero, suc, ◌<◌, ◌≤◌, Bool, true, false, cond, inl, inr, List, [], ◌∷◌, ◌++◌, Option, Some, None, refl, sym, ap, ◌∙◌, subst, arith}
+use Rattle.std.proofs.Common.{◌≡◌, ℕ, zero, suc, ◌<◌, ◌≤◌, Bool, true, false, cond, inl, inr, List}
+use Rattle.std.proofs.Common.{[], ◌∷◌, ◌++◌, Option, Some, None, refl, sym, ap, ◌∙◌, subst, arith}
 use Rattle.std.specs.List.{AllByRecursion}
 use Rattle.std.specs.Option.{option_or}
 use Rattle.std.proofs.lemmas.Bool.Decides.{nat_tests}
 use Rattle.line_faults.specs.declared.Fault.{Fault}
-use Rattle.line_faults.specs.Faults.{is_before, sooner, least_of, first_fault, FaultsJoin, FindsLeast, IsAmong, IsFault, IsFirstFault, IsLeast, LeastIs}
+use Rattle.line_faults.specs.Faults.{is_before, sooner, least_of, first_fault, FaultsJoin}
+use Rattle.line_faults.specs.Faults.{FindsLeast, IsAmong, IsFault, IsFirstFault, IsLeast, LeastIs}
 
 module _ {W : Type 0} (number : W → ℕ) where
   -- ---- the order
@@ -15,20 +17,24 @@ module _ {W : Type 0} (number : W → ℕ) where
   other-way : (a b : Fault W) → is_before number a b ≡ true → is_before number b a ≡ false
   other-way a b h = grind (arith, nat_tests)
 
-  goes : (a b c : Fault W) → is_before number b a ≡ true → is_before number c b ≡ true → is_before number c a ≡ true
+  goes : (a b c : Fault W) → is_before number b a ≡ true → is_before number c b ≡ true
+      → is_before number c a ≡ true
   goes a b c p q = grind (arith, nat_tests)
 
-  keeps : (a b c : Fault W) → is_before number b a ≡ false → is_before number c b ≡ false → is_before number c a ≡ false
+  keeps : (a b c : Fault W) → is_before number b a ≡ false → is_before number c b ≡ false
+      → is_before number c a ≡ false
   keeps a b c p q = grind (arith, nat_tests)
 
-  -- a fault at a lower line goes before, and of two at one line none goes before the one with the lower cause
+  -- a fault at a lower line goes before, and of two at one line none goes before the one with the
+  -- lower cause
   pub lower-line : (a b : Fault W) → a.line < b.line → is_before number a b ≡ true
   lower-line a b lower = grind (arith, nat_tests)
 
   pub higher-line : (a b : Fault W) → a.line < b.line → is_before number b a ≡ false
   higher-line a b lower = grind (arith, nat_tests)
 
-  pub lower-cause : (a b : Fault W) → a.line ≡ b.line → number a.why ≤ number b.why → is_before number b a ≡ false
+  pub lower-cause : (a b : Fault W) → a.line ≡ b.line → number a.why ≤ number b.why
+      → is_before number b a ≡ false
   lower-cause a b same lower = grind (arith, nat_tests)
 
   -- ---- the earlier of two, and the earliest of some
@@ -37,14 +43,17 @@ module _ {W : Type 0} (number : W → ℕ) where
   sooner_none None = refl
   sooner_none (Some found) = refl
 
-  pub sooner_assoc : (a b c : Option (Fault W)) → sooner number (sooner number a b) c ≡ sooner number a (sooner number b c)
+  pub sooner_assoc : (a b c : Option (Fault W)) → sooner number (sooner number a b) c
+      ≡ sooner number a (sooner number b c)
   sooner_assoc None b c = refl
   sooner_assoc (Some a) None c = refl
   sooner_assoc (Some a) (Some b) None = sooner_none (sooner number (Some a) (Some b))
-  sooner_assoc (Some a) (Some b) (Some c) = by-tests (is_before number b a) (is_before number c b) refl refl
+  sooner_assoc (Some a) (Some b) (Some c) =
+      by-tests (is_before number b a) (is_before number c b) refl refl
     where
       by-tests : (ba cb : Bool) → is_before number b a ≡ ba → is_before number c b ≡ cb
-          → sooner number (sooner number (Some a) (Some b)) (Some c) ≡ sooner number (Some a) (sooner number (Some b) (Some c))
+          → sooner number (sooner number (Some a) (Some b)) (Some c) ≡ sooner number (Some a)
+          (sooner number (Some b) (Some c))
       by-tests true true p q = rw (p, q, goes a b c p q) refl
       by-tests true false p q = rw (p, q, p) refl
       by-tests false true p q = rw (p, q) refl
@@ -56,10 +65,13 @@ module _ {W : Type 0} (number : W → ℕ) where
       ap (sooner number (Some fault)) (least_append faults more)
       ∙ sym (sooner_assoc (Some fault) (least_of number faults) (least_of number more))
 
-  -- A turn of a loop over lines: what was found so far, merged with what the rest has, goes on to be all.
-  pub found_more : {here now total : Option (Fault W)} {all : List (Fault W)} (found : Option (Fault W)) (own rest : List (Fault W))
+  -- A turn of a loop over lines: what was found so far, merged with what the rest has, goes on to
+  -- be all.
+  pub found_more : {here now total : Option (Fault W)} {all : List (Fault W)}
+      (found : Option (Fault W)) (own rest : List (Fault W))
       → now ≡ sooner number found here → here ≡ least_of number own → all ≡ own ++ rest
-      → sooner number found (least_of number all) ≡ total → sooner number now (least_of number rest) ≡ total
+      → sooner number found (least_of number all) ≡ total → sooner number now (least_of number rest)
+      ≡ total
   found_more found own rest merged told is so_far =
       ap (λ f. sooner number f (least_of number rest)) (merged ∙ ap (sooner number found) told)
       ∙ sooner_assoc found (least_of number own) (least_of number rest)
@@ -95,10 +107,12 @@ module _ {W : Type 0} (number : W → ℕ) where
   is-self : (fault other : Fault W) → fault ≡ other → is_before number other fault ≡ false
   is-self fault other same = ap (λ f. is_before number f fault) (sym same) ∙ itself fault
 
-  none-among : (faults : List (Fault W)) → faults ≡ [] → (fault : Fault W) → IsAmong faults fault → ⊥
+  none-among : (faults : List (Fault W)) → faults ≡ [] → (fault : Fault W) → IsAmong faults fault
+      → ⊥
   none-among faults none fault = subst (λ (fs : List (Fault W)). IsAmong fs fault) none
 
-  least-cons : (fault : Fault W) (more : List (Fault W)) (found : Option (Fault W)) → LeastIs number more found
+  least-cons : (fault : Fault W) (more : List (Fault W)) (found : Option (Fault W))
+      → LeastIs number more found
       → LeastIs number (fault ∷ more) (sooner number (Some fault) found)
   least-cons fault more None none = record {
     among = inl refl;
@@ -109,11 +123,13 @@ module _ {W : Type 0} (number : W → ℕ) where
   }
   least-cons fault more (Some found) least = by-test (is_before number found fault) refl
     where
-      by-test : (b : Bool) → is_before number found fault ≡ b → LeastIs number (fault ∷ more) (cond b (Some found) (Some fault))
+      by-test : (b : Bool) → is_before number found fault ≡ b
+          → LeastIs number (fault ∷ more) (cond b (Some found) (Some fault))
       by-test true before_it = record {
         among = inr least.among;
         first = λ other. elim [
-          | inl same ↦ ap (λ f. is_before number f found) (sym same) ∙ other-way found fault before_it
+          | inl same ↦ ap (λ f. is_before number f found) (sym same)
+              ∙ other-way found fault before_it
           | inr later ↦ least.first other later
         ];
       }
@@ -133,15 +149,18 @@ module _ {W : Type 0} (number : W → ℕ) where
   least-none faults is = subst (LeastIs number faults) is (least_law faults)
 
   -- what holds of each fault holds of the earliest
-  each-among : (P : Fault W → Type 0) (faults : List (Fault W)) (fault : Fault W) → AllByRecursion P faults → IsAmong faults fault → P fault
+  each-among : (P : Fault W → Type 0) (faults : List (Fault W)) (fault : Fault W)
+      → AllByRecursion P faults → IsAmong faults fault → P fault
   each-among P [] fault each among = absurd among
   each-among P (first ∷ more) fault each (inl same) = subst P same each.0
   each-among P (first ∷ more) fault each (inr later) = each-among P more fault each.1 later
 
-  pub each-least : (P : Fault W → Type 0) (faults : List (Fault W)) (fault : Fault W) → AllByRecursion P faults
+  pub each-least : (P : Fault W → Type 0) (faults : List (Fault W)) (fault : Fault W)
+      → AllByRecursion P faults
       → least_of number faults ≡ Some fault → P fault
   each-least P faults fault each is =
-      let least : IsLeast number (IsAmong faults) fault = subst (LeastIs number faults) is (least_law faults) in
+      let least : IsLeast number (IsAmong faults) fault =
+      subst (LeastIs number faults) is (least_law faults) in
       each-among P faults fault each least.among
 
   -- ---- the first fault of passes, read as a set
@@ -150,7 +169,8 @@ module _ {W : Type 0} (number : W → ℕ) where
   FirstIs passes None = (pass : ℕ) (fault : Fault W) → ¬ IsFault passes pass fault
   FirstIs passes (Some fault) = IsFirstFault number passes fault
 
-  first-later : (faults : List (Fault W)) (later : List (List (Fault W))) (found : Option (Fault W)) → faults ≡ [] → FirstIs later found
+  first-later : (faults : List (Fault W)) (later : List (List (Fault W))) (found : Option (Fault W))
+      → faults ≡ [] → FirstIs later found
       → FirstIs (faults ∷ later) found
   first-later faults later None none fine = at-pass
     where
@@ -165,17 +185,23 @@ module _ {W : Type 0} (number : W → ℕ) where
     },
   )
 
-  first-cons : (faults : List (Fault W)) (later : List (List (Fault W))) (found : Option (Fault W)) → LeastIs number faults found
-      → FirstIs later (first_fault number later) → FirstIs (faults ∷ later) (option_or found (first_fault number later))
-  first-cons faults later None none told = first-later faults later (first_fault number later) none told
+  first-cons : (faults : List (Fault W)) (later : List (List (Fault W))) (found : Option (Fault W))
+      → LeastIs number faults found
+      → FirstIs later (first_fault number later)
+      → FirstIs (faults ∷ later) (option_or found (first_fault number later))
+  first-cons faults later None none told =
+      first-later faults later (first_fault number later) none told
   first-cons faults later (Some fault) least told = (zero, least)
 
   first-law : (passes : List (List (Fault W))) → FirstIs passes (first_fault number passes)
   first-law [] = λ pass fault bad. bad
-  first-law (faults ∷ later) = first-cons faults later (least_of number faults) (least_law faults) (first-law later)
+  first-law (faults ∷ later) =
+      first-cons faults later (least_of number faults) (least_law faults) (first-law later)
 
-  pub no-first : (passes : List (List (Fault W))) → first_fault number passes ≡ None → (pass : ℕ) (fault : Fault W) → ¬ IsFault passes pass fault
+  pub no-first : (passes : List (List (Fault W))) → first_fault number passes ≡ None
+      → (pass : ℕ) (fault : Fault W) → ¬ IsFault passes pass fault
   no-first passes none = subst (FirstIs passes) none (first-law passes)
 
-  pub first-least : (passes : List (List (Fault W))) (fault : Fault W) → first_fault number passes ≡ Some fault → IsFirstFault number passes fault
+  pub first-least : (passes : List (List (Fault W))) (fault : Fault W)
+      → first_fault number passes ≡ Some fault → IsFirstFault number passes fault
   first-least passes fault first = subst (FirstIs passes) first (first-law passes)

@@ -9,7 +9,8 @@ fails-then MayCome next (inl comes) = inl comes
 fails-then MayCome next (inr is) = inr (ap (λ d. d >>= next) is)
 
 -- behind a step that gives something, what follows decides
-pub fails-behind : {A B F : Type 0} (MayCome : F → Type 0) {due : Result A F} {given : A} {fault : F}
+pub fails-behind : {A B F : Type 0} (MayCome : F → Type 0) {due : Result A F} {given : A}
+    {fault : F}
     (next : A → Result B F) → due ≡ Ok given → FailsAs MayCome (next given) fault
     → FailsAs MayCome (due >>= next) fault
 fails-behind MayCome {fault = fault} next is fails =
@@ -33,4 +34,5 @@ pub gives-fault : {A B F : Type 0} (MayCome : F → Type 0) {due : Result B F} {
     (view : A → B) (result : Result A F) → FailsAs MayCome due fault
     → IsErrAnd result (λ told. told ≡ fault) → GivesDue MayCome view due result
 gives-fault MayCome view (Ok given) fails is = absurd is
-gives-fault MayCome {due = due} view (Err told) fails is = subst (FailsAs MayCome due) (sym is) fails
+gives-fault MayCome {due = due} view (Err told) fails is =
+    subst (FailsAs MayCome due) (sym is) fails

@@ -9,7 +9,8 @@ items_of chunks = flat_map (λ counted. counted.chunk) chunks
 
 -- each chunk is kept with the number of items up to its end
 abbrev pub AreCounted : {T : Type 0} → List (Counted T) → Type 0
-AreCounted {T} chunks = (k : ℕ) (d : Counted T) → k < length chunks → (slice_index_or chunks k d).end ≡ length (items_of (take (k + 1) chunks))
+AreCounted {T} chunks = (k : ℕ) (d : Counted T) → k < length chunks
+    → (slice_index_or chunks k d).end ≡ length (items_of (take (k + 1) chunks))
 
 -- the items of the chunk with a place; none past the end
 abbrev pub chunk_at : {T : Type 0} → List (Counted T) → ℕ → List T

@@ -12,7 +12,8 @@ use Rattle.std.specs.declared.vec.Vec.{Vec}
 abbrev pub Row : Type 0 → Type 0
 Row V = Vec ℕ Global × V
 
--- the rows stand in the order of their texts' characters, where a text comes before those that it begins
+-- the rows stand in the order of their texts' characters, where a text comes before those that it
+-- begins
 abbrev pub AreInOrder : {V : Type 0} → List (Row V) → Type 0
 AreInOrder rows = IsSortedBy (λ row other. is_lt (slice_cmp nat_cmp row.0.items other.0.items)) rows
 

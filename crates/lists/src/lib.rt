@@ -1,7 +1,8 @@
 //! The one list type of Affedit's values, its one answer for want of memory, and texts in order.
 #![tactic(auto)]
 
-ghost use Rattle.std.specs.Prelude.{◌≡◌, ◌==◌, ◌^◌, ◌<◌, [], ◌∷◌, ◌++◌, List, length, IfOk, OnOk, OnErr};
+ghost use Rattle.std.specs.Prelude.{◌≡◌, ◌==◌, ◌^◌, ◌<◌, [], ◌∷◌, ◌++◌, List, length, IfOk, OnOk};
+ghost use Rattle.std.specs.Prelude.{OnErr};
 ghost use Rattle.std.specs.Cmp.Lexicographic.{pointwise, lists_per, lists_equiv};
 ghost use Rattle.std.specs.Hash as fed;
 ghost use Rattle.std.specs.Hash.{items_Alike};
@@ -101,7 +102,8 @@ impl<T> Items<T> {
     /// The items, one after another.
     pub fn iter(&self) -> slice::Iter<'_, T>
         ensures items { iter_rest result ≡ self.now }
-        ensures runs { EveryRun (iter_steps {A = T}) (λ p. ItemsMapTo p (λ x. x.now) (iter_rest p.from)) }
+        ensures runs { EveryRun (iter_steps {A = T})
+            (λ p. ItemsMapTo p (λ x. x.now) (iter_rest p.from)) }
     {
         self.as_slice().iter()
     }

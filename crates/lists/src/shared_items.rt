@@ -1,7 +1,8 @@
-//! A list in many versions, which share what an edit does not touch: it is kept as chunks of 1 to 64 items.
-//! No other module knows that there are chunks.
+//! A list in many versions, which share what an edit does not touch: it is kept as chunks of 1 to
+//! 64 items. No other module knows that there are chunks.
 
-ghost use Rattle.std.specs.Prelude.{◌≡◌, ◌+◌, ◌<◌, ◌≤◌, ◌==◌, [], ◌∷◌, ◌++◌, length, take, drop, slice_set, slice_get, IfOk, OnOk};
+ghost use Rattle.std.specs.Prelude.{◌≡◌, ◌+◌, ◌<◌, ◌≤◌, ◌==◌, [], ◌∷◌, ◌++◌, length, take, drop};
+ghost use Rattle.std.specs.Prelude.{slice_set, slice_get, IfOk, OnOk};
 ghost use Rattle.std.specs.Iterator.{YieldsFirstRef, item_count};
 ghost use Rattle.std.specs.List.{insert, remove};
 ghost use Rattle.std.specs.Option.{option_copied};
@@ -35,7 +36,8 @@ impl<T> Model for Chunk<T> {
 
     ghost view = { λ inside. (arc_value inside.kept).items };
 
-    ghost invariant = { λ inside. (0 < length (arc_value inside.kept).items) × (length (arc_value inside.kept).items ≤ 64) };
+    ghost invariant = { λ inside. (0 < length (arc_value inside.kept).items)
+        × (length (arc_value inside.kept).items ≤ 64) };
 }
 
 impl<T> Chunk<T> {
@@ -78,8 +80,9 @@ struct Counted<T> {
     end: usize,
 }
 
-/// A list of which a new version with one item replaced, inserted or removed takes memory for one chunk and for the list
-/// of chunks, and shares all others. Contracts see it as the list of its items.
+/// A list of which a new version with one item replaced, inserted or removed takes memory for one
+/// chunk and for the list of chunks, and shares all others. Contracts see it as the list of its
+/// items.
 #[derive(Debug, Drop)]
 pub struct SharedItems<T> {
     chunks: Vec<Counted<T>>,
@@ -129,7 +132,8 @@ impl<T> SharedItems<T> {
         self.len() == 0
     }
 
-    /// The item with a place, from 0 on; none past the end. Its chunk is found by halves, by the counts that chunks are kept with.
+    /// The item with a place, from 0 on; none past the end. Its chunk is found by halves, by the
+    /// counts that chunks are kept with.
     pub fn get(&self, place: usize) -> Option<&T>
         ensures { option_copied result ≡ slice_get self.now place }
     {
@@ -288,8 +292,8 @@ fn find<T>(chunks: &[Counted<T>], place: usize) -> (usize, usize)
     (index, place - (found.end - found.chunk.as_slice().len()))
 }
 
-/// The place of a chunk into which an item may be put so that as many items stand before it, and its place there: behind the item
-/// before it, or at the front.
+/// The place of a chunk into which an item may be put so that as many items stand before it, and
+/// its place there: behind the item before it, or at the front.
 fn find_gap<T>(chunks: &[Counted<T>], place: usize) -> (usize, usize)
     requires counted { AreCounted chunks.now }
     requires inside { place ≤ length (items_of chunks.now) }
@@ -310,7 +314,8 @@ fn copies_at<T: Copied + Drop>(
     chunks: &[Counted<T>],
     index: usize,
 ) -> Result<Vec<T>, NoMemory>
-    ensures { IfOk result (λ copies. (copies.items ≡ chunk_at chunks.now index) × (vec_len copies ≤ 64)) }
+    ensures { IfOk result
+        (λ copies. (copies.items ≡ chunk_at chunks.now index) × (vec_len copies ≤ 64)) }
 {
     match chunks.get(index) {
         None => Ok(Vec::new(alloc)),
@@ -330,7 +335,8 @@ fn copies_of<T: Copied + Drop>(alloc: Global, chunk: &Chunk<T>) -> Result<Vec<T>
     Ok(copies)
 }
 
-/// The list of chunks with other items in place of one chunk's, or behind the last. All other chunks are shared.
+/// The list of chunks with other items in place of one chunk's, or behind the last. All other
+/// chunks are shared.
 fn with_chunk<T: Drop>(
     alloc: Global,
     chunks: &[Counted<T>],
@@ -339,7 +345,9 @@ fn with_chunk<T: Drop>(
 ) -> Result<SharedItems<T>, NoMemory>
     requires chunk { index ≤ length chunks.now }
     requires few { vec_len changed ≤ 65 }
-    ensures { IfOk result (λ made. made ≡ items_of (take index chunks.now) ++ changed.items ++ items_of (drop (index + 1) chunks.now)) }
+    ensures { IfOk result
+        (λ made. made ≡ items_of (take index chunks.now) ++ changed.items
+        ++ items_of (drop (index + 1) chunks.now)) }
 {
     let (front, rest) = chunks.split_at(index);
     let mut made = SharedItems::with_room(alloc, chunks.len().saturating_add(1))?;

@@ -6,8 +6,8 @@ ghost use Rattle.std.specs.Option.{option_map_or};
 ghost use Rattle.std.specs.List.Sorted.{IsNonDecreasingBy};
 ghost use Rattle.lists.specs.TextOrder.{Row, AreInOrder, beginning, having, next_at, next_in};
 
-/// Of the rows whose texts begin with the same characters, and so many, those whose texts go on with this one. They are
-/// found by halves, so that it does not matter how many rows there are.
+/// Of the rows whose texts begin with the same characters, and so many, those whose texts go on
+/// with this one. They are found by halves, so that it does not matter how many rows there are.
 pub fn going_on<V>(rows: &[(Vec<char>, V)], depth: usize, c: char) -> &[(Vec<char>, V)]
     ensures { (all : List (Row V)) (front : List ℕ) → AreInOrder all → length front ≡ depth
         → rows.now ≡ beginning front all → result.now ≡ beginning (front ++ c ∷ []) all }
@@ -15,7 +15,8 @@ pub fn going_on<V>(rows: &[(Vec<char>, V)], depth: usize, c: char) -> &[(Vec<cha
     with_next(rows, depth, c as usize + 1)
 }
 
-/// Of the rows whose texts begin with the same characters, and so many, those whose texts have no more.
+/// Of the rows whose texts begin with the same characters, and so many, those whose texts have no
+/// more.
 pub fn ending<V>(rows: &[(Vec<char>, V)], depth: usize) -> &[(Vec<char>, V)]
     ensures { (all : List (Row V)) (front : List ℕ) → AreInOrder all → length front ≡ depth
         → rows.now ≡ beginning front all → result.now ≡ having front all }
@@ -23,7 +24,8 @@ pub fn ending<V>(rows: &[(Vec<char>, V)], depth: usize) -> &[(Vec<char>, V)]
     with_next(rows, depth, 0)
 }
 
-/// The rows in whose texts this comes next. Where that is all of them or none, the first and the last one tell.
+/// The rows in whose texts this comes next. Where that is all of them or none, the first and the
+/// last one tell.
 fn with_next<V>(rows: &[(Vec<char>, V)], depth: usize, next: usize) -> &[(Vec<char>, V)]
     ensures { IsNonDecreasingBy (next_in depth) rows.now
         → result.now ≡ filter (λ row. nat_eq (next_in depth row) next) rows.now }

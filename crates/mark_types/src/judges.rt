@@ -16,7 +16,8 @@ pub trait Judge {
     fn verdict(&self, alloc: Global, written: &[char]) -> Result<bool, NoMemory>
         ensures { IfOk result (λ answer. answer ≡ yields (lexicon self.now) written.now) };
 
-    /// The characters that are word characters beside letters and marks: the option WORDCHARS of hunspell(5).
+    /// The characters that are word characters beside letters and marks: the option WORDCHARS of
+    /// hunspell(5).
     fn wordchars(&self) -> &[char]
         ensures { result.now ≡ (lexicon self.now).affixes.wordchars };
 }
@@ -31,7 +32,8 @@ pub trait Asker {
         ensures answer { IfOk result (λ answer. answer ≡ yields (lexicon self.old) written.now) }
         ensures same { lexicon self.new ≡ lexicon self.old };
 
-    /// The characters that are word characters beside letters and marks: the option WORDCHARS of hunspell(5).
+    /// The characters that are word characters beside letters and marks: the option WORDCHARS of
+    /// hunspell(5).
     fn wordchars(&self) -> &[char]
         ensures { result.now ≡ (lexicon self.now).affixes.wordchars };
 }

@@ -21,8 +21,8 @@ pub struct Span {
     pub to: u32,
 }
 
-/// A word that the dictionary does not generate, with its bytes in its paragraph: the first one and the one
-/// past its end, from 0.
+/// A word that the dictionary does not generate, with its bytes in its paragraph: the first one and
+/// the one past its end, from 0.
 #[derive(Debug, Drop)]
 pub struct Mark {
     pub from: u32,
@@ -43,15 +43,18 @@ impl Copied for Mark {
     }
 }
 
-/// The marks of a text are those of its paragraphs one by one, and so are its words. In a paragraph that
-/// stands alone a word is where it is in the paragraph's text.
+/// The marks of a text are those of its paragraphs one by one, and so are its words. In a paragraph
+/// that stands alone a word is where it is in the paragraph's text.
 pub fn marks_are_local()
     ensures words { (wordchars : List ℕ) (paragraphs : List (List ℕ)) →
-        located_words wordchars paragraphs ≡ one_by_one (λ paragraph. located_words wordchars (paragraph ∷ [])) paragraphs }
+        located_words wordchars paragraphs ≡ one_by_one
+        (λ paragraph. located_words wordchars (paragraph ∷ [])) paragraphs }
     ensures marks { (lexicon : Lexicon) (paragraphs : List (List ℕ)) →
-        marks_of lexicon paragraphs ≡ one_by_one (λ paragraph. marks_of lexicon (paragraph ∷ [])) paragraphs }
+        marks_of lexicon paragraphs ≡ one_by_one (λ paragraph. marks_of lexicon (paragraph ∷ []))
+        paragraphs }
     ensures alone { (wordchars paragraph : List ℕ) →
-        located_words wordchars (paragraph ∷ []) ≡ map (λ word. located_at 1 word.from word) (words_of wordchars paragraph) }
+        located_words wordchars (paragraph ∷ []) ≡ map (λ word. located_at 1 word.from word)
+        (words_of wordchars paragraph) }
 {}
 
 /// Each word of a text stands in it where it says.

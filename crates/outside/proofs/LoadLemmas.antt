@@ -10,7 +10,8 @@ use Rattle.outside.specs.declared.faults.FileFault.{FileFault}
 use Rattle.outside.specs.declared.faults.FileFault.TheVariants.{Failed, Missing, TooLong, NoMemory}
 
 -- the bytes of a file that is not too long
-pub loaded : (limit : ℕ) (bytes : List ℕ) → length bytes ≤ limit → file_due limit (Some bytes) ≡ Ok bytes
+pub loaded : (limit : ℕ) (bytes : List ℕ) → length bytes ≤ limit
+    → file_due limit (Some bytes) ≡ Ok bytes
 unfolding file_due
 loaded limit bytes few = grind (arith, nat_tests)
 
@@ -18,7 +19,8 @@ loaded limit bytes few = grind (arith, nat_tests)
 too-long : (limit : ℕ) → file_due limit (Some (replicate {A = ℕ} (limit + 1) 0)) ≡ Err TooLong
 unfolding file_due
 too-long limit =
-    let long : length (replicate {A = ℕ} (limit + 1) 0) ≡ limit + 1 = length-replicate {A = ℕ} (limit + 1) 0 in
+    let long : length (replicate {A = ℕ} (limit + 1) 0) ≡ limit + 1 =
+    length-replicate {A = ℕ} (limit + 1) 0 in
     grind (arith, nat_tests)
 
 -- each fault is that of some file

@@ -8,8 +8,8 @@ use Rattle.outside.specs.declared.faults.FileFault.TheVariants.{Failed, Missing,
 abbrev pub Folder : Type 0
 Folder = List ℕ → Option (List ℕ)
 
--- What a load may answer, where `file` is what the folder has of the name, and `buffer` what `into` then holds.
--- A failure and want of memory may come at any file.
+-- What a load may answer, where `file` is what the folder has of the name, and `buffer` what `into`
+-- then holds. A failure and want of memory may come at any file.
 abbrev pub LoadAnswers : {T : Type 0} → Option (List ℕ) → ℕ → List ℕ → Result T FileFault → Type 0
 LoadAnswers file limit buffer (Ok done) = file ≡ Some buffer
 LoadAnswers file limit buffer (Err Failed) = Unit {0}

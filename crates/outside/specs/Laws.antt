@@ -9,7 +9,9 @@ use Rattle.outside.specs.Source.{Takes, IsEndOf, IsGiven}
 -- ---- a sink
 
 -- what is put behind something else
-pub appends-more : (before middle after : Option (List ℕ)) (first later : List ℕ) → Appends before middle first → Appends middle after later → Appends before after (first ++ later)
+pub appends-more : (before middle after : Option (List ℕ)) (first later : List ℕ)
+    → Appends before middle first → Appends middle after later
+    → Appends before after (first ++ later)
 appends-more before middle None first later put more = tt
 appends-more before None (Some now) first later put more = absurd more
 appends-more None (Some written) (Some now) first later put more = absurd put
@@ -22,20 +24,30 @@ appends-none None = tt
 appends-none (Some written) = sym (append-nil written)
 
 -- a front is put behind something else
-pub appends-front : (before middle after : Option (List ℕ)) (first later : List ℕ) → Appends before middle first → AppendsFront middle after later → AppendsFront before after (first ++ later)
-appends-front before middle after first later put (taken, more) =
-    (length first + taken, subst (Appends before after) (sym (take-append-add first later taken)) (appends-more before middle after first (take taken later) put more))
+pub appends-front : (before middle after : Option (List ℕ)) (first later : List ℕ)
+    → Appends before middle first → AppendsFront middle after later
+    → AppendsFront before after (first ++ later)
+appends-front before middle after first later put (taken, more) = (
+  length first + taken,
+  subst (Appends before after) (sym (take-append-add first later taken))
+      (appends-more before middle after first (take taken later) put more),
+)
 
 -- a front of something is one of all that begins with it
-pub front-longer : (before after : Option (List ℕ)) (first later : List ℕ) → AppendsFront before after first → AppendsFront before after (first ++ later)
+pub front-longer : (before after : Option (List ℕ)) (first later : List ℕ)
+    → AppendsFront before after first → AppendsFront before after (first ++ later)
 front-longer before after first later (taken, put) =
-    let count : ℕ = min taken (length first) in
-    (count, subst (Appends before after) (sym (take-append-le count first later (omega arith) ∙ take_min taken first)) put)
+    let count : ℕ = min taken (length first) in (
+      count,
+      subst (Appends before after)
+          (sym (take-append-le count first later (omega arith) ∙ take_min taken first)) put,
+    )
 
 -- ---- a source
 
 -- what is taken behind something else
-pub takes-more : (before middle after : Option (List ℕ)) (first later : List ℕ) → Takes before middle first → Takes middle after later → Takes before after (first ++ later)
+pub takes-more : (before middle after : Option (List ℕ)) (first later : List ℕ)
+    → Takes before middle first → Takes middle after later → Takes before after (first ++ later)
 takes-more None middle after first later took more = tt
 takes-more (Some start) None after first later took more = absurd took
 takes-more (Some start) (Some left) None first later took more = absurd more
@@ -48,14 +60,16 @@ takes-none None = tt
 takes-none (Some left) = refl
 
 -- at its end all was taken that a source told
-pub takes-all : (before after : Option (List ℕ)) (taken : List ℕ) → Takes before after taken → IsEndOf after 0 → IsGiven before taken
+pub takes-all : (before after : Option (List ℕ)) (taken : List ℕ) → Takes before after taken
+    → IsEndOf after 0 → IsGiven before taken
 takes-all None after taken took ends = tt
 takes-all (Some told) None taken took ends = absurd took
 takes-all (Some told) (Some rest) taken took ends =
     sym (took ∙ ap (λ left. taken ++ left) (ends.0 refl) ∙ append-nil taken)
 
 -- what was taken is the front of all that a source told
-pub takes-front : (before after : Option (List ℕ)) (taken : List ℕ) → Takes before after taken → (rest : List ℕ) × IsGiven before (taken ++ rest)
+pub takes-front : (before after : Option (List ℕ)) (taken : List ℕ) → Takes before after taken
+    → (rest : List ℕ) × IsGiven before (taken ++ rest)
 takes-front None after taken took = ([], tt)
 takes-front (Some told) None taken took = absurd took
 takes-front (Some told) (Some rest) taken took = (rest, sym took)

@@ -1,7 +1,8 @@
 -- What a put does to the bytes that a sink tells.
 use Rattle.std.specs.Prelude.{◌≡◌, ℕ, List, ◌++◌, take, Option, Some, None, IsSomeAnd}
 
--- `bytes` now stand behind what was written before the call. A sink that stops telling claims nothing.
+-- `bytes` now stand behind what was written before the call. A sink that stops telling claims
+-- nothing.
 abbrev pub Appends : Option (List ℕ) → Option (List ℕ) → List ℕ → Type 0
 Appends before None bytes = Unit {0}
 Appends before (Some now) bytes = IsSomeAnd before (λ written. now ≡ written ++ bytes)

@@ -1,5 +1,6 @@
 //! Files that are loaded whole, by name.
-ghost use Rattle.std.specs.Prelude.{◌≡◌, ℕ, ◌<◌, ◌≤◌, length, Option, Err, IfSome, OnOk, OnErr, IsErrOf};
+ghost use Rattle.std.specs.Prelude.{◌≡◌, ℕ, ◌<◌, ◌≤◌, length, Option, Err, IfSome, OnOk, OnErr};
+ghost use Rattle.std.specs.Prelude.{IsErrOf};
 ghost use Rattle.outside.specs.Files.{Folder, LoadAnswers};
 
 use crate::faults::FileFault;
@@ -13,7 +14,8 @@ pub trait Files {
     /// How often it has failed.
     ghost faults: { Self → ℕ };
 
-    /// Puts the bytes of the file of this name in place of what `into` holds; at most `limit` bytes.
+    /// Puts the bytes of the file of this name in place of what `into` holds; at most `limit`
+    /// bytes.
     fn load(
         &mut self,
         alloc: Global,

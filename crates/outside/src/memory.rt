@@ -22,8 +22,8 @@ pub struct MemSource {
 }
 
 impl MemSource {
-    /// A source of these bytes, of which a read gives at most `piece`. `failing` lists the numbers of
-    /// the reads that are to fail, counted from 1; such a read takes nothing.
+    /// A source of these bytes, of which a read gives at most `piece`. `failing` lists the numbers
+    /// of the reads that are to fail, counted from 1; such a read takes nothing.
     pub fn new(bytes: Vec<u8>, piece: usize, failing: Vec<u64>) -> MemSource
         requires piece { 1 ≤ piece }
         ensures left { ⟦<MemSource as Source>⟧.left result ≡ Some bytes.items }
@@ -60,8 +60,9 @@ pub struct MemSink {
 }
 
 impl MemSink {
-    /// An empty sink. `failing` lists the numbers of the puts that are to fail, counted from 1; such
-    /// a put takes the first `taken` bytes of its piece, or the whole piece where it is shorter.
+    /// An empty sink. `failing` lists the numbers of the puts that are to fail, counted from 1;
+    /// such a put takes the first `taken` bytes of its piece, or the whole piece where it is
+    /// shorter.
     pub fn new(alloc: Global, failing: Vec<u64>, taken: usize) -> MemSink
         ensures empty { ⟦<MemSink as Sink>⟧.written result ≡ Some [] }
         ensures faultless { ⟦<MemSink as Sink>⟧.faults result ≡ 0 }

@@ -15,7 +15,8 @@ pub trait Sink {
     /// Writes the whole piece, or fails and may have written some of its front.
     fn put(&mut self, bytes: &[u8]) -> Result<(), Failed>
         ensures ok { OnOk result (Appends (written self.old) (written self.new) bytes.now) }
-        ensures failed { OnErr result (AppendsFront (written self.old) (written self.new) bytes.now) }
+        ensures failed { OnErr result
+            (AppendsFront (written self.old) (written self.new) bytes.now) }
         ensures count { faults self.old ≤ faults self.new }
         ensures rose { OnErr result (faults self.old < faults self.new) };
 }

@@ -1,5 +1,6 @@
 //! The bytes that a source in memory has still to give.
-ghost use Rattle.std.specs.Prelude.{◌≡◌, ℕ, ◌<◌, ◌≤◌, ◌↔◌, List, [], ◌++◌, drop, length, take, vec_len};
+ghost use Rattle.std.specs.Prelude.{◌≡◌, ℕ, ◌<◌, ◌≤◌, ◌↔◌, List, [], ◌++◌, drop, length, take};
+ghost use Rattle.std.specs.Prelude.{vec_len};
 
 use std::marker::Model;
 

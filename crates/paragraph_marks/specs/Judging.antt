@@ -6,8 +6,11 @@ use Rattle.word_cutter.specs.Runs.{LeavesLess, found_word, words_after}
 use Rattle.word_cutter.specs.declared.Rest.{Rest}
 use Rattle.paragraph_marks.specs.declared.judging.JudgedWord.{JudgedWord}
 
--- the first word of what was left of a paragraph has these characters, and this is what the lexicon says of it
-pub record IsNext (lexicon : Lexicon) (rest : Rest) (characters : List ℕ) (judged : JudgedWord) : Type 0 where
-  pub words : words_after lexicon.affixes.wordchars rest ≡ found_word characters judged.found ∷ words_after lexicon.affixes.wordchars judged.found.rest
+-- the first word of what was left of a paragraph has these characters, and this is what the lexicon
+-- says of it
+pub record IsNext (lexicon : Lexicon) (rest : Rest) (characters : List ℕ)
+    (judged : JudgedWord) : Type 0 where
+  pub words : words_after lexicon.affixes.wordchars rest ≡ found_word characters judged.found
+      ∷ words_after lexicon.affixes.wordchars judged.found.rest
   pub known : judged.is_known ≡ yields lexicon characters
   pub less : LeavesLess rest judged.found

@@ -23,7 +23,8 @@ mark_at word = record { from = word.from; to = word.to; word = encode_utf8_all w
 abbrev pub marks_among : Lexicon → List Word → List Mark
 marks_among lexicon words = map mark_at (filter (is_marked lexicon) words)
 
--- a text, by its bytes, that was checked by a judge: its marks are those of the text under the judge's lexicon
+-- a text, by its bytes, that was checked by a judge: its marks are those of the text under the
+-- judge's lexicon
 pub record CheckedBy (J : Type 0) : Type 0 where
   pub judge : J
   pub text : List ℕ

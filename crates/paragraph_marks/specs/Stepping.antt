@@ -12,16 +12,19 @@ use Rattle.paragraph_marks.specs.declared.stepping.SoFar.{SoFar}
 
 -- the words of the text from the byte on where checking goes on
 abbrev pub words_left : Lexicon → List ℕ → SoFar → List Word
-words_left lexicon text so_far = words_from lexicon.affixes.wordchars so_far.at so_far.before (drop so_far.at text)
+words_left lexicon text so_far =
+    words_from lexicon.affixes.wordchars so_far.at so_far.before (drop so_far.at text)
 
 -- the words that are left to judge
 unfoldable pub left_of : Lexicon → List ℕ → Progress → List Word
 left_of lexicon text (Going so_far) = words_left lexicon text so_far
 left_of lexicon text (Finished marks) = []
 
--- The marks so far, and those among the words that are left, of which there are some, are the marks of the text.
+-- The marks so far, and those among the words that are left, of which there are some, are the marks
+-- of the text.
 pub record GoesOnIn (lexicon : Lexicon) (text : List ℕ) (so_far : SoFar) : Type 0 where
-  pub marks : so_far.marks.items ++ marks_among lexicon (words_left lexicon text so_far) ≡ marks_in lexicon (chars text)
+  pub marks : so_far.marks.items ++ marks_among lexicon (words_left lexicon text so_far)
+      ≡ marks_in lexicon (chars text)
   pub some : has_some (words_left lexicon text so_far) ≡ true
   pub within : so_far.at ≤ length text
   pub place : IsUtf8 (drop so_far.at text)

@@ -1,5 +1,6 @@
-//! Threads may have what is checked, and may be lent it, where they may have the judge. Where a field forbids it, the proof of this
-//! crate fails, and not first that of a program that starts threads.
+//! Threads may have what is checked, and may be lent it, where they may have the judge. Where a
+//! field forbids it, the proof of this crate fails, and not first that of a program that starts
+//! threads.
 
 use crate::stepping::{Checked, Checking};
 use mark_types::Judge;

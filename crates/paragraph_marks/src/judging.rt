@@ -1,6 +1,7 @@
 //! Judges the words of a paragraph one after another.
 
-ghost use Rattle.std.specs.Prelude.{◌≡◌, ◌+◌, ◌<◌, ◌≤◌, ◌^◌, [], ◌∷◌, ◌++◌, IfNone, IfOk, IfSome, OnOk, encode_utf8_all, drop, take, length, if◌then◌else◌};
+ghost use Rattle.std.specs.Prelude.{◌≡◌, ◌+◌, ◌<◌, ◌≤◌, ◌^◌, [], ◌∷◌, ◌++◌, IfNone, IfOk, IfSome};
+ghost use Rattle.std.specs.Prelude.{OnOk, encode_utf8_all, drop, take, length, if◌then◌else◌};
 ghost use Rattle.std.specs.Str.{chars};
 ghost use Rattle.std.specs.String.{string_bytes};
 ghost use Rattle.mark_types.specs.Words.{words_of};
@@ -38,8 +39,8 @@ struct JudgedWord<'a> {
     is_known: bool,
 }
 
-/// The marks of a paragraph, rising: the words that the asker's dictionary does not generate. A text without such a word
-/// needs no memory for its marks.
+/// The marks of a paragraph, rising: the words that the asker's dictionary does not generate. A
+/// text without such a word needs no memory for its marks.
 pub fn check<K: Asker>(alloc: Global, asker: &mut K, text: &str) -> Result<Marks, NoMemory>
     requires small { length text.now < 2 ^ 32 }
     ensures marks { IfOk result (λ marks. marks ≡ marks_in (K.lexicon asker.old) (chars text.now)) }
@@ -56,8 +57,11 @@ pub fn check_counted<K: Asker>(
     text: &str,
 ) -> Result<Counted, NoMemory>
     requires small { length text.now < 2 ^ 32 }
-    ensures marks { IfOk result (λ counted. counted.marks ≡ marks_in (K.lexicon asker.old) (chars text.now)) }
-    ensures words { IfOk result (λ counted. counted.words ≡ length (words_of (K.lexicon asker.old).affixes.wordchars (chars text.now))) }
+    ensures marks { IfOk result
+        (λ counted. counted.marks ≡ marks_in (K.lexicon asker.old) (chars text.now)) }
+    ensures words { IfOk result
+        (λ counted. counted.words
+        ≡ length (words_of (K.lexicon asker.old).affixes.wordchars (chars text.now))) }
     ensures few { IfOk result (λ counted. counted.words ≤ length text.now) }
     ensures fewer { IfOk result (λ counted. length counted.marks ≤ counted.words) }
     ensures same { K.lexicon asker.new ≡ K.lexicon asker.old }
@@ -73,7 +77,8 @@ pub fn check_counted<K: Asker>(
     })
 }
 
-/// Adds the marks of so many next words of a paragraph, or of all that are left, and gives what is left behind them.
+/// Adds the marks of so many next words of a paragraph, or of all that are left, and gives what is
+/// left behind them.
 pub fn judge_words<'a, K: Asker>(
     alloc: Global,
     asker: &mut K,
@@ -82,10 +87,12 @@ pub fn judge_words<'a, K: Asker>(
     marks: &mut Vec<Mark>,
 ) -> Result<Passed<'a>, NoMemory>
     requires small { rest.at + length rest.text.now < 2 ^ 32 }
-    ensures left { IfOk result (λ passed. words_after (K.lexicon asker.old).affixes.wordchars passed.left
+    ensures left { IfOk result
+        (λ passed. words_after (K.lexicon asker.old).affixes.wordchars passed.left
         ≡ drop words (words_after (K.lexicon asker.old).affixes.wordchars rest.entry)) }
     ensures marks { OnOk result (marks.new.items
-        ≡ marks.old.items ++ marks_among (K.lexicon asker.old) (take words (words_after (K.lexicon asker.old).affixes.wordchars rest.entry))) }
+        ≡ marks.old.items ++ marks_among (K.lexicon asker.old)
+        (take words (words_after (K.lexicon asker.old).affixes.wordchars rest.entry))) }
     ensures count { IfOk result (λ passed. passed.words
         ≡ length (take words (words_after (K.lexicon asker.old).affixes.wordchars rest.entry))) }
     ensures few { IfOk result (λ passed. rest.entry.at + passed.words ≤ passed.left.at) }
@@ -109,8 +116,9 @@ pub fn judge_words<'a, K: Asker>(
     Ok(Passed { left, words })
 }
 
-/// Judges the first word of what is left of a paragraph. Its characters are put where those of another word stood, so that
-/// a walk over a paragraph decodes it once, and needs no more memory than its longest word.
+/// Judges the first word of what is left of a paragraph. Its characters are put where those of
+/// another word stood, so that a walk over a paragraph decodes it once, and needs no more memory
+/// than its longest word.
 fn next_judged<'a, K: Asker>(
     alloc: Global,
     asker: &mut K,
@@ -118,8 +126,11 @@ fn next_judged<'a, K: Asker>(
     word: &mut Vec<char>,
 ) -> Result<Option<JudgedWord<'a>>, NoMemory>
     requires small { rest.at + length rest.text.now < 2 ^ 32 }
-    ensures none { IfOk result (λ judged. IfNone judged (words_after (K.lexicon asker.old).affixes.wordchars rest.entry ≡ [])) }
-    ensures next { IfOk result (λ judged. IfSome judged (IsNext (K.lexicon asker.old) rest.entry word.new.items)) }
+    ensures none { IfOk result
+        (λ judged. IfNone judged
+        (words_after (K.lexicon asker.old).affixes.wordchars rest.entry ≡ [])) }
+    ensures next { IfOk result
+        (λ judged. IfSome judged (IsNext (K.lexicon asker.old) rest.entry word.new.items)) }
     ensures same { K.lexicon asker.new ≡ K.lexicon asker.old }
 {
     match next_word(asker.wordchars(), rest, word)? {
@@ -131,14 +142,18 @@ fn next_judged<'a, K: Asker>(
     }
 }
 
-/// Adds the mark of a judged word, which has these characters, if the dictionary does not generate it.
+/// Adds the mark of a judged word, which has these characters, if the dictionary does not generate
+/// it.
 fn add_mark(
     alloc: Global,
     marks: &mut Vec<Mark>,
     judged: &JudgedWord<'_>,
     word: &[char],
 ) -> Result<(), NoMemory>
-    ensures { OnOk result (marks.new.items ≡ marks.old.items ++ (if judged.now.is_known then [] else mark_at (found_word word.now judged.now.found) ∷ [])) }
+    ensures { OnOk result
+        (marks.new.items ≡ marks.old.items
+        ++ (if judged.now.is_known then [] else mark_at (found_word word.now judged.now.found)
+        ∷ [])) }
 {
     if !judged.is_known {
         let mut text = String::new(alloc);
@@ -153,7 +168,8 @@ fn add_mark(
 }
 
 fn push_characters(text: &mut String, characters: &[char]) -> Result<(), AllocError>
-    ensures { OnOk result (string_bytes text.new ≡ string_bytes text.old ++ encode_utf8_all characters.now) }
+    ensures { OnOk result
+        (string_bytes text.new ≡ string_bytes text.old ++ encode_utf8_all characters.now) }
 {
     for c in characters {
         text.push(*c)?;

@@ -1,6 +1,7 @@
 //! A paragraph that is checked some words at a time.
 
-ghost use Rattle.std.specs.Prelude.{◌≡◌, ◌<◌, ◌^◌, ◌≤◌, [], ◌++◌, true, not, IfErr, IfOk, OnErr, OnOk, drop, length};
+ghost use Rattle.std.specs.Prelude.{◌≡◌, ◌<◌, ◌^◌, ◌≤◌, [], ◌++◌, true, not, IfErr, IfOk, OnErr};
+ghost use Rattle.std.specs.Prelude.{OnOk, drop, length};
 ghost use Rattle.std.specs.Arc.{arc_value};
 ghost use Rattle.std.specs.Str.{IsUtf8, chars};
 ghost use Rattle.mark_types.specs.Words.{words_of};
@@ -17,8 +18,8 @@ use std::sync::Arc;
 use text_lines::Text;
 use word_cutter::{Rest, has_word};
 
-/// A judge, a text and its marks by the judge's dictionary, all shared. Contracts see the judge and the text, which the
-/// marks follow from.
+/// A judge, a text and its marks by the judge's dictionary, all shared. Contracts see the judge and
+/// the text, which the marks follow from.
 #[derive(Drop)]
 pub struct Checked<J: Judge> {
     judge: Arc<J>,
@@ -34,9 +35,11 @@ impl<J: Judge> Model for Checked<J> {
 
     ghost Value = { CheckedBy J };
 
-    ghost view = { λ inside. record { judge = arc_value inside.judge; text = arc_value inside.text } };
+    ghost view = { λ inside.
+        record { judge = arc_value inside.judge; text = arc_value inside.text } };
 
-    ghost invariant = { λ inside. arc_value inside.marks ≡ marks_in (J.lexicon (arc_value inside.judge)) (chars (arc_value inside.text)) };
+    ghost invariant = { λ inside. arc_value inside.marks ≡ marks_in (J.lexicon (arc_value inside.judge))
+        (chars (arc_value inside.text)) };
 }
 
 impl<J: Judge> Checked<J> {
@@ -61,7 +64,8 @@ impl<J: Judge + Drop> Checked<J> {
     }
 }
 
-/// A text that is checked by a judge, some words at a time. Contracts see the judge, the text and the words that are left.
+/// A text that is checked by a judge, some words at a time. Contracts see the judge, the text and
+/// the words that are left.
 #[derive(Drop)]
 pub struct Checking<J: Judge> {
     judge: Arc<J>,
@@ -102,7 +106,8 @@ impl<J: Judge> Model for Checking<J> {
       left = left_of (J.lexicon (arc_value inside.judge)) (arc_value inside.text) inside.progress;
     } };
 
-    ghost invariant = { λ inside. IsProgress (J.lexicon (arc_value inside.judge)) (arc_value inside.text) inside.progress };
+    ghost invariant = { λ inside. IsProgress (J.lexicon (arc_value inside.judge)) (arc_value inside.text)
+        inside.progress };
 }
 
 impl<J: Judge + Drop> Checking<J> {
@@ -122,8 +127,8 @@ impl<J: Judge + Drop> Checking<J> {
         })
     }
 
-    /// Judges so many next words, or all that are left, and tells whether none is left. Where memory is wanting, it is as it
-    /// was before the step.
+    /// Judges so many next words, or all that are left, and tells whether none is left. Where
+    /// memory is wanting, it is as it was before the step.
     pub fn step<K: Asker>(
         &mut self,
         alloc: Global,
@@ -131,7 +136,8 @@ impl<J: Judge + Drop> Checking<J> {
         words: u32,
     ) -> Result<bool, NoMemory>
         requires { K.lexicon asker.old ≡ J.lexicon self.old.judge }
-        ensures left { OnOk result (self.new ≡ record self.old { left = drop words self.old.left }) }
+        ensures left { OnOk result
+            (self.new ≡ record self.old { left = drop words self.old.left }) }
         ensures ended { IfOk result (λ ended. ended ≡ not (has_some self.new.left)) }
         ensures err { OnErr result (self.new ≡ self.old) }
         ensures same { K.lexicon asker.new ≡ K.lexicon asker.old }
@@ -142,7 +148,8 @@ impl<J: Judge + Drop> Checking<J> {
     /// What was checked, where no word is left; else itself.
     #[tactic(auto, unfolding(crate::specs::Stepping::left_of, crate::specs::Stepping::IsProgress))]
     pub fn done(self) -> Result<Checked<J>, Checking<J>>
-        ensures checked { IfOk result (λ checked. checked ≡ record { judge = self.judge; text = self.text }) }
+        ensures checked { IfOk result
+            (λ checked. checked ≡ record { judge = self.judge; text = self.text }) }
         ensures none { IfOk result (λ checked. self.left ≡ []) }
         ensures same { IfErr result (λ checking. checking ≡ self) }
         ensures some { IfErr result (λ checking. has_some self.left ≡ true) }
@@ -195,9 +202,14 @@ fn step_over<K: Asker>(
 ) -> Result<bool, NoMemory>
     requires is { IsProgress (K.lexicon asker.old) text.now progress.old }
     ensures is { IsProgress (K.lexicon asker.old) text.now progress.new }
-    ensures left { OnOk result (left_of (K.lexicon asker.old) text.now progress.new ≡ drop words (left_of (K.lexicon asker.old) text.now progress.old)) }
-    ensures ended { IfOk result (λ ended. ended ≡ not (has_some (left_of (K.lexicon asker.old) text.now progress.new))) }
-    ensures err { OnErr result (left_of (K.lexicon asker.old) text.now progress.new ≡ left_of (K.lexicon asker.old) text.now progress.old) }
+    ensures left { OnOk result
+        (left_of (K.lexicon asker.old) text.now progress.new
+        ≡ drop words (left_of (K.lexicon asker.old) text.now progress.old)) }
+    ensures ended { IfOk result
+        (λ ended. ended ≡ not (has_some (left_of (K.lexicon asker.old) text.now progress.new))) }
+    ensures err { OnErr result
+        (left_of (K.lexicon asker.old) text.now progress.new ≡ left_of (K.lexicon asker.old)
+        text.now progress.old) }
     ensures same { K.lexicon asker.new ≡ K.lexicon asker.old }
 {
     let Progress::Going(so_far) = progress else {

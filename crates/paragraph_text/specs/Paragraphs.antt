@@ -1,9 +1,11 @@
--- Paragraphs in order: what one is, how a document opens, and what every list meets that may be edited.
+-- Paragraphs in order: what one is, how a document opens, and what every list meets that may be
+-- edited.
 use Rattle.std.specs.Prelude.{◌≡◌, ℕ, ◌+◌, ◌<◌, ◌≤◌, List, [], ◌∷◌, length}
 use Rattle.std.specs.List.{AllByRecursion}
 use Rattle.paragraph_text.specs.declared.limits.TheConstants.{MOST_BYTES, MOST_PARAGRAPHS}
 
--- its id is its own for ever, its rev the version of the text that last touched it; the text is bytes
+-- its id is its own for ever, its rev the version of the text that last touched it; the text is
+-- bytes
 pub record Paragraph : Type 0 where
   pub id : ℕ
   pub rev : ℕ
@@ -12,12 +14,14 @@ pub record Paragraph : Type 0 where
 -- the paragraphs of texts in their order, with ids from a number on, which nothing has touched
 abbrev pub numbered_from : ℕ → List (List ℕ) → List Paragraph
 numbered_from id [] = []
-numbered_from id (text ∷ texts) = record { id = id; rev = 0; text = text } ∷ numbered_from (id + 1) texts
+numbered_from id (text ∷ texts) =
+    record { id = id; rev = 0; text = text } ∷ numbered_from (id + 1) texts
 
 -- no id stands twice
 abbrev pub HaveOwnIds : List Paragraph → Type 0
 HaveOwnIds [] = Unit {0}
-HaveOwnIds (paragraph ∷ others) = AllByRecursion (λ other. ¬ (other.id ≡ paragraph.id)) others × HaveOwnIds others
+HaveOwnIds (paragraph ∷ others) =
+    AllByRecursion (λ other. ¬ (other.id ≡ paragraph.id)) others × HaveOwnIds others
 
 -- no byte is a line feed
 abbrev pub HasNoBreak : List ℕ → Type 0

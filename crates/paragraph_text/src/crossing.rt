@@ -1,5 +1,5 @@
-//! Threads may have paragraphs and edits, and may be lent them. Where a field forbids it, the proof of this crate fails, and not first
-//! that of a program that starts threads.
+//! Threads may have paragraphs and edits, and may be lent them. Where a field forbids it, the proof
+//! of this crate fails, and not first that of a program that starts threads.
 
 use crate::edits::Edit;
 use crate::list::{Para, Paragraphs};

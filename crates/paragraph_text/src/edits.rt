@@ -1,12 +1,19 @@
 //! Edits of a list of paragraphs, and why one is refused.
 
-ghost use Rattle.std.specs.Prelude.{◌≡◌, ◌==◌, ◌+◌, ◌≤◌, ◌<◌, List, ℕ, length, position, Some, None, MatchOption, IfOk, IfErr, OnOk};
+ghost use Rattle.std.specs.Prelude.{◌≡◌, ◌==◌, ◌+◌, ◌≤◌, ◌<◌, List, ℕ, length, position, Some};
+ghost use Rattle.std.specs.Prelude.{None, MatchOption, IfOk, IfErr, OnOk};
 ghost use Rattle.std.specs.Arc.{arc_value};
 ghost use Rattle.std.specs.List.{AllByRecursion};
 ghost use Rattle.std.specs.Option.{option_and_then};
 ghost use Rattle.lists.specs.Answers.{IsDueOr};
-ghost use Rattle.paragraph_text.specs.Paragraphs.{AreValid, HasNoBreak, HaveOwnIds, Paragraph, numbered_from};
-ghost use Rattle.paragraph_text.specs.Edits.{Applies, Inserts, IsChanged, IsDecided, IsFoundAt, IsGap, IsSpliced, Removes, Replaces, behind, break_in, entry_refusal, first_refusal, gone_before, gone_or, is_edge, is_span, kept_after, named_by, named_place, next_id_after, place_of, splice_refusal, too_long, with_id};
+ghost use Rattle.paragraph_text.specs.Paragraphs.{AreValid, HasNoBreak, HaveOwnIds, Paragraph};
+ghost use Rattle.paragraph_text.specs.Paragraphs.{numbered_from};
+ghost use Rattle.paragraph_text.specs.Edits.{Applies, Inserts, IsChanged, IsDecided, IsFoundAt};
+ghost use Rattle.paragraph_text.specs.Edits.{IsGap, IsSpliced, Removes, Replaces, behind, break_in};
+ghost use Rattle.paragraph_text.specs.Edits.{entry_refusal, first_refusal, gone_before, gone_or};
+ghost use Rattle.paragraph_text.specs.Edits.{is_edge, is_span, kept_after, named_by, named_place};
+ghost use Rattle.paragraph_text.specs.Edits.{next_id_after, place_of, splice_refusal, too_long};
+ghost use Rattle.paragraph_text.specs.Edits.{with_id};
 ghost use Rattle.paragraph_text.specs.declared.edits.Edit.{Edit};
 ghost use Rattle.paragraph_text.specs.declared.edits.Edit.TheVariants.{Insert, Remove, Replace};
 ghost use Rattle.paragraph_text.specs.declared.edits.EditRefusal.TheVariants.{NoMemory as OutOfMemory};
@@ -19,8 +26,8 @@ use std::alloc::{AllocError, Global};
 use std::sync::Arc;
 use text_lines::Text;
 
-/// What a writer asks for. A paragraph is named by its id, and where its text is meant by its rev too. Places are bytes of the
-/// text, from 0 on.
+/// What a writer asks for. A paragraph is named by its id, and where its text is meant by its rev
+/// too. Places are bytes of the text, from 0 on.
 #[derive(Debug, Drop)]
 pub enum Edit {
     /// The bytes from `from` up to `to` of a paragraph become a text. Both lie between characters.
@@ -91,8 +98,9 @@ impl From<AllocError> for EditRefusal {
     }
 }
 
-/// The list that an edit makes, where `version` is the next version and `next_id` the next id. The list before it stays
-/// as it is. The touched paragraph has rev `version`, one that is put in has id `next_id`.
+/// The list that an edit makes, where `version` is the next version and `next_id` the next id. The
+/// list before it stays as it is. The touched paragraph has rev `version`, one that is put in has
+/// id `next_id`.
 pub fn apply(
     alloc: Global,
     paragraphs: &Paragraphs,
@@ -102,14 +110,15 @@ pub fn apply(
 ) -> Result<Paragraphs, EditRefusal>
     ensures applied { IfOk result (Applies version next_id paragraphs.now edit.now) }
     ensures refused { IfErr result (IsDueOr OutOfMemory (first_refusal paragraphs.now edit.now)) }
-    ensures kept { AreValid version next_id paragraphs.now → IfOk result (AreValid (version + 1) (next_id_after next_id edit.now)) }
+    ensures kept { AreValid version next_id paragraphs.now
+        → IfOk result (AreValid (version + 1) (next_id_after next_id edit.now)) }
 {
     let place = place_named(paragraphs, edit);
     apply_at(alloc, paragraphs, version, next_id, edit, place)
 }
 
-/// The same list, of paragraphs whose ids are distinct. The paragraph that the edit names is looked for at `near` first; where it
-/// stands there no other is looked at.
+/// The same list, of paragraphs whose ids are distinct. The paragraph that the edit names is looked
+/// for at `near` first; where it stands there no other is looked at.
 pub fn apply_near(
     alloc: Global,
     paragraphs: &Paragraphs,
@@ -121,14 +130,15 @@ pub fn apply_near(
     requires { HaveOwnIds paragraphs.now }
     ensures applied { IfOk result (Applies version next_id paragraphs.now edit.now) }
     ensures refused { IfErr result (IsDueOr OutOfMemory (first_refusal paragraphs.now edit.now)) }
-    ensures kept { AreValid version next_id paragraphs.now → IfOk result (AreValid (version + 1) (next_id_after next_id edit.now)) }
+    ensures kept { AreValid version next_id paragraphs.now
+        → IfOk result (AreValid (version + 1) (next_id_after next_id edit.now)) }
 {
     let place = place_named_near(paragraphs, edit, near);
     apply_at(alloc, paragraphs, version, next_id, edit, place)
 }
 
-/// What is kept beside each paragraph, behind an edit: `new` for the paragraph that it touches, and for all others what they had. The
-/// paragraph that the edit names is looked for at `near` first.
+/// What is kept beside each paragraph, behind an edit: `new` for the paragraph that it touches, and
+/// for all others what they had. The paragraph that the edit names is looked for at `near` first.
 pub fn kept_beside<T: Copied + Drop>(
     alloc: Global,
     paragraphs: &Paragraphs,
@@ -171,7 +181,8 @@ fn place_named_near(paragraphs: &Paragraphs, edit: &Edit, near: usize) -> Option
     }
 }
 
-/// The list that an edit makes, where the paragraph that it names stands at this place, or none does.
+/// The list that an edit makes, where the paragraph that it names stands at this place, or none
+/// does.
 fn apply_at(
     alloc: Global,
     paragraphs: &Paragraphs,
@@ -183,7 +194,8 @@ fn apply_at(
     requires { place ≡ named_place paragraphs.now edit.now }
     ensures applied { IfOk result (Applies version next_id paragraphs.now edit.now) }
     ensures refused { IfErr result (IsDueOr OutOfMemory (first_refusal paragraphs.now edit.now)) }
-    ensures kept { AreValid version next_id paragraphs.now → IfOk result (AreValid (version + 1) (next_id_after next_id edit.now)) }
+    ensures kept { AreValid version next_id paragraphs.now
+        → IfOk result (AreValid (version + 1) (next_id_after next_id edit.now)) }
 {
     match edit {
         Edit::Replace {
@@ -244,8 +256,11 @@ fn replace(
     put: &str,
 ) -> Result<Paragraphs, EditRefusal>
     requires { named.place ≡ place_of named.id paragraphs.now }
-    ensures applied { IfOk result (Replaces version paragraphs.now named.id named.rev span.from span.to put.now) }
-    ensures refused { IfErr result (IsDueOr OutOfMemory (first_refusal paragraphs.now (Replace named.id named.rev span.from span.to put.now))) }
+    ensures applied { IfOk result
+        (Replaces version paragraphs.now named.id named.rev span.from span.to put.now) }
+    ensures refused { IfErr result
+        (IsDueOr OutOfMemory
+        (first_refusal paragraphs.now (Replace named.id named.rev span.from span.to put.now))) }
 {
     let (place, old) = current(paragraphs, named)?;
     let text = splice(alloc, old.text.as_str(), span, put)?;
@@ -269,7 +284,8 @@ fn insert(
 ) -> Result<Paragraphs, EditRefusal>
     requires { place ≡ option_and_then (λ id. place_of id paragraphs.now) before }
     ensures applied { IfOk result (Inserts version next_id paragraphs.now before put.now) }
-    ensures refused { IfErr result (IsDueOr OutOfMemory (first_refusal paragraphs.now (Insert before put.now))) }
+    ensures refused { IfErr result
+        (IsDueOr OutOfMemory (first_refusal paragraphs.now (Insert before put.now))) }
 {
     let place = gap(paragraphs, before, place)?;
     check_entry(paragraphs, put)?;
@@ -285,7 +301,8 @@ fn insert(
 fn remove(alloc: Global, paragraphs: &Paragraphs, named: Named) -> Result<Paragraphs, EditRefusal>
     requires { named.place ≡ place_of named.id paragraphs.now }
     ensures applied { IfOk result (Removes paragraphs.now named.id named.rev) }
-    ensures refused { IfErr result (IsDueOr OutOfMemory (first_refusal paragraphs.now (Remove named.id named.rev))) }
+    ensures refused { IfErr result
+        (IsDueOr OutOfMemory (first_refusal paragraphs.now (Remove named.id named.rev))) }
 {
     let (place, _) = current(paragraphs, named)?;
     Ok(paragraphs.removed(alloc, place)?)
@@ -294,8 +311,12 @@ fn remove(alloc: Global, paragraphs: &Paragraphs, named: Named) -> Result<Paragr
 /// The paragraph that is named, if it has the rev that it is to have, and its place.
 fn current(paragraphs: &Paragraphs, named: Named) -> Result<(usize, &Para), EditRefusal>
     requires { named.place ≡ place_of named.id paragraphs.now }
-    ensures found { IfOk result (λ found. IsFoundAt paragraphs.now named.id found.0 found.1.now × (found.1.now.rev ≡ named.rev)) }
-    ensures refused { IfErr result (λ refusal. gone_or named.id paragraphs.now (λ touched. behind touched named.rev) ≡ Some refusal) }
+    ensures found { IfOk result
+        (λ found. IsFoundAt paragraphs.now named.id found.0 found.1.now
+        × (found.1.now.rev ≡ named.rev)) }
+    ensures refused { IfErr result
+        (λ refusal. gone_or named.id paragraphs.now (λ touched. behind touched named.rev)
+        ≡ Some refusal) }
 {
     match found(paragraphs, named) {
         None => Err(EditRefusal::Gone { id: named.id }),
@@ -307,7 +328,8 @@ fn current(paragraphs: &Paragraphs, named: Named) -> Result<(usize, &Para), Edit
 /// The paragraph that is named, and its place.
 fn found(paragraphs: &Paragraphs, named: Named) -> Option<(usize, &Para)>
     requires { named.place ≡ place_of named.id paragraphs.now }
-    ensures { MatchOption result (with_id named.id paragraphs.now ≡ None) (λ found. IsFoundAt paragraphs.now named.id found.0 found.1.now) }
+    ensures { MatchOption result (with_id named.id paragraphs.now ≡ None)
+        (λ found. IsFoundAt paragraphs.now named.id found.0 found.1.now) }
 {
     match named.place {
         None => None,
@@ -318,7 +340,8 @@ fn found(paragraphs: &Paragraphs, named: Named) -> Option<(usize, &Para)>
     }
 }
 
-/// The place before which a paragraph is put, where the one that is named stands at a place, or none is.
+/// The place before which a paragraph is put, where the one that is named stands at a place, or
+/// none is.
 fn gap(
     paragraphs: &Paragraphs,
     before: Option<u64>,
@@ -344,7 +367,8 @@ fn check_entry(paragraphs: &Paragraphs, put: &str) -> Result<(), EditRefusal>
     ensures short { OnOk result (length put.now ≤ MOST_BYTES) }
     ensures room { OnOk result (length paragraphs.now < MOST_PARAGRAPHS) }
     ensures passed { OnOk result (entry_refusal paragraphs.now put.now ≡ None) }
-    ensures refused { IfErr result (λ refusal. entry_refusal paragraphs.now put.now ≡ Some refusal) }
+    ensures refused { IfErr result
+        (λ refusal. entry_refusal paragraphs.now put.now ≡ Some refusal) }
 {
     check_break(put)?;
     check_length(put.len())?;
@@ -392,8 +416,10 @@ fn check_length(size: usize) -> Result<(), EditRefusal>
 
 /// A text with a part of it replaced.
 fn splice(alloc: Global, old: &str, span: Span, put: &str) -> Result<Arc<Text>, EditRefusal>
-    ensures made { IfOk result (λ made. IsSpliced old.now span.from span.to put.now (arc_value made)) }
-    ensures refused { IfErr result (IsDueOr OutOfMemory (splice_refusal old.now span.from span.to put.now)) }
+    ensures made { IfOk result
+        (λ made. IsSpliced old.now span.from span.to put.now (arc_value made)) }
+    ensures refused { IfErr result
+        (IsDueOr OutOfMemory (splice_refusal old.now span.from span.to put.now)) }
 {
     if !is_span(old, span) {
         return Err(EditRefusal::BadSpan {
@@ -434,21 +460,28 @@ fn shared(alloc: Global, text: &str) -> Result<Arc<Text>, NoMemory>
 
 /// An edit makes its list by the change that it is of the paragraphs, whose ids are distinct.
 pub fn edits_are_changes()
-    ensures { (version next_id : ℕ) (paragraphs after : List Paragraph) (edit : Edit) → HaveOwnIds paragraphs
+    ensures { (version next_id : ℕ) (paragraphs after : List Paragraph) (edit : Edit)
+        → HaveOwnIds paragraphs
         → Applies version next_id paragraphs edit after → IsChanged paragraphs edit after }
 {}
 
-/// Where a list meets what is asked of it, each edit makes exactly one list, or has exactly one refusal, and never both; and the
-/// list that it makes meets the same with the next version and the next id.
+/// Where a list meets what is asked of it, each edit makes exactly one list, or has exactly one
+/// refusal, and never both; and the list that it makes meets the same with the next version and the
+/// next id.
 pub fn edits_are_decided()
-    ensures decided { (version next_id : ℕ) (paragraphs : List Paragraph) (edit : Edit) → AreValid version next_id paragraphs
+    ensures decided { (version next_id : ℕ) (paragraphs : List Paragraph) (edit : Edit)
+        → AreValid version next_id paragraphs
         → IsDecided version next_id paragraphs edit }
-    ensures kept { (version next_id : ℕ) (paragraphs after : List Paragraph) (edit : Edit) → AreValid version next_id paragraphs
-        → Applies version next_id paragraphs edit after → AreValid (version + 1) (next_id_after next_id edit) after }
+    ensures kept { (version next_id : ℕ) (paragraphs after : List Paragraph) (edit : Edit)
+        → AreValid version next_id paragraphs
+        → Applies version next_id paragraphs edit after
+        → AreValid (version + 1) (next_id_after next_id edit) after }
 {}
 
-/// The paragraphs of at most 20,000 texts meet what is asked of a list, if each text has at most 65,536 bytes and no line feed.
+/// The paragraphs of at most 20,000 texts meet what is asked of a list, if each text has at most
+/// 65,536 bytes and no line feed.
 pub fn openings_are_valid()
-    ensures { (texts : List (List ℕ)) → length texts ≤ MOST_PARAGRAPHS → AllByRecursion (λ text. (length text ≤ MOST_BYTES) × HasNoBreak text) texts
+    ensures { (texts : List (List ℕ)) → length texts ≤ MOST_PARAGRAPHS
+        → AllByRecursion (λ text. (length text ≤ MOST_BYTES) × HasNoBreak text) texts
         → AreValid 1 (length texts) (numbered_from 0 texts) }
 {}

@@ -1,4 +1,5 @@
-//! A document's paragraphs, which are edited in versions: each edit gives a new list, and the old one stays as it is.
+//! A document's paragraphs, which are edited in versions: each edit gives a new list, and the old
+//! one stays as it is.
 #![tactic(auto)]
 
 mod crossing;

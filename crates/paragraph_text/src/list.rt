@@ -1,6 +1,7 @@
 //! Paragraphs, and lists of them whose versions share what an edit does not touch.
 
-ghost use Rattle.std.specs.Prelude.{◌≡◌, ◌<◌, ◌≤◌, ◌==◌, length, position, slice_get, slice_set, IfOk};
+ghost use Rattle.std.specs.Prelude.{◌≡◌, ◌<◌, ◌≤◌, ◌==◌, length, position, slice_get, slice_set};
+ghost use Rattle.std.specs.Prelude.{IfOk};
 ghost use Rattle.std.specs.List.{insert, remove};
 ghost use Rattle.std.specs.Option.{option_copied};
 ghost use Rattle.paragraph_text.specs.Paragraphs.{HaveOwnIds, numbered_from};
@@ -11,8 +12,8 @@ use std::marker::Model;
 use std::sync::Arc;
 use text_lines::Text;
 
-/// A paragraph: its id, which no other has or had, the version of the text that last touched it, and its text, which
-/// versions of a list share.
+/// A paragraph: its id, which no other has or had, the version of the text that last touched it,
+/// and its text, which versions of a list share.
 #[derive(Debug, Drop)]
 pub struct Para {
     pub id: u64,
@@ -26,7 +27,8 @@ impl Model for Para {
 
     ghost Value = { Paragraph };
 
-    ghost view = { λ inside. record { id = inside.id; rev = inside.rev; text = arc_value inside.text } };
+    ghost view = { λ inside.
+        record { id = inside.id; rev = inside.rev; text = arc_value inside.text } };
 }
 
 impl Copied for Para {
@@ -101,7 +103,8 @@ impl Paragraphs {
         self.kept.iter()
     }
 
-    /// The place of the first paragraph with an id. It goes over the ids, chunk by chunk, and looks at no text.
+    /// The place of the first paragraph with an id. It goes over the ids, chunk by chunk, and looks
+    /// at no text.
     pub fn place_of(&self, id: u64) -> Option<usize>
         ensures { result ≡ position (λ paragraph. paragraph.id == id) self.now }
     {
@@ -110,8 +113,8 @@ impl Paragraphs {
         self.kept.iter().position(|para| para.id == id)
     }
 
-    /// The place of the paragraph with an id, where no id stands twice. It looks at the place `near` first, and goes over the ids
-    /// only where the paragraph does not stand there.
+    /// The place of the paragraph with an id, where no id stands twice. It looks at the place
+    /// `near` first, and goes over the ids only where the paragraph does not stand there.
     pub fn place_near(&self, id: u64, near: usize) -> Option<usize>
         requires { HaveOwnIds self.now }
         ensures { result ≡ position (λ paragraph. paragraph.id == id) self.now }

@@ -10,8 +10,9 @@ use std::process::Abort;
 use std::test::Fail;
 use text_lines::Text;
 
-/// Each row has how many paragraphs there are, all `hé`, three bytes; edits, the first of which makes version 1; a place; and what
-/// stands before it, there and behind it afterwards, or why the last edit is refused. In texts a slash is a line feed, and `N*` says how often.
+/// Each row has how many paragraphs there are, all `hé`, three bytes; edits, the first of which
+/// makes version 1; a place; and what stands before it, there and behind it afterwards, or why the
+/// last edit is refused. In texts a slash is a line feed, and `N*` says how often.
 const EDITS: &str = "
 1|put 0 0 0 3 a|0|- 0.1.a -
 1|ins 0 a|0|- 1.1.a 0.0.hé
@@ -217,7 +218,8 @@ fn edits_make_what_is_wanted(rt: HostRuntime) -> Result<(), Fail> {
     Ok(())
 }
 
-/// The list with a paragraph put before its first, whose id is one less. The version is one more than the id.
+/// The list with a paragraph put before its first, whose id is one less. The version is one more
+/// than the id.
 fn with_front(alloc: Global, paragraphs: &Paragraphs, id: u64) -> Result<Paragraphs, EditRefusal> {
     let edit = Edit::Insert {
         before: id.checked_sub(1),
@@ -235,7 +237,8 @@ fn without(alloc: Global, paragraphs: &Paragraphs, id: u64) -> Result<Paragraphs
     apply(alloc, paragraphs, 0, 0, &edit)
 }
 
-/// How long a list is after so many inserts, each at its front, and then after a removal of each, the last one first.
+/// How long a list is after so many inserts, each at its front, and then after a removal of each,
+/// the last one first.
 fn lengths(alloc: Global, count: u64) -> Result<(usize, usize), EditRefusal> {
     let mut paragraphs = opening(alloc, 0)?;
     for id in 0..count {
@@ -254,7 +257,8 @@ fn edits_follow_one_another(rt: HostRuntime) -> Result<(), Fail> {
     Ok(())
 }
 
-/// Each row has an edit of four paragraphs, all `hé`, as those above, and what comes of it, whatever place is looked at first.
+/// Each row has an edit of four paragraphs, all `hé`, as those above, and what comes of it,
+/// whatever place is looked at first.
 const EDITS_NEAR: &str = "
 put 2 0 0 3 a|2|1.0.hé 2.1.a 3.0.hé
 ins 2 a|2|1.0.hé 4.1.a 2.0.hé

@@ -1,5 +1,8 @@
 -- Rising lists of flags, and what is put into them.
-use Rattle.std.proofs.Common.{◌≡◌, ◌∙◌, refl, sym, ap, subst, ℕ, zero, suc, ◌<◌, ◌≤◌, ◌==◌, ◌||◌, Bool, true, false, List, [], ◌∷◌, length, get_or, slice_get, Some, Result, Ok, Err, is_ok, IfOk, IfErr, All, Contains, Any, insert, unwrap_or, eq-eqb, Less, Greater, arith, tests, ◌⊎◌, inl, inr, ⊎_elim}
+use Rattle.std.proofs.Common.{◌≡◌, ◌∙◌, refl, sym, ap, subst, ℕ, zero, suc, ◌<◌, ◌≤◌, ◌==◌, ◌||◌}
+use Rattle.std.proofs.Common.{Bool, true, false, List, [], ◌∷◌, length, get_or, slice_get, Some}
+use Rattle.std.proofs.Common.{Result, Ok, Err, is_ok, IfOk, IfErr, All, Contains, Any, insert}
+use Rattle.std.proofs.Common.{unwrap_or, eq-eqb, Less, Greater, arith, tests, ◌⊎◌, inl, inr, ⊎_elim}
 use Rattle.std.specs.List.Sorted.{IsPartitionPoint, IsBinarySearchResult}
 use Rattle.std.specs.Ordering.{nat_cmp, ordering_index}
 use Rattle.std.proofs.lemmas.Bool.{cases_lt}

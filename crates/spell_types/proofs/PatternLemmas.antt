@@ -1,8 +1,11 @@
 -- What a compound rule matches, by the sets that its first step stands for.
-use Rattle.std.proofs.Common.{◌≡◌, ◌∙◌, refl, sym, ap, subst, ℕ, suc, if◌then◌else◌, ◌+◌, ◌<◌, Bool, true, ◌&&◌, ◌||◌, List, [], ◌∷◌, ◌++◌, length, take, drop, arith, ◌⊎◌, inl, inr, length-append, zero-add}
+use Rattle.std.proofs.Common.{◌≡◌, ◌∙◌, refl, sym, ap, subst, ℕ, suc, if◌then◌else◌, ◌+◌, ◌<◌, Bool}
+use Rattle.std.proofs.Common.{true, ◌&&◌, ◌||◌, List, [], ◌∷◌, ◌++◌, length, take, drop, arith, ◌⊎◌}
+use Rattle.std.proofs.Common.{inl, inr, length-append, zero-add}
 use Rattle.std.specs.Cmp.{both_ways}
 use Rattle.std.specs.List.{AllByRecursion, list_all, range_with_len, Any}
-use Rattle.std.proofs.lemmas.Bool.{and_parts, and_from, or_cases, or_left, or_right, eqb-true, leb-true}
+use Rattle.std.proofs.lemmas.Bool.{and_parts, and_from, or_cases, or_left, or_right, eqb-true}
+use Rattle.std.proofs.lemmas.Bool.{leb-true}
 use Rattle.std.proofs.lemmas.List.{take-append-drop, take_at, drop_at, nil_from_length}
 use Rattle.std.proofs.lemmas.List.Folds.{Any-from_list_any, list_any_at}
 use Rattle.std.proofs.lemmas.List.FromFn.{length-range_with_len, get_or-range_with_len}
@@ -10,7 +13,8 @@ use Rattle.spell_types.specs.declared.flags.Flag.{Flag}
 use Rattle.spell_types.specs.declared.patterns.PatternStep.{PatternStep}
 use Rattle.spell_types.specs.declared.patterns.Times.{Times}
 use Rattle.spell_types.specs.declared.patterns.Times.TheVariants.{Once, Maybe, Many}
-use Rattle.spell_types.specs.Patterns.{may_be, fits_step, stands_for, matches, is_left_out, is_many, steps_after, MatchesPattern, done, goes_on, MatchesOneByOne}
+use Rattle.spell_types.specs.Patterns.{may_be, fits_step, stands_for, matches, is_left_out, is_many}
+use Rattle.spell_types.specs.Patterns.{steps_after, MatchesPattern, done, goes_on, MatchesOneByOne}
 
 -- ---- tests
 -- two tests that hold together are the same
@@ -27,7 +31,8 @@ each-all test (x ∷ xs) each = and_from (test x) (list_all test xs) each.0 (eac
 
 -- ---- the sets of the first step
 -- sets at the front for which a step stands, and others that the steps behind it match
-record Begins (step : PatternStep) (more : List PatternStep) (sets : List (List Flag)) : Type 0 where
+record Begins (step : PatternStep) (more : List PatternStep) (sets : List (List Flag)) : Type
+    0 where
   own : List (List Flag)
   rest : List (List Flag)
   whole : sets ≡ own ++ rest
@@ -244,4 +249,11 @@ pub relation-matches : (pattern : List PatternStep) (sets : List (List Flag))
 relation-matches pattern sets done = refl
 relation-matches pattern sets (goes_on step more own rest count fit others) =
     begins-matches step more (own ++ rest)
-    (record { own = own; rest = rest; whole = refl; count = count; fit = fit; others = relation-matches more rest others })
+    (record {
+      own = own;
+      rest = rest;
+      whole = refl;
+      count = count;
+      fit = fit;
+      others = relation-matches more rest others;
+    })

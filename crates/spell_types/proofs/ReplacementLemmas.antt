@@ -1,18 +1,23 @@
 -- Which words are common misspellings: what a pair of texts makes of a word at a place.
-use Rattle.std.proofs.Common.{◌≡◌, ◌∙◌, ◌↔◌, refl, sym, ap, subst, ℕ, ◌+◌, ◌<◌, ◌==◌, Bool, true, false, not, ◌&&◌, ◌||◌, List, ◌++◌, length, take, drop, nat_eq, Contains, Any, arith, length-append, eq-eqb}
+use Rattle.std.proofs.Common.{◌≡◌, ◌∙◌, ◌↔◌, refl, sym, ap, subst, ℕ, ◌+◌, ◌<◌, ◌==◌, Bool, true}
+use Rattle.std.proofs.Common.{false, not, ◌&&◌, ◌||◌, List, ◌++◌, length, take, drop, nat_eq}
+use Rattle.std.proofs.Common.{Contains, Any, arith, length-append, eq-eqb}
 use Rattle.std.specs.List.{AllByRecursion, filter, range_with_len, starts_with}
 use Rattle.std.proofs.lemmas.Bool.{and_parts, and_from, eqb-true, true≢false}
 use Rattle.std.proofs.lemmas.Bool.Decides.{Decides-eqb}
 use Rattle.std.proofs.lemmas.List.{take-append-drop, take_at, drop_at, drop-drop, length-drop}
-use Rattle.std.proofs.lemmas.List.Elements.{All-from_recursion, recursion_from_All, All-contains, All-contains_itself, filter_passes}
+use Rattle.std.proofs.lemmas.List.Elements.{All-from_recursion, recursion_from_All, All-contains}
+use Rattle.std.proofs.lemmas.List.Elements.{All-contains_itself, filter_passes}
 use Rattle.std.proofs.lemmas.List.Folds.{Any-from_list_any, list_any_at}
 use Rattle.std.proofs.lemmas.Slice.Eq.{starts_is}
-use Rattle.lists.specs.Laws.{each-map, each-flat_map, each-weaker, contains-map, contains-flat_map, contains-filter, contains-range}
+use Rattle.lists.specs.Laws.{each-map, each-flat_map, each-weaker, contains-map, contains-flat_map}
+use Rattle.lists.specs.Laws.{contains-filter, contains-range}
 use Rattle.spell_types.specs.declared.Lexicon.{Lexicon}
 use Rattle.spell_types.specs.declared.breaks.Anchored.{Anchored}
 use Rattle.spell_types.specs.declared.conversions.Rep.{Rep}
 use Rattle.spell_types.specs.Licences.{is_alone, is_derived}
-use Rattle.spell_types.specs.Replacements.{stands_anchored, replaced_at, variants_by, rep_variants, has_rep_fault, HasRepFault}
+use Rattle.spell_types.specs.Replacements.{stands_anchored, replaced_at, variants_by, rep_variants}
+use Rattle.spell_types.specs.Replacements.{has_rep_fault, HasRepFault}
 use Rattle.spell_types.specs.Sanity.{AreSaneAffixes}
 
 -- ---- a text at a place of a word

@@ -1,12 +1,16 @@
 -- Words that are accepted in pieces.
-use Rattle.std.specs.Prelude.{◌≡◌, ℕ, zero, suc, ◌+◌, ◌-◌, ◌<◌, Bool, true, false, not, ◌&&◌, ◌||◌, List, [], ◌∷◌, ◌++◌, length, map, take, drop, nat_eq, nat_lt, Contains, if◌then◌else◌}
+use Rattle.std.specs.Prelude.{◌≡◌, ℕ, zero, suc, ◌+◌, ◌-◌, ◌<◌, Bool, true, false, not, ◌&&◌, ◌||◌}
+use Rattle.std.specs.Prelude.{List, [], ◌∷◌, ◌++◌, length, map, take, drop, nat_eq, nat_lt}
+use Rattle.std.specs.Prelude.{Contains, if◌then◌else◌}
 use Rattle.std.specs.List.{list_any, list_all, filter, range_with_len, starts_with, ends_with}
 use Rattle.spell_types.specs.declared.breaks.Anchored.{Anchored}
 
--- whether the text stands at this place of the word, with something before it and something behind it
+-- whether the text stands at this place of the word, with something before it and something behind
+-- it
 abbrev pub parts_at : List ℕ → List ℕ → ℕ → Bool
 parts_at text word place =
-    nat_lt 0 place && (nat_lt (place + length text) (length word) && starts_with nat_eq (drop place word) text)
+    nat_lt 0 place
+    && (nat_lt (place + length text) (length word) && starts_with nat_eq (drop place word) text)
 
 -- what is left before and behind the text at a place
 abbrev pub parted_at : List ℕ → List ℕ → ℕ → List (List ℕ)
@@ -14,20 +18,23 @@ parted_at text word place = take place word ∷ drop (place + length text) word 
 
 -- the pieces that a text parts the word into, for each place where it does
 abbrev pub parted : List ℕ → List ℕ → List (List (List ℕ))
-parted text word = map (parted_at text word) (filter (parts_at text word) (range_with_len 0 (length word)))
+parted text word =
+    map (parted_at text word) (filter (parts_at text word) (range_with_len 0 (length word)))
 
 -- the one piece that is left behind a text at the front, if something is left
 abbrev pub behind_front : List ℕ → List ℕ → List (List (List ℕ))
 behind_front text word =
-    if nat_lt (length text) (length word) && starts_with nat_eq word text then (drop (length text) word ∷ []) ∷ [] else []
+    if nat_lt (length text) (length word) && starts_with nat_eq word text
+    then (drop (length text) word ∷ []) ∷ [] else []
 
 -- the one piece that is left before a text at the end, if something is left
 abbrev pub before_end : List ℕ → List ℕ → List (List (List ℕ))
 before_end text word =
-    if nat_lt (length text) (length word) && ends_with nat_eq word text then (take (length word - length text) word ∷ []) ∷ [] else []
+    if nat_lt (length text) (length word) && ends_with nat_eq word text
+    then (take (length word - length text) word ∷ []) ∷ [] else []
 
--- the ways in which a pattern of this text breaks the word: anywhere, at the front, or at the end; one with both
--- anchors breaks nothing
+-- the ways in which a pattern of this text breaks the word: anywhere, at the front, or at the end;
+-- one with both anchors breaks nothing
 abbrev pub ways_by : Bool → Bool → List ℕ → List ℕ → List (List (List ℕ))
 ways_by false false text word = parted text word
 ways_by true false text word = behind_front text word
@@ -39,13 +46,15 @@ abbrev pub ways_to_break : List Anchored → List ℕ → List (List (List ℕ))
 ways_to_break [] word = []
 ways_to_break (b ∷ more) word = ways_by b.front b.back b.text word ++ ways_to_break more word
 
--- A word is broken if it is a base; or if it is not barred, and broken once each of its pieces is broken. Each piece is
--- shorter than its word, so that the word's length bounds how often it is broken.
+-- A word is broken if it is a base; or if it is not barred, and broken once each of its pieces is
+-- broken. Each piece is shorter than its word, so that the word's length bounds how often it is
+-- broken.
 abbrev pub is_broken_within : (List ℕ → Bool) → (List ℕ → Bool) → List Anchored → ℕ → List ℕ → Bool
 is_broken_within base barred breaks zero word = base word
 is_broken_within base barred breaks (suc bound) word =
     base word
-    || (not (barred word) && list_any (list_all (is_broken_within base barred breaks bound)) (ways_to_break breaks word))
+    || (not (barred word) && list_any (list_all (is_broken_within base barred breaks bound))
+    (ways_to_break breaks word))
 
 unfoldable pub is_broken : (List ℕ → Bool) → (List ℕ → Bool) → List Anchored → List ℕ → Bool
 is_broken base barred breaks word = is_broken_within base barred breaks (length word) word

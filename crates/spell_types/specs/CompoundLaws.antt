@@ -1,8 +1,11 @@
 -- Laws of the parts of compounds, which the proofs of several crates cite.
-use Rattle.std.proofs.Common.{◌≡◌, ◌∙◌, ap, ℕ, ◌+◌, ◌-◌, ◌==◌, ◌<◌, Bool, true, ◌&&◌, List, ◌++◌, length, take, drop, nat_lt, arith, length-append, length-drop, length-take}
+use Rattle.std.proofs.Common.{◌≡◌, ◌∙◌, ap, ℕ, ◌+◌, ◌-◌, ◌==◌, ◌<◌, Bool, true, ◌&&◌, List, ◌++◌}
+use Rattle.std.proofs.Common.{length, take, drop, nat_lt, arith, length-append, length-drop}
+use Rattle.std.proofs.Common.{length-take}
 use Rattle.std.proofs.lemmas.Bool.{and_parts, and_from, ltb-true}
 use Rattle.spell_types.specs.declared.parts.Part.{Part}
-use Rattle.spell_types.specs.Compounds.{Asked, IsGiven, AreJoined, are_joined, is_right_in_case, kept, keeps_some, stretch}
+use Rattle.spell_types.specs.Compounds.{Asked, IsGiven, AreJoined, are_joined, is_right_in_case}
+use Rattle.spell_types.specs.Compounds.{kept, keeps_some, stretch}
 use Rattle.spell_types.specs.JointLaws.{nat-own, nat-same, test-written, written-test}
 use Rattle.spell_types.specs.Joints.{is_written_joint}
 use Rattle.spell_types.specs.Licences.{is_sound}
@@ -12,7 +15,8 @@ use Rattle.spell_types.specs.Parts.{is_long_enough}
 pub joined-written : (a : Asked) (part next : Part) → are_joined a part next ≡ true
     → AreJoined a part next
 joined-written a part next joined =
-    let halves = and_parts (is_written_joint a.lexicon part.text part.d next.text next.d part.joint) (next.off_begin == part.joint.off_begin) joined in
+    let halves = and_parts (is_written_joint a.lexicon part.text part.d next.text next.d part.joint)
+    (next.off_begin == part.joint.off_begin) joined in
     record {
       joint = test-written a.lexicon part.text part.d next.text next.d part.joint halves.0;
       off = nat-same next.off_begin part.joint.off_begin halves.1;
@@ -21,7 +25,8 @@ joined-written a part next joined =
 pub written-joined : (a : Asked) (part next : Part) → AreJoined a part next
     → are_joined a part next ≡ true
 written-joined a part next joined =
-    and_from (is_written_joint a.lexicon part.text part.d next.text next.d part.joint) (next.off_begin == part.joint.off_begin)
+    and_from (is_written_joint a.lexicon part.text part.d next.text next.d part.joint)
+    (next.off_begin == part.joint.off_begin)
     (written-test a.lexicon part.text part.d next.text next.d part.joint joined.joint)
     (ap (λ off. off == part.joint.off_begin) joined.off ∙ nat-own part.joint.off_begin)
 
@@ -40,4 +45,6 @@ pub given-keeps : (a : Asked) (part : Part) → IsGiven a part → keeps_some pa
 given-keeps a part given =
     (and_parts (is_right_in_case a part.d) (keeps_some part)
     (and_parts (is_sound a.lexicon part.d) (is_right_in_case a part.d && keeps_some part)
-    (and_parts (is_long_enough a.lexicon part.text) (is_sound a.lexicon part.d && (is_right_in_case a part.d && keeps_some part)) given.may).1).1).1
+    (and_parts (is_long_enough a.lexicon part.text)
+    (is_sound a.lexicon part.d && (is_right_in_case a part.d && keeps_some part))
+    given.may).1).1).1

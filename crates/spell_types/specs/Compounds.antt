@@ -1,5 +1,7 @@
 -- Which words are compounds.
-use Rattle.std.specs.Prelude.{◌≡◌, ℕ, zero, suc, ◌+◌, ◌-◌, ◌==◌, ◌≤◌, Bool, true, false, not, ◌&&◌, ◌||◌, ◌⊎◌, List, [], ◌∷◌, ◌++◌, length, map, take, drop, nat_le, nat_lt, Contains, Option, Some, IsTrue, IfSome}
+use Rattle.std.specs.Prelude.{◌≡◌, ℕ, zero, suc, ◌+◌, ◌-◌, ◌==◌, ◌≤◌, Bool, true, false, not, ◌&&◌}
+use Rattle.std.specs.Prelude.{◌||◌, ◌⊎◌, List, [], ◌∷◌, ◌++◌, length, map, take, drop, nat_le}
+use Rattle.std.specs.Prelude.{nat_lt, Contains, Option, Some, IsTrue, IfSome}
 use Rattle.std.specs.List.{AllByRecursion, filter, filter_map, flat_map, list_any}
 use Rattle.std.specs.Option.{option_map, option_map_or}
 use Rattle.spell_types.specs.declared.Lexicon.{Lexicon}
@@ -12,15 +14,16 @@ use Rattle.spell_types.specs.declared.parts.Place.TheVariants.{First, Middle, La
 use Rattle.spell_types.specs.declared.patterns.PatternStep.{PatternStep}
 use Rattle.spell_types.specs.Cases.{is_same_word}
 use Rattle.spell_types.specs.Derivations.{form_of, all_derivations}
-use Rattle.spell_types.specs.Joints.{all_joints, plain_joint, is_same_joint, is_written_joint, IsWrittenJoint}
+use Rattle.spell_types.specs.Joints.{all_joints, plain_joint, is_same_joint, is_written_joint}
+use Rattle.spell_types.specs.Joints.{IsWrittenJoint}
 use Rattle.spell_types.specs.EntriesOf.{entry_flags}
 use Rattle.spell_types.specs.Licences.{has_entry_with, is_sound}
 use Rattle.spell_types.specs.Parts.{is_long_enough, stands_at, stands_in_rule}
 use Rattle.spell_types.specs.Patterns.{matches, MatchesPattern}
 use Rattle.spell_types.specs.Replacements.{has_rep_fault}
 
--- Of what a compound is asked: of a dictionary; whether the word differs in case from the one that is written, and whether
--- that one begins in upper case.
+-- Of what a compound is asked: of a dictionary; whether the word differs in case from the one that
+-- is written, and whether that one begins in upper case.
 pub record Asked : Type 0 where
   pub lexicon : Lexicon
   pub by_case : Bool
@@ -28,7 +31,8 @@ pub record Asked : Type 0 where
 
 -- whether the entry may stand in a word that is written in another case, if this one is
 abbrev pub is_right_in_case : Asked → Derivation → Bool
-is_right_in_case a d = not (a.by_case && has_entry_with a.lexicon.affixes.signs.keep_case a.lexicon d)
+is_right_in_case a d =
+    not (a.by_case && has_entry_with a.lexicon.affixes.signs.keep_case a.lexicon d)
 
 -- what a part keeps of its text: what the joints at its sides do not take off
 abbrev pub kept : Part → List ℕ
@@ -42,8 +46,8 @@ keeps_some part = nat_lt (part.off_begin + part.joint.off_end) (length part.text
 abbrev pub stretch : Part → List ℕ
 stretch part = kept part ++ part.joint.put
 
--- whether a compound may have the part at all: it is long enough, its derivation is sound, its entry is right in this case, and
--- it keeps a character of its own
+-- whether a compound may have the part at all: it is long enough, its derivation is sound, its
+-- entry is right in this case, and it keeps a character of its own
 abbrev pub may_be_part : Asked → Part → Bool
 may_be_part a part =
     is_long_enough a.lexicon part.text
@@ -68,17 +72,20 @@ all_offs lexicon = map (λ joint. joint.off_begin) (all_joints lexicon)
 abbrev pub all_parts : Asked → List Part
 all_parts a =
     filter (may_be_part a)
-    (flat_map (λ off. flat_map (parts_between a.lexicon off) (all_joints a.lexicon)) (all_offs a.lexicon))
+    (flat_map (λ off. flat_map (parts_between a.lexicon off) (all_joints a.lexicon))
+    (all_offs a.lexicon))
 
 -- what parts write: the stretch of each, one behind the other
 abbrev pub written : List Part → List ℕ
 written parts = flat_map stretch parts
 
--- whether each part stands at its place: the first here, the last at the last place, and those between in the middle
+-- whether each part stands at its place: the first here, the last at the last place, and those
+-- between in the middle
 abbrev pub all_stand : (Derivation → Place → Bool) → Place → List Part → Bool
 all_stand stands here [] = true
 all_stand stands here (part ∷ []) = stands part.d Last
-all_stand stands here (part ∷ next ∷ more) = stands part.d here && all_stand stands Middle (next ∷ more)
+all_stand stands here (part ∷ next ∷ more) =
+    stands part.d here && all_stand stands Middle (next ∷ more)
 
 -- whether each part is allowed at its place by its flags
 abbrev pub stand_by_flags : Asked → Place → List Part → Bool
@@ -88,14 +95,17 @@ stand_by_flags a here parts = all_stand (stands_at a.lexicon) here parts
 abbrev pub flags_of : Asked → List Part → List (List Flag)
 flags_of a parts = map (λ part. entry_flags a.lexicon part.d) parts
 
--- whether the parts follows_rule a compound rule: each may stand in a rule, and the rule matches the flags of their entries
+-- whether the parts follows_rule a compound rule: each may stand in a rule, and the rule matches
+-- the flags of their entries
 abbrev pub follows_rule : Asked → Place → List Part → List PatternStep → Bool
-follows_rule a here parts pattern = all_stand (stands_in_rule a.lexicon) here parts && matches pattern (flags_of a parts)
+follows_rule a here parts pattern =
+    all_stand (stands_in_rule a.lexicon) here parts && matches pattern (flags_of a parts)
 
 -- whether two neighbours are written together by the joint between them
 abbrev pub are_joined : Asked → Part → Part → Bool
 are_joined a part next =
-    is_written_joint a.lexicon part.text part.d next.text next.d part.joint && (next.off_begin == part.joint.off_begin)
+    is_written_joint a.lexicon part.text part.d next.text next.d part.joint
+    && (next.off_begin == part.joint.off_begin)
 
 -- whether all neighbours are
 abbrev pub do_meet : Asked → List Part → Bool
@@ -108,8 +118,8 @@ abbrev pub begin_well : List Part → Bool
 begin_well [] = true
 begin_well (part ∷ more) = part.off_begin == 0
 
--- whether a word may end with the part: no joint is behind it, and one that asks for a capital stands in a word that is written
--- with one
+-- whether a word may end with the part: no joint is behind it, and one that asks for a capital
+-- stands in a word that is written with one
 abbrev pub may_end : Asked → Part → Bool
 may_end a part =
     is_same_joint part.joint plain_joint
@@ -133,7 +143,8 @@ make_up a word parts =
     && (are_few a (length parts)
     && (begin_well parts
     && (do_meet a parts
-    && ((stand_by_flags a First parts || list_any (follows_rule a First parts) a.lexicon.affixes.patterns)
+    && ((stand_by_flags a First parts
+    || list_any (follows_rule a First parts) a.lexicon.affixes.patterns)
     && end_well a parts)))))
 
 -- all lists of at most so many of these
@@ -141,13 +152,16 @@ abbrev pub lists_within : {X : Type 0} → ℕ → List X → List (List X)
 lists_within zero xs = [] ∷ []
 lists_within (suc bound) xs = [] ∷ flat_map (λ x. map (λ more. x ∷ more) (lists_within bound xs)) xs
 
--- whether some parts make up the word; each keeps a character, so that the word's length bounds how many there are
+-- whether some parts make up the word; each keeps a character, so that the word's length bounds how
+-- many there are
 unfoldable pub is_made_up : Asked → List ℕ → Bool
 is_made_up a word = list_any (make_up a word) (lists_within (length word) (all_parts a))
 
--- whether the word is a compound: some parts make it up, and it is no common misspelling, if that is asked
+-- whether the word is a compound: some parts make it up, and it is no common misspelling, if that
+-- is asked
 unfoldable pub is_compound : Asked → List ℕ → Bool
-is_compound a word = is_made_up a word && not (a.lexicon.affixes.options.check_rep && has_rep_fault a.lexicon word)
+is_compound a word =
+    is_made_up a word && not (a.lexicon.affixes.options.check_rep && has_rep_fault a.lexicon word)
 
 -- a part of the dictionary that a compound may have
 pub record IsGiven (a : Asked) (part : Part) : Type 0 where

@@ -16,12 +16,13 @@ accepts (One only) c = only == c
 accepts (Among some) c = is_one_of some c
 accepts (NotAmong some) c = not (is_one_of some c)
 
--- whether the text has as many characters as the condition has pieces, and each piece accepts its character
+-- whether the text has as many characters as the condition has pieces, and each piece accepts its
+-- character
 abbrev pub accepts_each : List Piece → List ℕ → Bool
 accepts_each condition text = pointwise accepts condition text
 
--- Whether the condition fits the front of the word: its first characters, as many as the condition has
--- pieces. No condition fits a word that is shorter, and the empty condition fits each word.
+-- Whether the condition fits the front of the word: its first characters, as many as the condition
+-- has pieces. No condition fits a word that is shorter, and the empty condition fits each word.
 abbrev pub fits_front : List Piece → List ℕ → Bool
 fits_front condition word = accepts_each condition (take (length condition) word)
 

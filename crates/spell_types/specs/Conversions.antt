@@ -1,10 +1,12 @@
 -- How a written word is converted before it is looked up, and which of its characters are left out.
-use Rattle.std.specs.Prelude.{◌≡◌, ℕ, ◌-◌, ◌<◌, ◌≤◌, zero, suc, Bool, not, IsTrue, ◌&&◌, ◌==◌, List, [], ◌∷◌, ◌++◌, length, filter, nat_eq, nat_lt, Option, Some, None, if◌then◌else◌}
+use Rattle.std.specs.Prelude.{◌≡◌, ℕ, ◌-◌, ◌<◌, ◌≤◌, zero, suc, Bool, not, IsTrue, ◌&&◌, ◌==◌, List}
+use Rattle.std.specs.Prelude.{[], ◌∷◌, ◌++◌, length, filter, nat_eq, nat_lt, Option, Some, None}
+use Rattle.std.specs.Prelude.{if◌then◌else◌}
 use Rattle.std.specs.List.{AllByRecursion, list_all, starts_with}
 use Rattle.spell_types.specs.declared.conversions.Conversion.{Conversion}
 
--- whether the row's pattern stands at the front of the text, character by character; no row without a
--- pattern fits
+-- whether the row's pattern stands at the front of the text, character by character; no row without
+-- a pattern fits
 abbrev pub fits : List ℕ → Conversion → Bool
 fits text row = nat_lt 0 (length row.from) && starts_with nat_eq text row.from
 
@@ -18,7 +20,8 @@ abbrev pub longest : List Conversion → Option Conversion
 longest [] = None
 longest (row ∷ more) = Some (longer_of row (longest more))
 
--- the row of the table that replaces its pattern at the front of the text: the longest of those that fit
+-- the row of the table that replaces its pattern at the front of the text: the longest of those
+-- that fit
 unfoldable pub best_fit : List Conversion → List ℕ → Option Conversion
 best_fit table text = longest (filter (fits text) table)
 
@@ -32,7 +35,8 @@ abbrev pub more_read : Option Conversion → ℕ
 more_read None = 0
 more_read (Some row) = length row.from - 1
 
--- the text converted from the place behind its first characters, so many of which a pattern has read already
+-- the text converted from the place behind its first characters, so many of which a pattern has
+-- read already
 abbrev pub converted_behind : List Conversion → ℕ → List ℕ → List ℕ
 converted_behind table read [] = []
 converted_behind table (suc read) (c ∷ text) = converted_behind table read text
@@ -40,8 +44,8 @@ converted_behind table zero (c ∷ text) =
     let found = best_fit table (c ∷ text) in
     replaced found c ++ converted_behind table (more_read found) text
 
--- The word converted: from left to right, at each place the best fitting row writes its replacement for its
--- pattern, and where none fits the character is kept. Neither is read again.
+-- The word converted: from left to right, at each place the best fitting row writes its replacement
+-- for its pattern, and where none fits the character is kept. Neither is read again.
 unfoldable pub converted : List Conversion → List ℕ → List ℕ
 converted table word = converted_behind table 0 word
 
@@ -53,15 +57,17 @@ is_kept ignore c = list_all (λ other. not (other == c)) ignore
 abbrev pub without_ignored : List ℕ → List ℕ → List ℕ
 without_ignored ignore word = filter (is_kept ignore) word
 
--- What a best fitting row is: it stands in the table and fits, each fitting row before it is shorter, and
--- none behind it is longer.
+-- What a best fitting row is: it stands in the table and fits, each fitting row before it is
+-- shorter, and none behind it is longer.
 pub record IsBestFit (table : List Conversion) (text : List ℕ) (row : Conversion) : Type 0 where
   pub before : List Conversion
   pub behind : List Conversion
   pub whole : table ≡ before ++ row ∷ behind
   pub fitting : IsTrue (fits text row)
-  pub shorter_before : AllByRecursion (λ other. IsTrue (fits text other) → length other.from < length row.from) before
-  pub no_longer_behind : AllByRecursion (λ other. IsTrue (fits text other) → length other.from ≤ length row.from) behind
+  pub shorter_before : AllByRecursion
+      (λ other. IsTrue (fits text other) → length other.from < length row.from) before
+  pub no_longer_behind : AllByRecursion
+      (λ other. IsTrue (fits text other) → length other.from ≤ length row.from) behind
 
 -- no row of the table fits
 abbrev pub NoneFits : List Conversion → List ℕ → Type 0

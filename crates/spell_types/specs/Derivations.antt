@@ -1,5 +1,6 @@
 -- What a derivation names, its form, and all derivations of a dictionary.
-use Rattle.std.specs.Prelude.{ℕ, Bool, true, false, ◌&&◌, ◌||◌, List, ◌∷◌, length, map, slice_get, Option, None, Some, is_some, is_none, option_and_then, if◌then◌else◌}
+use Rattle.std.specs.Prelude.{ℕ, Bool, true, false, ◌&&◌, ◌||◌, List, ◌∷◌, length, map, slice_get}
+use Rattle.std.specs.Prelude.{Option, None, Some, is_some, is_none, option_and_then, if◌then◌else◌}
 use Rattle.std.specs.List.{flat_map, range_with_len}
 use Rattle.std.specs.Option.{option_map}
 use Rattle.spell_types.specs.declared.Entry.{Entry}
@@ -19,7 +20,9 @@ is_same_side Suffix Suffix = true
 
 -- the rule with a place among the rules, from 0, if it is one of the side
 abbrev pub rule_on : List Rule → Side → ℕ → Option Rule
-rule_on rules side place = option_and_then (λ rule. if is_same_side side rule.side then Some rule else None) (slice_get rules place)
+rule_on rules side place =
+    option_and_then (λ rule. if is_same_side side rule.side then Some rule else None)
+    (slice_get rules place)
 
 -- the rule that is named, if one is
 abbrev pub affix_on : List Rule → Side → Option ℕ → Option Rule
@@ -34,7 +37,8 @@ is_right rules side (Some place) = is_some (rule_on rules side place)
 abbrev pub is_in_order : List Rule → Derivation → Bool
 is_in_order rules d =
     is_right rules Prefix d.prefix
-    && (is_right rules Suffix d.first && (is_right rules Suffix d.second && (is_none d.second || is_some d.first)))
+    && (is_right rules Suffix d.first
+    && (is_right rules Suffix d.second && (is_none d.second || is_some d.first)))
 
 -- what a derivation names: an entry, and the affixes that are attached to its word
 pub record Named : Type 0 where
@@ -55,7 +59,8 @@ named_with rules d entry = record {
 -- what a derivation names, if it is in order
 abbrev pub named : Lexicon → Derivation → Option Named
 named lexicon d =
-    if is_in_order lexicon.affixes.rules d then option_map (named_with lexicon.affixes.rules d) (slice_get lexicon.entries d.entry) else None
+    if is_in_order lexicon.affixes.rules d then option_map (named_with lexicon.affixes.rules d)
+    (slice_get lexicon.entries d.entry) else None
 
 -- the word with an affix attached, if there is one
 abbrev pub with_affix : Bool → Option Rule → List ℕ → Option (List ℕ)
@@ -66,7 +71,8 @@ with_affix full_strip (Some rule) word = attached full_strip rule word
 abbrev pub formed : Bool → Named → Option (List ℕ)
 formed full_strip named =
     option_and_then (with_affix full_strip named.prefix)
-    (option_and_then (with_affix full_strip named.second) (with_affix full_strip named.first named.entry.word))
+    (option_and_then (with_affix full_strip named.second)
+    (with_affix full_strip named.first named.entry.word))
 
 -- the form of a derivation, where it has one
 unfoldable pub form_of : Lexicon → Derivation → Option (List ℕ)
@@ -77,13 +83,17 @@ abbrev pub choices : ℕ → List (Option ℕ)
 choices count = None ∷ map (λ place. Some place) (range_with_len 0 count)
 
 abbrev pub derivation_of : ℕ → Option ℕ → Option ℕ → Option ℕ → Derivation
-derivation_of entry prefix first second = record { entry = entry; prefix = prefix; first = first; second = second }
+derivation_of entry prefix first second =
+    record { entry = entry; prefix = prefix; first = first; second = second }
 
--- all derivations from an entry over so many rules: by prefix, then by first, then by second suffix, none before any
+-- all derivations from an entry over so many rules: by prefix, then by first, then by second
+-- suffix, none before any
 abbrev pub all_from : ℕ → ℕ → List Derivation
 all_from count entry =
-    flat_map (λ prefix. flat_map (λ first. map (derivation_of entry prefix first) (choices count)) (choices count)) (choices count)
+    flat_map (λ prefix. flat_map (λ first. map (derivation_of entry prefix first) (choices count))
+    (choices count)) (choices count)
 
 -- all derivations of a dictionary, in order or not, by entry
 abbrev pub all_derivations : Lexicon → List Derivation
-all_derivations lexicon = flat_map (all_from (length lexicon.affixes.rules)) (range_with_len 0 (length lexicon.entries))
+all_derivations lexicon =
+    flat_map (all_from (length lexicon.affixes.rules)) (range_with_len 0 (length lexicon.entries))

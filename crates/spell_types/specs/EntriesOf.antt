@@ -12,4 +12,5 @@ entry_flags lexicon d = option_map_or (λ entry. entry.flags) (slice_get lexicon
 
 -- whether the text is the word of the derivation's entry, as it is
 abbrev pub is_entry_word : Lexicon → List ℕ → Derivation → Bool
-is_entry_word lexicon text d = option_map_or (λ entry. is_same_word entry.word text) (slice_get lexicon.entries d.entry) false
+is_entry_word lexicon text d =
+    option_map_or (λ entry. is_same_word entry.word text) (slice_get lexicon.entries d.entry) false

@@ -1,5 +1,6 @@
 -- What a set of flags is: a list of flags that rises.
-use Rattle.std.specs.Prelude.{◌<◌, ◌^◌, ◌-◌, ◌==◌, nat_lt, Bool, false, List, [], ◌∷◌, All, AllPairs, Option, None, Some, if◌then◌else◌}
+use Rattle.std.specs.Prelude.{◌<◌, ◌^◌, ◌-◌, ◌==◌, nat_lt, Bool, false, List, [], ◌∷◌, All}
+use Rattle.std.specs.Prelude.{AllPairs, Option, None, Some, if◌then◌else◌}
 use Rattle.std.specs.List.{list_any}
 use Rattle.spell_types.specs.declared.flags.Flag.{Flag}
 
@@ -24,7 +25,8 @@ abbrev pub has : List Flag → Option Flag → Bool
 has flags None = false
 has flags (Some flag) = list_any (λ held. held.0 == flag.0) flags
 
--- A flag that a file can give. The highest number of 64 bits is left over, so that a flag of no file can be made.
+-- A flag that a file can give. The highest number of 64 bits is left over, so that a flag of no
+-- file can be made.
 abbrev pub IsOrdinary : Flag → Type 0
 IsOrdinary flag = flag.0 < 2 ^ 64 - 1
 

@@ -1,5 +1,9 @@
--- Laws of written joints, which the proofs of several crates cite: the test, the list and the relation say the same.
-use Rattle.std.proofs.Common.{◌≡◌, ◌∙◌, ◌↔◌, refl, sym, ap, subst, ℕ, zero, suc, ◌==◌, Bool, true, false, cond, not, ◌&&◌, ◌||◌, ◌⊎◌, inl, inr, List, [], ◌∷◌, Contains, Any, Option, None, Some, not-suc-le-zero, le_of_suc-le-suc, true≢false, arith}
+-- Laws of written joints, which the proofs of several crates cite: the test, the list and the
+-- relation say the same.
+use Rattle.std.proofs.Common.{◌≡◌, ◌∙◌, ◌↔◌, refl, sym, ap, subst, ℕ, zero, suc, ◌==◌, Bool, true}
+use Rattle.std.proofs.Common.{false, cond, not, ◌&&◌, ◌||◌, ◌⊎◌, inl, inr, List, [], ◌∷◌, Contains}
+use Rattle.std.proofs.Common.{Any, Option, None, Some, not-suc-le-zero, le_of_suc-le-suc}
+use Rattle.std.proofs.Common.{true≢false, arith}
 use Rattle.std.specs.List.{filter, filter_map, list_any, cons_option}
 use Rattle.std.specs.Option.{option_map, option_map_or}
 use Rattle.std.proofs.lemmas.Bool.{and_parts, and_from, or_cases, or_left, or_right}
@@ -12,14 +16,18 @@ use Rattle.spell_types.specs.declared.derivations.Derivation.{Derivation}
 use Rattle.spell_types.specs.declared.joints.JointPattern.{JointPattern}
 use Rattle.spell_types.specs.declared.joints.WrittenJoint.{WrittenJoint}
 use Rattle.spell_types.specs.Cases.{is_same_word}
-use Rattle.spell_types.specs.Joints.{all_joints, each_once, fits_joint, is_joint, is_joint_of, is_replaced_by, is_same_joint, is_simplified, is_written_joint, joint_of_row, joints_of, plain_joint, replaced_joint, simplified_joint, IsWrittenJoint, Plain, Simplified, Replaced}
+use Rattle.spell_types.specs.Joints.{all_joints, each_once, fits_joint, is_joint, is_joint_of}
+use Rattle.spell_types.specs.Joints.{is_replaced_by, is_same_joint, is_simplified, is_written_joint}
+use Rattle.spell_types.specs.Joints.{joint_of_row, joints_of, plain_joint, replaced_joint}
+use Rattle.spell_types.specs.Joints.{simplified_joint, IsWrittenJoint, Plain, Simplified, Replaced}
 
 -- ---- lists
 pub contains-filter_map : {X Y : Type 0} (h : X → Option Y) (xs : List X) (x : X) (y : Y)
     → Contains xs x → h x ≡ Some y → Contains (filter_map h xs) y
 contains-filter_map h [] x y (k, within, at) is = absurd (not-suc-le-zero within)
 contains-filter_map h (z ∷ xs) x y (zero, within, at) is =
-    subst (λ found. Contains (cons_option found (filter_map h xs)) y) (sym (ap h at ∙ is)) (contains-head y (filter_map h xs))
+    subst (λ found. Contains (cons_option found (filter_map h xs)) y) (sym (ap h at ∙ is))
+    (contains-head y (filter_map h xs))
 contains-filter_map h (z ∷ xs) x y (suc k, within, at) is =
     by (h z) (contains-filter_map h xs x y (k, le_of_suc-le-suc within, at) is)
   where
@@ -42,26 +50,36 @@ pub same-joint : (joint other : WrittenJoint) → is_same_joint joint other ≡ 
 unfolding is_same_joint joint_with
 same-joint joint other same =
     ap (λ n. joint_with n joint.put joint.off_begin) (nat-same joint.off_end other.off_end halves.0)
-    ∙ ap (λ t. joint_with other.off_end t joint.off_begin) ((bytes_eq-Decides joint.put other.put).0 rest.0)
-    ∙ ap (λ n. joint_with other.off_end other.put n) (nat-same joint.off_begin other.off_begin rest.1)
+    ∙ ap (λ t. joint_with other.off_end t joint.off_begin)
+    ((bytes_eq-Decides joint.put other.put).0 rest.0)
+    ∙ ap (λ n. joint_with other.off_end other.put n)
+    (nat-same joint.off_begin other.off_begin rest.1)
   where
-    halves : ((joint.off_end == other.off_end) ≡ true) × ((is_same_word joint.put other.put && (joint.off_begin == other.off_begin)) ≡ true)
-    halves = and_parts (joint.off_end == other.off_end) (is_same_word joint.put other.put && (joint.off_begin == other.off_begin)) same
+    halves : ((joint.off_end == other.off_end) ≡ true)
+        × ((is_same_word joint.put other.put && (joint.off_begin == other.off_begin)) ≡ true)
+    halves = and_parts (joint.off_end == other.off_end)
+        (is_same_word joint.put other.put && (joint.off_begin == other.off_begin)) same
 
     rest : (is_same_word joint.put other.put ≡ true) × ((joint.off_begin == other.off_begin) ≡ true)
-    rest = and_parts (is_same_word joint.put other.put) (joint.off_begin == other.off_begin) halves.1
+    rest = and_parts (is_same_word joint.put other.put) (joint.off_begin == other.off_begin)
+        halves.1
 
 pub own-joint : (joint : WrittenJoint) → is_same_joint joint joint ≡ true
 unfolding is_same_joint
 own-joint joint =
-    and_from (joint.off_end == joint.off_end) (is_same_word joint.put joint.put && (joint.off_begin == joint.off_begin)) (nat-own joint.off_end)
-    (and_from (is_same_word joint.put joint.put) (joint.off_begin == joint.off_begin) ((bytes_eq-Decides joint.put joint.put).1 refl) (nat-own joint.off_begin))
+    and_from (joint.off_end == joint.off_end)
+    (is_same_word joint.put joint.put && (joint.off_begin == joint.off_begin))
+    (nat-own joint.off_end)
+    (and_from (is_same_word joint.put joint.put) (joint.off_begin == joint.off_begin)
+    ((bytes_eq-Decides joint.put joint.put).1 refl) (nat-own joint.off_begin))
 
 pub plain-among : (lexicon : Lexicon) → Contains (all_joints lexicon) plain_joint
-plain-among lexicon = contains-head plain_joint (simplified_joint ∷ filter_map joint_of_row lexicon.affixes.joints)
+plain-among lexicon =
+    contains-head plain_joint (simplified_joint ∷ filter_map joint_of_row lexicon.affixes.joints)
 
 -- ---- the test is the relation
-module _ (lexicon : Lexicon) (x : List ℕ) (d : Derivation) (y : List ℕ) (e : Derivation) (joint : WrittenJoint) where
+module _ (lexicon : Lexicon) (x : List ℕ) (d : Derivation) (y : List ℕ) (e : Derivation)
+    (joint : WrittenJoint) where
   abbrev plain : Bool
   plain = is_same_joint joint plain_joint && is_joint lexicon x d y e
 
@@ -78,14 +96,19 @@ module _ (lexicon : Lexicon) (x : List ℕ) (d : Derivation) (y : List ℕ) (e :
       → Any (λ row. is_replaced_by lexicon x d y e joint row ≡ true) lexicon.affixes.joints
       → IsWrittenJoint lexicon x d y e joint
   from-row allowed (k, row, within, at, is) =
-      by row.replacement refl (and_parts (fits_joint lexicon x d y e row) (option_map_or (is_same_joint joint) (joint_of_row row) false) is)
+      by row.replacement refl
+      (and_parts (fits_joint lexicon x d y e row)
+      (option_map_or (is_same_joint joint) (joint_of_row row) false) is)
     where
       by : (found : Option (List ℕ)) → row.replacement ≡ found
           → (fits_joint lexicon x d y e row ≡ true)
-          × (option_map_or (is_same_joint joint) (option_map (replaced_joint row) found) false ≡ true)
+          × (option_map_or (is_same_joint joint) (option_map (replaced_joint row) found) false
+          ≡ true)
           → IsWrittenJoint lexicon x d y e joint
       by None none (fits, same) = absurd (true≢false (sym same))
-      by (Some put) some (fits, same) = Replaced row put (k, within, at) some (same-joint joint (replaced_joint row put) same) fits allowed
+      by (Some put) some (fits, same) =
+          Replaced row put (k, within, at) some (same-joint joint (replaced_joint row put) same)
+          fits allowed
 
   pub test-written : is_written_joint lexicon x d y e joint ≡ true
       → IsWrittenJoint lexicon x d y e joint
@@ -95,11 +118,15 @@ module _ (lexicon : Lexicon) (x : List ℕ) (d : Derivation) (y : List ℕ) (e :
       second : (simplified ≡ true) ⊎ ((free && replaced) ≡ true)
           → IsWrittenJoint lexicon x d y e joint
       second (inl one) =
-          let halves = and_parts (is_same_joint joint simplified_joint) (is_simplified lexicon x d y e) one in
+          let halves =
+          and_parts (is_same_joint joint simplified_joint) (is_simplified lexicon x d y e)
+          one in
           Simplified (same-joint joint simplified_joint halves.0) halves.1
       second (inr two) =
           let halves = and_parts free replaced two in
-          from-row halves.0 (Any-from_list_any (is_replaced_by lexicon x d y e joint) lexicon.affixes.joints halves.1)
+          from-row halves.0
+          (Any-from_list_any (is_replaced_by lexicon x d y e joint) lexicon.affixes.joints
+          halves.1)
 
       first : (plain ≡ true) ⊎ ((simplified || (free && replaced)) ≡ true)
           → IsWrittenJoint lexicon x d y e joint
@@ -113,7 +140,8 @@ module _ (lexicon : Lexicon) (x : List ℕ) (d : Derivation) (y : List ℕ) (e :
   unfolding is_written_joint
   written-test (Plain same is) =
       or_left plain (simplified || (free && replaced))
-      (and_from (is_same_joint joint plain_joint) (is_joint lexicon x d y e) (ap (λ j. is_same_joint j plain_joint) same ∙ own-joint plain_joint) is)
+      (and_from (is_same_joint joint plain_joint) (is_joint lexicon x d y e)
+      (ap (λ j. is_same_joint j plain_joint) same ∙ own-joint plain_joint) is)
   written-test (Simplified same is) =
       or_right plain (simplified || (free && replaced))
       (or_left simplified (free && replaced)
@@ -125,9 +153,12 @@ module _ (lexicon : Lexicon) (x : List ℕ) (d : Derivation) (y : List ℕ) (e :
       (and_from free replaced allowed
       (list_any_at (is_replaced_by lexicon x d y e joint) lexicon.affixes.joints k row within
       (ap (is_replaced_by lexicon x d y e joint) at
-      ∙ and_from (fits_joint lexicon x d y e row) (option_map_or (is_same_joint joint) (joint_of_row row) false) fits
-      (ap (λ found. option_map_or (is_same_joint joint) (option_map (replaced_joint row) found) false) some
-      ∙ ap (λ j. is_same_joint j (replaced_joint row put)) same ∙ own-joint (replaced_joint row put))))))
+      ∙ and_from (fits_joint lexicon x d y e row)
+      (option_map_or (is_same_joint joint) (joint_of_row row) false) fits
+      (ap (λ found. option_map_or (is_same_joint joint) (option_map (replaced_joint row) found)
+      false) some
+      ∙ ap (λ j. is_same_joint j (replaced_joint row put)) same
+      ∙ own-joint (replaced_joint row put))))))
 
   -- each is one that the parts of the dictionary can have
   pub written-among : IsWrittenJoint lexicon x d y e joint → Contains (all_joints lexicon) joint
@@ -135,13 +166,17 @@ module _ (lexicon : Lexicon) (x : List ℕ) (d : Derivation) (y : List ℕ) (e :
       subst (Contains (all_joints lexicon)) (sym same) (plain-among lexicon)
   written-among (Simplified same is) =
       subst (Contains (all_joints lexicon)) (sym same)
-      (contains-tail plain_joint simplified_joint (simplified_joint ∷ filter_map joint_of_row lexicon.affixes.joints)
+      (contains-tail plain_joint simplified_joint
+      (simplified_joint ∷ filter_map joint_of_row lexicon.affixes.joints)
       (contains-head simplified_joint (filter_map joint_of_row lexicon.affixes.joints)))
   written-among (Replaced row put among some same fits allowed) =
       subst (Contains (all_joints lexicon)) (sym same)
-      (contains-tail plain_joint (replaced_joint row put) (simplified_joint ∷ filter_map joint_of_row lexicon.affixes.joints)
-      (contains-tail simplified_joint (replaced_joint row put) (filter_map joint_of_row lexicon.affixes.joints)
-      (contains-filter_map joint_of_row lexicon.affixes.joints row (replaced_joint row put) among (ap (option_map (replaced_joint row)) some))))
+      (contains-tail plain_joint (replaced_joint row put)
+      (simplified_joint ∷ filter_map joint_of_row lexicon.affixes.joints)
+      (contains-tail simplified_joint (replaced_joint row put)
+      (filter_map joint_of_row lexicon.affixes.joints)
+      (contains-filter_map joint_of_row lexicon.affixes.joints row (replaced_joint row put) among
+      (ap (option_map (replaced_joint row)) some))))
 
 -- ---- the list is the relation
 -- each once, it has what it had
@@ -149,28 +184,38 @@ once-among : (xs : List WrittenJoint) (joint : WrittenJoint) → Contains xs joi
     → Contains (each_once xs) joint
 once-among [] joint (k, within, at) = absurd (not-suc-le-zero within)
 once-among (first ∷ xs) joint (zero, within, at) =
-    subst (Contains (each_once (first ∷ xs))) at (contains-head first (filter (λ other. not (is_same_joint other first)) (each_once xs)))
+    subst (Contains (each_once (first ∷ xs))) at
+    (contains-head first (filter (λ other. not (is_same_joint other first)) (each_once xs)))
 once-among (first ∷ xs) joint (suc k, within, at) =
     by (is_same_joint joint first) refl (once-among xs joint (k, le_of_suc-le-suc within, at))
   where
     by : (same : Bool) → is_same_joint joint first ≡ same → Contains (each_once xs) joint
         → Contains (first ∷ filter (λ other. not (is_same_joint other first)) (each_once xs)) joint
     by true same inside =
-        subst (Contains (each_once (first ∷ xs))) (sym (same-joint joint first same)) (contains-head first (filter (λ other. not (is_same_joint other first)) (each_once xs)))
+        subst (Contains (each_once (first ∷ xs))) (sym (same-joint joint first same))
+        (contains-head first (filter (λ other. not (is_same_joint other first)) (each_once xs)))
     by false other inside =
         contains-tail first joint (filter (λ other. not (is_same_joint other first)) (each_once xs))
-        (contains-filter (λ other. not (is_same_joint other first)) (each_once xs) joint inside (ap not other))
+        (contains-filter (λ other. not (is_same_joint other first)) (each_once xs) joint inside
+        (ap not other))
 
-pub joints-are : (lexicon : Lexicon) (x : List ℕ) (d : Derivation) (y : List ℕ) (e : Derivation) (joint : WrittenJoint)
+pub joints-are : (lexicon : Lexicon) (x : List ℕ) (d : Derivation) (y : List ℕ) (e : Derivation)
+    (joint : WrittenJoint)
     → Contains (joints_of lexicon x d y e) joint ↔ IsWrittenJoint lexicon x d y e joint
 unfolding joints_of
 joints-are lexicon x d y e joint = (λ inside. there inside, λ is. back is)
   where
-    there : Contains (filter (is_written_joint lexicon x d y e) (each_once (all_joints lexicon))) joint → IsWrittenJoint lexicon x d y e joint
-    there inside = test-written lexicon x d y e joint (filter-holds (is_written_joint lexicon x d y e) (each_once (all_joints lexicon)) joint inside)
+    there : Contains (filter (is_written_joint lexicon x d y e) (each_once (all_joints lexicon)))
+        joint → IsWrittenJoint lexicon x d y e joint
+    there inside =
+        test-written lexicon x d y e joint
+        (filter-holds (is_written_joint lexicon x d y e) (each_once (all_joints lexicon)) joint
+        inside)
 
     back : IsWrittenJoint lexicon x d y e joint
-        → Contains (filter (is_written_joint lexicon x d y e) (each_once (all_joints lexicon))) joint
+        → Contains (filter (is_written_joint lexicon x d y e) (each_once (all_joints lexicon)))
+        joint
     back is =
         contains-filter (is_written_joint lexicon x d y e) (each_once (all_joints lexicon)) joint
-        (once-among (all_joints lexicon) joint (written-among lexicon x d y e joint is)) (written-test lexicon x d y e joint is)
+        (once-among (all_joints lexicon) joint (written-among lexicon x d y e joint is))
+        (written-test lexicon x d y e joint is)

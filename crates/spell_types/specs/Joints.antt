@@ -1,5 +1,7 @@
 -- Which parts of compounds may stand beside each other, and how they are written together.
-use Rattle.std.specs.Prelude.{◌≡◌, ℕ, ◌-◌, ◌==◌, Bool, true, false, not, ◌&&◌, ◌||◌, List, [], ◌∷◌, length, nat_eq, slice_get, Contains, Option, None, Some, IsTrue, if◌then◌else◌}
+use Rattle.std.specs.Prelude.{◌≡◌, ℕ, ◌-◌, ◌==◌, Bool, true, false, not, ◌&&◌, ◌||◌, List, [], ◌∷◌}
+use Rattle.std.specs.Prelude.{length, nat_eq, slice_get, Contains, Option, None, Some, IsTrue}
+use Rattle.std.specs.Prelude.{if◌then◌else◌}
 use Rattle.std.specs.List.{filter, filter_map, list_any, starts_with, ends_with}
 use Rattle.std.specs.Option.{option_map, option_map_or}
 use Rattle.spell_types.specs.declared.Lexicon.{Lexicon}
@@ -29,17 +31,20 @@ is_capital c = option_map_or is_upper c false
 abbrev pub is_dash : Option ℕ → Bool
 is_dash c = option_map_or (λ c. c == 45) c false
 
--- The last character of the left part or the first of the right one is upper case, and neither is a dash.
+-- The last character of the left part or the first of the right one is upper case, and neither is a
+-- dash.
 abbrev pub is_capital_inside : List ℕ → List ℕ → Bool
 is_capital_inside x y =
-    (is_capital (last_of x) || is_capital (first_of y)) && (not (is_dash (last_of x)) && not (is_dash (first_of y)))
+    (is_capital (last_of x) || is_capital (first_of y))
+    && (not (is_dash (last_of x)) && not (is_dash (first_of y)))
 
--- A character stands three times in a row: twice at the end of the left part and at the front of the right one, or at the end
--- of the left part and twice at the front of the right one.
+-- A character stands three times in a row: twice at the end of the left part and at the front of
+-- the right one, or at the end of the left part and twice at the front of the right one.
 abbrev pub is_tripled : List ℕ → List ℕ → Bool
 is_tripled x [] = false
 is_tripled x (c ∷ more) =
-    ends_with nat_eq x (c ∷ c ∷ []) || (ends_with nat_eq x (c ∷ []) && starts_with nat_eq more (c ∷ []))
+    ends_with nat_eq x (c ∷ c ∷ [])
+    || (ends_with nat_eq x (c ∷ []) && starts_with nat_eq more (c ∷ []))
 
 -- whether no flag is given, or the derivation's entry has it
 abbrev pub has_entry_as_given : Option Flag → Lexicon → Derivation → Bool
@@ -48,14 +53,17 @@ has_entry_as_given (Some flag) lexicon d = has_entry_with (Some flag) lexicon d
 
 -- whether the left part ends as the row says: with its text, or it is the entry's word as it is
 abbrev pub ends_as : JointPattern → Lexicon → List ℕ → Derivation → Bool
-ends_as row lexicon x d = if row.unmodified then is_entry_word lexicon x d else ends_with nat_eq x row.end
+ends_as row lexicon x d =
+    if row.unmodified then is_entry_word lexicon x d else ends_with nat_eq x row.end
 
 -- whether a row of the table fits two parts
 unfoldable pub fits_joint : Lexicon → List ℕ → Derivation → List ℕ → Derivation → JointPattern
     → Bool
 fits_joint lexicon x d y e row =
     ends_as row lexicon x d
-    && (starts_with nat_eq y row.begin && (has_entry_as_given row.end_flag lexicon d && has_entry_as_given row.begin_flag lexicon e))
+    && (starts_with nat_eq y row.begin
+    && (has_entry_as_given row.end_flag lexicon d
+    && has_entry_as_given row.begin_flag lexicon e))
 
 -- the points of the options that are set, whatever the two words are derived from
 abbrev pub is_dup : Options → List ℕ → List ℕ → Bool
@@ -69,7 +77,8 @@ is_triple options x y = options.check_triple && is_tripled x y
 
 -- whether no option that is set forbids that two such words meet, whatever they are derived from
 unfoldable pub is_joint_of : Options → List ℕ → List ℕ → Bool
-is_joint_of options x y = not (is_dup options x y) && (not (is_case options x y) && not (is_triple options x y))
+is_joint_of options x y =
+    not (is_dup options x y) && (not (is_case options x y) && not (is_triple options x y))
 
 -- whether a row of the table fits two parts
 abbrev pub has_fitting : Lexicon → List ℕ → Derivation → List ℕ → Derivation → Bool
@@ -77,13 +86,14 @@ has_fitting lexicon x d y e = list_any (fits_joint lexicon x d y e) lexicon.affi
 
 -- whether two parts, the forms of these derivations, may stand beside each other as they are
 unfoldable pub is_joint : Lexicon → List ℕ → Derivation → List ℕ → Derivation → Bool
-is_joint lexicon x d y e = is_joint_of lexicon.affixes.options x y && not (has_fitting lexicon x d y e)
+is_joint lexicon x d y e =
+    is_joint_of lexicon.affixes.options x y && not (has_fitting lexicon x d y e)
 
 abbrev pub IsJoint : Lexicon → List ℕ → Derivation → List ℕ → Derivation → Type 0
 IsJoint lexicon x d y e = IsTrue (is_joint lexicon x d y e)
 
--- whether they may stand beside each other with one character left out of three: SIMPLIFIEDTRIPLE is set, and nothing but the
--- three characters forbids that they meet
+-- whether they may stand beside each other with one character left out of three: SIMPLIFIEDTRIPLE
+-- is set, and nothing but the three characters forbids that they meet
 unfoldable pub is_simplified : Lexicon → List ℕ → Derivation → List ℕ → Derivation → Bool
 is_simplified lexicon x d y e =
     lexicon.affixes.options.simplified
@@ -100,7 +110,8 @@ plain_joint = record { off_end = 0; put = []; off_begin = 0 }
 abbrev pub simplified_joint : WrittenJoint
 simplified_joint = record { off_end = 1; put = []; off_begin = 0 }
 
--- this text in place of what the row names on both sides; a row that names a whole word there takes nothing off it
+-- this text in place of what the row names on both sides; a row that names a whole word there takes
+-- nothing off it
 abbrev pub replaced_joint : JointPattern → List ℕ → WrittenJoint
 replaced_joint row put = record {
   off_end = if row.unmodified then 0 else length row.end;
@@ -118,7 +129,8 @@ all_joints lexicon = plain_joint ∷ simplified_joint ∷ filter_map joint_of_ro
 
 unfoldable pub is_same_joint : WrittenJoint → WrittenJoint → Bool
 is_same_joint joint other =
-    (joint.off_end == other.off_end) && (is_same_word joint.put other.put && (joint.off_begin == other.off_begin))
+    (joint.off_end == other.off_end)
+    && (is_same_word joint.put other.put && (joint.off_begin == other.off_begin))
 
 -- whether the row fits two parts, and the joint is the row's
 abbrev pub is_replaced_by : Lexicon → List ℕ → Derivation → List ℕ → Derivation → WrittenJoint
@@ -132,19 +144,24 @@ unfoldable pub is_written_joint : Lexicon → List ℕ → Derivation → List �
 is_written_joint lexicon x d y e joint =
     (is_same_joint joint plain_joint && is_joint lexicon x d y e)
     || ((is_same_joint joint simplified_joint && is_simplified lexicon x d y e)
-    || (is_joint_of lexicon.affixes.options x y && list_any (is_replaced_by lexicon x d y e joint) lexicon.affixes.joints))
+    || (is_joint_of lexicon.affixes.options x y && list_any (is_replaced_by lexicon x d y e joint)
+    lexicon.affixes.joints))
 
 -- each of these once, where it comes first
 abbrev pub each_once : List WrittenJoint → List WrittenJoint
 each_once [] = []
-each_once (joint ∷ more) = joint ∷ filter (λ other. not (is_same_joint other joint)) (each_once more)
+each_once (joint ∷ more) =
+    joint ∷ filter (λ other. not (is_same_joint other joint)) (each_once more)
 
--- all written joints of two parts: the plain one, the simplified one, and those of the rows, each once
+-- all written joints of two parts: the plain one, the simplified one, and those of the rows, each
+-- once
 unfoldable pub joints_of : Lexicon → List ℕ → Derivation → List ℕ → Derivation → List WrittenJoint
-joints_of lexicon x d y e = filter (is_written_joint lexicon x d y e) (each_once (all_joints lexicon))
+joints_of lexicon x d y e =
+    filter (is_written_joint lexicon x d y e) (each_once (all_joints lexicon))
 
 -- The same as a relation.
-pub data IsWrittenJoint (lexicon : Lexicon) (x : List ℕ) (d : Derivation) (y : List ℕ) (e : Derivation) (joint : WrittenJoint) : Type 0 where
+pub data IsWrittenJoint (lexicon : Lexicon) (x : List ℕ) (d : Derivation) (y : List ℕ)
+    (e : Derivation) (joint : WrittenJoint) : Type 0 where
   Plain : joint ≡ plain_joint → is_joint lexicon x d y e ≡ true
       → IsWrittenJoint lexicon x d y e joint
   Simplified : joint ≡ simplified_joint → is_simplified lexicon x d y e ≡ true

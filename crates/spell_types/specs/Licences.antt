@@ -1,5 +1,6 @@
 -- Which derivations are licensed, sound, and words that stand alone; and which words are barred.
-use Rattle.std.specs.Prelude.{ℕ, Bool, true, false, not, ◌&&◌, ◌||◌, IsTrue, List, [], nat_eq, Option, None, Some, is_none, if◌then◌else◌}
+use Rattle.std.specs.Prelude.{ℕ, Bool, true, false, not, ◌&&◌, ◌||◌, IsTrue, List, [], nat_eq}
+use Rattle.std.specs.Prelude.{Option, None, Some, is_none, if◌then◌else◌}
 use Rattle.std.specs.List.{list_any}
 use Rattle.std.specs.Cmp.Lexicographic.{pointwise}
 use Rattle.spell_types.specs.declared.Affixes.{Affixes}
@@ -24,7 +25,8 @@ allows flags (Some rule) = has flags (Some rule.flag)
 -- The entry allows the first suffix, or a prefix does that the entry allows.
 abbrev pub is_first_allowed : Named → Bool
 is_first_allowed n =
-    allows n.entry.flags n.first || (allows n.entry.flags n.prefix && allows (carried_by n.prefix) n.first)
+    allows n.entry.flags n.first
+    || (allows n.entry.flags n.prefix && allows (carried_by n.prefix) n.first)
 
 -- The first suffix allows the second.
 abbrev pub is_second_allowed : Named → Bool
@@ -33,7 +35,8 @@ is_second_allowed n = allows (carried_by n.first) n.second
 -- The entry allows the prefix, or one of the suffixes does.
 abbrev pub is_prefix_allowed : Named → Bool
 is_prefix_allowed n =
-    allows n.entry.flags n.prefix || (allows (carried_by n.first) n.prefix || allows (carried_by n.second) n.prefix)
+    allows n.entry.flags n.prefix
+    || (allows (carried_by n.first) n.prefix || allows (carried_by n.second) n.prefix)
 
 -- whether an affix may stand beside one at the word's other end
 abbrev pub crosses : Option Rule → Bool
@@ -42,10 +45,13 @@ crosses (Some rule) = rule.cross
 
 -- Where there are a prefix and a suffix, each affix is of a class that crosses.
 abbrev pub is_crossing_right : Named → Bool
-is_crossing_right n = is_none n.prefix || (is_none n.first || (crosses n.prefix && (crosses n.first && crosses n.second)))
+is_crossing_right n =
+    is_none n.prefix
+    || (is_none n.first || (crosses n.prefix && (crosses n.first && crosses n.second)))
 
 abbrev pub is_allowed : Named → Bool
-is_allowed n = is_first_allowed n && (is_second_allowed n && (is_prefix_allowed n && is_crossing_right n))
+is_allowed n =
+    is_first_allowed n && (is_second_allowed n && (is_prefix_allowed n && is_crossing_right n))
 
 -- whether there is an affix, and it does not carry the flag
 abbrev pub is_affix_without : Option Flag → Option Rule → Bool
@@ -59,7 +65,8 @@ has_affix n = not (is_none n.prefix && (is_none n.first && is_none n.second))
 abbrev pub meets_need : Option Flag → Named → Bool
 meets_need need n =
     if has_affix n
-    then is_affix_without need n.prefix || (is_affix_without need n.first || is_affix_without need n.second)
+    then is_affix_without need n.prefix
+    || (is_affix_without need n.first || is_affix_without need n.second)
     else not (has n.entry.flags need)
 
 -- The prefix carries CIRCUMFIX where a suffix does, and nowhere else.
@@ -70,11 +77,14 @@ meets_circumfix circumfix n =
 
 -- It is allowed, and NEEDAFFIX and CIRCUMFIX are met.
 abbrev pub meets_signs : Signs → Named → Bool
-meets_signs signs n = is_allowed n && (meets_need signs.need_affix n && meets_circumfix signs.circumfix n)
+meets_signs signs n =
+    is_allowed n && (meets_need signs.need_affix n && meets_circumfix signs.circumfix n)
 
 -- whether an affix carries the flag
 abbrev pub some_affix_carries : Option Flag → Named → Bool
-some_affix_carries flag n = has (carried_by n.prefix) flag || (has (carried_by n.first) flag || has (carried_by n.second) flag)
+some_affix_carries flag n =
+    has (carried_by n.prefix) flag
+    || (has (carried_by n.first) flag || has (carried_by n.second) flag)
 
 -- whether the entry or an affix carries the flag
 abbrev pub some_carry : Option Flag → Named → Bool
@@ -84,7 +94,8 @@ some_carry flag n = has n.entry.flags flag || some_affix_carries flag n
 abbrev pub may_stand_alone : Affixes → Named → Bool
 may_stand_alone affixes n =
     not (has n.entry.flags affixes.signs.forbidden)
-    && (not (some_carry affixes.signs.only_inside n) && not (affixes.options.forbid_warn && has n.entry.flags affixes.signs.warn))
+    && (not (some_carry affixes.signs.only_inside n)
+    && not (affixes.options.forbid_warn && has n.entry.flags affixes.signs.warn))
 
 -- whether a derivation names something for which this holds
 abbrev pub holds_of : (Named → Bool) → Option Named → Bool
@@ -109,7 +120,9 @@ has_prefix_without flag lexicon d = holds_of (λ n. is_affix_without flag n.pref
 
 -- whether it has a suffix that does not
 unfoldable pub has_suffix_without : Option Flag → Lexicon → Derivation → Bool
-has_suffix_without flag lexicon d = holds_of (λ n. is_affix_without flag n.first || is_affix_without flag n.second) (named lexicon d)
+has_suffix_without flag lexicon d =
+    holds_of (λ n. is_affix_without flag n.first || is_affix_without flag n.second)
+    (named lexicon d)
 
 -- who allows which affix
 unfoldable pub is_licensed : Lexicon → Derivation → Bool
@@ -121,11 +134,15 @@ is_sound lexicon d = holds_of (meets_signs lexicon.affixes.signs) (named lexicon
 
 -- a sound derivation that stands as a word
 unfoldable pub is_alone : Lexicon → Derivation → Bool
-is_alone lexicon d = holds_of (λ n. meets_signs lexicon.affixes.signs n && may_stand_alone lexicon.affixes n) (named lexicon d)
+is_alone lexicon d =
+    holds_of (λ n. meets_signs lexicon.affixes.signs n && may_stand_alone lexicon.affixes n)
+    (named lexicon d)
 
 -- a sound derivation of a forbidden word
 unfoldable pub is_forbidden : Lexicon → Derivation → Bool
-is_forbidden lexicon d = holds_of (λ n. meets_signs lexicon.affixes.signs n && has n.entry.flags lexicon.affixes.signs.forbidden) (named lexicon d)
+is_forbidden lexicon d =
+    holds_of (λ n. meets_signs lexicon.affixes.signs n
+    && has n.entry.flags lexicon.affixes.signs.forbidden) (named lexicon d)
 
 abbrev pub IsLicensed : Lexicon → Derivation → Type 0
 IsLicensed lexicon d = IsTrue (is_licensed lexicon d)
@@ -147,7 +164,8 @@ has_form lexicon word d = is_word word (form_of lexicon d)
 
 -- whether the word is the form of such a derivation
 abbrev pub is_derived : (Lexicon → Derivation → Bool) → Lexicon → List ℕ → Bool
-is_derived holds lexicon word = list_any (λ d. holds lexicon d && has_form lexicon word d) (all_derivations lexicon)
+is_derived holds lexicon word =
+    list_any (λ d. holds lexicon d && has_form lexicon word d) (all_derivations lexicon)
 
 -- a forbidden word: it is the form of a sound derivation whose entry is forbidden
 unfoldable pub is_barred : Lexicon → List ℕ → Bool

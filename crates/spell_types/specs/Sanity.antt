@@ -9,7 +9,8 @@ use Rattle.spell_types.specs.declared.rules.Rule.{Rule}
 use Rattle.spell_types.specs.declared.signs.Signs.{Signs}
 use Rattle.spell_types.specs.Flags.{IsOrdinary, AreOrdinary}
 
--- the rules may be numbered with 32 bits, no text that is looked for is empty, and neither is a part of a compound
+-- the rules may be numbered with 32 bits, no text that is looked for is empty, and neither is a
+-- part of a compound
 pub record AreSaneAffixes (affixes : Affixes) : Type 0 where
   pub few : length affixes.rules < 2 ^ 32
   pub conversions : All (λ row. 0 < length row.from) affixes.iconv

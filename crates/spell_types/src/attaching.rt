@@ -1,8 +1,10 @@
 //! Attaching affix rules to words, and the conditions of rules.
 
 ghost use Rattle.std.specs.Prelude.{◌≡◌, ◌≤◌, ◌++◌, length, IfOk, IsTrue};
-ghost use Rattle.spell_types.specs.Conditions.{is_one_of, accepts, accepts_each, fits_front, fits_back};
-ghost use Rattle.spell_types.specs.Attaching.{may_strip, takes_suffix, takes_prefix, attached_suffix, attached_prefix, attached};
+ghost use Rattle.spell_types.specs.Conditions.{is_one_of, accepts, accepts_each, fits_front};
+ghost use Rattle.spell_types.specs.Conditions.{fits_back};
+ghost use Rattle.spell_types.specs.Attaching.{may_strip, takes_suffix, takes_prefix};
+ghost use Rattle.spell_types.specs.Attaching.{attached_suffix, attached_prefix, attached};
 
 use crate::{Chars, Condition, Piece, Rule, Side};
 use lists::{Items, NoMemory};
@@ -24,8 +26,8 @@ pub fn matches_back(condition: &Condition, word: &[char]) -> bool
     pieces.len() <= word.len() && accepts_each(pieces, &word[word.len() - pieces.len()..])
 }
 
-/// The word that attaching the rule to a word gives, or none where it may not be attached. `full_strip` says
-/// whether a rule may strip a word whole: the option FULLSTRIP of hunspell(5).
+/// The word that attaching the rule to a word gives, or none where it may not be attached.
+/// `full_strip` says whether a rule may strip a word whole: the option FULLSTRIP of hunspell(5).
 #[tactic(auto, unfolding(crate::specs::Attaching::attached))]
 pub fn attach(
     alloc: Global,

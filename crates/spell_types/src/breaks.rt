@@ -3,8 +3,8 @@ use crate::Chars;
 use lists::{Copied, NoMemory};
 use std::alloc::Global;
 
-/// A text that is looked for in a word: at its front, at its end, or anywhere. This is how the option BREAK of
-/// hunspell(5) writes `^text`, `text$` and `text`.
+/// A text that is looked for in a word: at its front, at its end, or anywhere. This is how the
+/// option BREAK of hunspell(5) writes `^text`, `text$` and `text`.
 #[derive(Debug, Drop)]
 pub struct Anchored {
     pub text: Chars,

@@ -3,8 +3,8 @@ use crate::{Anchored, Chars};
 use lists::{Copied, NoMemory};
 use std::alloc::Global;
 
-/// A row of the table that converts input: each `from` is written `to`, as the option ICONV of hunspell(5)
-/// has it.
+/// A row of the table that converts input: each `from` is written `to`, as the option ICONV of
+/// hunspell(5) has it.
 #[derive(Debug, Drop)]
 pub struct Conversion {
     pub from: Chars,

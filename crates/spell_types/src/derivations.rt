@@ -2,15 +2,16 @@
 
 ghost use Rattle.std.specs.Prelude.{◌≡◌, IfOk};
 ghost use Rattle.std.specs.Option.{option_map};
-ghost use Rattle.spell_types.specs.Derivations.{is_same_side, rule_on, affix_on, is_right, is_in_order, named, with_affix, formed, form_of};
+ghost use Rattle.spell_types.specs.Derivations.{is_same_side, rule_on, affix_on, is_right};
+ghost use Rattle.spell_types.specs.Derivations.{is_in_order, named, with_affix, formed, form_of};
 
 use crate::{Chars, Entry, Lexicon, Rule, Side, attach};
 use lists::{Copied, NoMemory};
 use std::alloc::Global;
 use std::marker::Model;
 
-/// An entry and the affix rules that are attached to its word: a first suffix, then a second, and last a
-/// prefix. The numbers are places, from 0, in the entries and in the rules of a dictionary.
+/// An entry and the affix rules that are attached to its word: a first suffix, then a second, and
+/// last a prefix. The numbers are places, from 0, in the entries and in the rules of a dictionary.
 #[derive(Clone, Copy, Debug, PartialEq, Eq)]
 pub struct Derivation {
     pub entry: u32,
@@ -42,8 +43,8 @@ impl<'a> Model for Named<'a> {
     } };
 }
 
-/// The word that a derivation gives: its form. None where the derivation names what is not there, a rule of
-/// the wrong side, or a second suffix and no first, or where a rule may not be attached.
+/// The word that a derivation gives: its form. None where the derivation names what is not there, a
+/// rule of the wrong side, or a second suffix and no first, or where a rule may not be attached.
 #[tactic(auto, unfolding(crate::specs::Derivations::form_of))]
 pub fn form(alloc: Global, lexicon: &Lexicon, d: &Derivation) -> Result<Option<Chars>, NoMemory>
     ensures { IfOk result (λ made. made ≡ form_of lexicon.now d.now) }

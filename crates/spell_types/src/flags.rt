@@ -1,6 +1,7 @@
 //! Flags, and sets of them.
 
-ghost use Rattle.std.specs.Prelude.{◌≡◌, ◌<◌, ◌≤◌, ◌↔◌, ◌==◌, ◌||◌, List, [], ◌∷◌, length, slice_get, Some, IsTrue, OnOk, OnErr, IfOk, IfErr, Contains};
+ghost use Rattle.std.specs.Prelude.{◌≡◌, ◌<◌, ◌≤◌, ◌↔◌, ◌==◌, ◌||◌, List, [], ◌∷◌, length};
+ghost use Rattle.std.specs.Prelude.{slice_get, Some, IsTrue, OnOk, OnErr, IfOk, IfErr, Contains};
 ghost use Rattle.std.specs.List.Sorted.{IsPartitionPoint};
 ghost use Rattle.spell_types.specs.declared.flags.Flag.{Flag};
 ghost use Rattle.spell_types.specs.Flags.{IsRising, put, put_all, has};
@@ -26,7 +27,8 @@ pub enum FlagKind {
     Num,
 }
 
-/// A set of flags. Contracts see it as the list of its flags, which rises, so that none stands in it twice.
+/// A set of flags. Contracts see it as the list of its flags, which rises, so that none stands in
+/// it twice.
 #[derive(Debug, Drop)]
 pub struct FlagSet {
     kept: Vec<Flag>,
@@ -91,7 +93,8 @@ pub fn has(set: &FlagSet, flag: Option<Flag>) -> bool
     }
 }
 
-/// The set of some flags rises, and has exactly those flags. `has` tells which flags a set has, also once flags are put in.
+/// The set of some flags rises, and has exactly those flags. `has` tells which flags a set has,
+/// also once flags are put in.
 pub fn sets_have_their_flags()
     ensures rising { (flags : List Flag) → IsRising (put_all [] flags) }
     ensures members { (flags : List Flag) (flag : Flag) →

@@ -1,7 +1,8 @@
 //! Which parts of compounds may not meet, and how two parts are written together.
 
 ghost use Rattle.std.specs.Prelude.{◌≡◌, ◌↔◌, ℕ, List, Contains, IfOk, IsTrue};
-ghost use Rattle.spell_types.specs.Joints.{is_written_joint, joints_of, plain_joint, IsWrittenJoint};
+ghost use Rattle.spell_types.specs.Joints.{is_written_joint, joints_of, plain_joint};
+ghost use Rattle.spell_types.specs.Joints.{IsWrittenJoint};
 ghost use Rattle.spell_types.specs.declared.Lexicon.{Lexicon};
 ghost use Rattle.spell_types.specs.declared.derivations.Derivation.{Derivation};
 ghost use Rattle.spell_types.specs.declared.joints.WrittenJoint.{WrittenJoint};
@@ -11,7 +12,8 @@ use lists::{Copied, Items, NoMemory};
 use std::alloc::Global;
 use std::default::MadeWith;
 
-/// Two parts that may not meet as they are: a row of the option CHECKCOMPOUNDPATTERN of hunspell(5).
+/// Two parts that may not meet as they are: a row of the option CHECKCOMPOUNDPATTERN of
+/// hunspell(5).
 #[derive(Debug, Drop)]
 pub struct JointPattern {
     /// What the left part ends with.
@@ -86,8 +88,10 @@ impl MadeWith<Global> for WrittenJoint {
 
 /// What the written joints of two parts are, where these texts are the forms of these derivations.
 pub fn joints_are_written()
-    ensures tested { (lexicon : Lexicon) (x : List ℕ) (d : Derivation) (y : List ℕ) (e : Derivation) (joint : WrittenJoint)
+    ensures tested { (lexicon : Lexicon) (x : List ℕ) (d : Derivation) (y : List ℕ) (e : Derivation)
+        (joint : WrittenJoint)
         → IsTrue (is_written_joint lexicon x d y e joint) ↔ IsWrittenJoint lexicon x d y e joint }
-    ensures listed { (lexicon : Lexicon) (x : List ℕ) (d : Derivation) (y : List ℕ) (e : Derivation) (joint : WrittenJoint)
+    ensures listed { (lexicon : Lexicon) (x : List ℕ) (d : Derivation) (y : List ℕ) (e : Derivation)
+        (joint : WrittenJoint)
         → Contains (joints_of lexicon x d y e) joint ↔ IsWrittenJoint lexicon x d y e joint }
 {}

@@ -53,14 +53,15 @@ pub struct Entry {
 pub struct Affixes {
     /// How both files write flags.
     pub kind: FlagKind,
-    /// The sets that ordinals stand for, where flag fields are ordinals: the option AF of hunspell(5).
+    /// The sets that ordinals stand for, where flag fields are ordinals: the option AF of
+    /// hunspell(5).
     pub aliases: Option<Items<FlagSet>>,
     /// The rules of all affix classes, in the order of the file.
     pub rules: Items<Rule>,
     pub signs: Signs,
     pub options: Options,
-    /// The characters that are dropped from dictionary words, from what rules strip off and add, and from input:
-    /// the option IGNORE of hunspell(5).
+    /// The characters that are dropped from dictionary words, from what rules strip off and add,
+    /// and from input: the option IGNORE of hunspell(5).
     pub ignore: Chars,
     /// The characters that are word characters beside letters and marks: the option WORDCHARS of
     /// hunspell(5).
@@ -71,7 +72,8 @@ pub struct Affixes {
     pub reps: Items<Rep>,
     /// Where words may be broken: the option BREAK of hunspell(5).
     pub breaks: Items<Anchored>,
-    /// The parts of compounds that may not meet as they are: the option CHECKCOMPOUNDPATTERN of hunspell(5).
+    /// The parts of compounds that may not meet as they are: the option CHECKCOMPOUNDPATTERN of
+    /// hunspell(5).
     pub joints: Items<JointPattern>,
     /// The compound rules: the option COMPOUNDRULE of hunspell(5).
     pub patterns: Items<Pattern>,

@@ -2,15 +2,24 @@
 
 ghost use Rattle.std.specs.Prelude.{◌≡◌, []};
 ghost use Rattle.std.specs.Option.{option_map, option_map_or};
-ghost use Rattle.spell_types.specs.Bases.{allows_case, has_sharp_entry, holds_character, is_alone_in_case, keeps_case};
+ghost use Rattle.spell_types.specs.Bases.{allows_case, has_sharp_entry, holds_character};
+ghost use Rattle.spell_types.specs.Bases.{is_alone_in_case, keeps_case};
 ghost use Rattle.spell_types.specs.EntriesOf.{entry_flags, is_entry_word};
 ghost use Rattle.spell_types.specs.Flags.{has};
-ghost use Rattle.spell_types.specs.Licences.{has_some_with, has_prefix_without, has_suffix_without, carried_by, allows, crosses, is_affix_without, has_affix, meets_need, meets_circumfix, some_affix_carries, some_carry, has_entry_with, has_affix_with, is_first_allowed, is_second_allowed, is_prefix_allowed, is_crossing_right, is_allowed, meets_signs, may_stand_alone, is_licensed, is_sound, is_alone, is_forbidden};
+ghost use Rattle.spell_types.specs.Licences.{has_some_with, has_prefix_without, has_suffix_without};
+ghost use Rattle.spell_types.specs.Licences.{carried_by, allows, crosses, is_affix_without};
+ghost use Rattle.spell_types.specs.Licences.{has_affix, meets_need, meets_circumfix};
+ghost use Rattle.spell_types.specs.Licences.{some_affix_carries, some_carry, has_entry_with};
+ghost use Rattle.spell_types.specs.Licences.{has_affix_with, is_first_allowed, is_second_allowed};
+ghost use Rattle.spell_types.specs.Licences.{is_prefix_allowed, is_crossing_right, is_allowed};
+ghost use Rattle.spell_types.specs.Licences.{meets_signs, may_stand_alone, is_licensed, is_sound};
+ghost use Rattle.spell_types.specs.Licences.{is_alone, is_forbidden};
 
 use crate::derivations::{Named, named_by};
 use crate::{Affixes, Derivation, Flag, FlagSet, Lexicon, Rule, Signs, has};
 
-/// Whether a derivation is in order, and each of its affixes is allowed by the entry or by another affix.
+/// Whether a derivation is in order, and each of its affixes is allowed by the entry or by another
+/// affix.
 #[tactic(auto, unfolding(crate::specs::Licences::is_licensed))]
 pub fn licensed(lexicon: &Lexicon, d: &Derivation) -> bool
     ensures { result ≡ is_licensed lexicon.now d.now }
@@ -32,8 +41,8 @@ pub fn sound(lexicon: &Lexicon, d: &Derivation) -> bool
     }
 }
 
-/// Whether a sound derivation stands as a word: the options FORBIDDENWORD, ONLYINCOMPOUND, WARN and FORBIDWARN of
-/// hunspell(5).
+/// Whether a sound derivation stands as a word: the options FORBIDDENWORD, ONLYINCOMPOUND, WARN and
+/// FORBIDWARN of hunspell(5).
 #[tactic(auto, unfolding(crate::specs::Licences::is_alone))]
 pub fn alone(lexicon: &Lexicon, d: &Derivation) -> bool
     ensures { result ≡ is_alone lexicon.now d.now }
@@ -55,8 +64,8 @@ pub enum Case {
     Other,
 }
 
-/// Whether a derivation stands as a word for a word that is written in this case: the options KEEPCASE and CHECKSHARPS of
-/// hunspell(5).
+/// Whether a derivation stands as a word for a word that is written in this case: the options
+/// KEEPCASE and CHECKSHARPS of hunspell(5).
 #[tactic(auto, unfolding(crate::specs::Bases::is_alone_in_case))]
 pub fn alone_in_case(case: Case, lexicon: &Lexicon, d: &Derivation) -> bool
     ensures { result ≡ is_alone_in_case case lexicon.now d.now }
@@ -130,7 +139,8 @@ pub fn has_some_with(flag: Option<Flag>, lexicon: &Lexicon, d: &Derivation) -> b
     }
 }
 
-/// Whether a derivation has a prefix that does not carry the flag. A flag that is not given is carried by none.
+/// Whether a derivation has a prefix that does not carry the flag. A flag that is not given is
+/// carried by none.
 #[tactic(auto, unfolding(crate::specs::Licences::has_prefix_without))]
 pub fn has_prefix_without(flag: Option<Flag>, lexicon: &Lexicon, d: &Derivation) -> bool
     ensures { result ≡ has_prefix_without flag lexicon.now d.now }
@@ -141,7 +151,8 @@ pub fn has_prefix_without(flag: Option<Flag>, lexicon: &Lexicon, d: &Derivation)
     }
 }
 
-/// Whether a derivation has a suffix that does not carry the flag. A flag that is not given is carried by none.
+/// Whether a derivation has a suffix that does not carry the flag. A flag that is not given is
+/// carried by none.
 #[tactic(auto, unfolding(crate::specs::Licences::has_suffix_without))]
 pub fn has_suffix_without(flag: Option<Flag>, lexicon: &Lexicon, d: &Derivation) -> bool
     ensures { result ≡ has_suffix_without flag lexicon.now d.now }
@@ -170,7 +181,8 @@ pub fn is_entry_word(lexicon: &Lexicon, text: &[char], d: &Derivation) -> bool
     }
 }
 
-/// Whether a derivation is sound and its entry a forbidden word: the option FORBIDDENWORD of hunspell(5).
+/// Whether a derivation is sound and its entry a forbidden word: the option FORBIDDENWORD of
+/// hunspell(5).
 #[tactic(auto, unfolding(crate::specs::Licences::is_forbidden))]
 pub fn forbidden(lexicon: &Lexicon, d: &Derivation) -> bool
     ensures { result ≡ is_forbidden lexicon.now d.now }

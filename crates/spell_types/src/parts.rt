@@ -16,7 +16,8 @@ pub enum Place {
     Last,
 }
 
-/// A part of a compound: a derivation, the text that is its form, and what its neighbours make of it.
+/// A part of a compound: a derivation, the text that is its form, and what its neighbours make of
+/// it.
 #[derive(Debug, Drop)]
 pub struct Part {
     pub text: Chars,
@@ -27,11 +28,13 @@ pub struct Part {
     pub joint: WrittenJoint,
 }
 
-/// What a compound is: parts of the dictionary make it up, and it is no common misspelling, if that is asked. Each part keeps
-/// a character of its own, so that the length of a word bounds how many parts it has.
+/// What a compound is: parts of the dictionary make it up, and it is no common misspelling, if that
+/// is asked. Each part keeps a character of its own, so that the length of a word bounds how many
+/// parts it has.
 pub fn compounds_have_parts()
     ensures made_up { (a : Asked) (word : List ℕ) → IsTrue (is_made_up a word) ↔ IsMadeUp a word }
-    ensures related { (a : Asked) (word : List ℕ) → IsTrue (is_compound a word) ↔ IsCompound a word }
+    ensures related { (a : Asked) (word : List ℕ) → IsTrue (is_compound a word)
+        ↔ IsCompound a word }
     ensures spelled { (lexicon : Lexicon) (word : List ℕ) → AreSaneAffixes lexicon.affixes →
         IsTrue (has_rep_fault lexicon word) ↔ HasRepFault lexicon word }
 {}

@@ -3,7 +3,8 @@
 ghost use Rattle.std.specs.Prelude.{◌≡◌, ◌↔◌, List, IsTrue};
 ghost use Rattle.spell_types.specs.declared.flags.Flag.{Flag};
 ghost use Rattle.spell_types.specs.declared.patterns.PatternStep.{PatternStep};
-ghost use Rattle.spell_types.specs.Patterns.{fits_step, is_left_out, is_many, matches, MatchesPattern, MatchesOneByOne};
+ghost use Rattle.spell_types.specs.Patterns.{fits_step, is_left_out, is_many, matches};
+ghost use Rattle.spell_types.specs.Patterns.{MatchesPattern, MatchesOneByOne};
 
 use crate::{Flag, FlagSet, has};
 use lists::{Copied, Items, NoMemory};

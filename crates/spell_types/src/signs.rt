@@ -2,7 +2,8 @@
 
 use crate::Flag;
 
-/// The flags that the options of hunspell(5) give a meaning; none where the .aff file has no such line.
+/// The flags that the options of hunspell(5) give a meaning; none where the .aff file has no such
+/// line.
 #[derive(Clone, Copy, Debug, PartialEq, Eq)]
 pub struct Signs {
     /// NEEDAFFIX, also called PSEUDOROOT: no word without an affix that lacks it.
@@ -48,9 +49,11 @@ pub struct Options {
     pub check_case: bool,
     /// CHECKCOMPOUNDTRIPLE: no character stands three times in a row where two parts meet.
     pub check_triple: bool,
-    /// SIMPLIFIEDTRIPLE: parts that CHECKCOMPOUNDTRIPLE refuses meet where one of the three is left out.
+    /// SIMPLIFIEDTRIPLE: parts that CHECKCOMPOUNDTRIPLE refuses meet where one of the three is left
+    /// out.
     pub simplified: bool,
-    /// CHECKSHARPS: SS may stand for ß, and a word with KEEPCASE that holds ß may begin with a capital, or be in capitals with SS.
+    /// CHECKSHARPS: SS may stand for ß, and a word with KEEPCASE that holds ß may begin with a
+    /// capital, or be in capitals with SS.
     pub sharps: bool,
     /// CHECKCOMPOUNDREP: no compound is a common misspelling of a word.
     pub check_rep: bool,

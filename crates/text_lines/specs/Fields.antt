@@ -1,5 +1,6 @@
 -- What the fields of a text are, and which texts are decimals.
-use Rattle.std.specs.Prelude.{ℕ, ◌^◌, ◌==◌, ◌||◌, ◌&&◌, Bool, not, List, length, filter, nat_lt, Option, Some, None, if◌then◌else◌}
+use Rattle.std.specs.Prelude.{ℕ, ◌^◌, ◌==◌, ◌||◌, ◌&&◌, Bool, not, List, length, filter, nat_lt}
+use Rattle.std.specs.Prelude.{Option, Some, None, if◌then◌else◌}
 use Rattle.std.specs.List.{slice_split}
 use Rattle.std.specs.Str.{all_ascii_digits}
 use Rattle.std.specs.Str.Parse.{digits_value}
@@ -22,4 +23,5 @@ is_decimal text = has_bytes text && all_ascii_digits text
 
 -- the number that a text writes with decimal digits, if it does and the number is below 2^64
 unfoldable pub decimal_of : List ℕ → Option ℕ
-decimal_of text = if is_decimal text && nat_lt (digits_value 10 text) (2 ^ 64) then Some (digits_value 10 text) else None
+decimal_of text = if is_decimal text && nat_lt (digits_value 10 text) (2 ^ 64)
+    then Some (digits_value 10 text) else None

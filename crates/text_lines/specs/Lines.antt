@@ -1,5 +1,8 @@
--- What the lines of a file are. A line ends at a line feed or at the end of the bytes; a last piece without bytes is no line.
-use Rattle.std.specs.Prelude.{◌≡◌, ℕ, ◌+◌, ◌<◌, ◌≤◌, ◌==◌, Bool, true, not, List, [], ◌∷◌, map, length, drop, nat_eq, nat_lt, find, take_while, Option, Some, None, slice_range, if◌then◌else◌}
+-- What the lines of a file are. A line ends at a line feed or at the end of the bytes; a last piece
+-- without bytes is no line.
+use Rattle.std.specs.Prelude.{◌≡◌, ℕ, ◌+◌, ◌<◌, ◌≤◌, ◌==◌, Bool, true, not, List, [], ◌∷◌, map}
+use Rattle.std.specs.Prelude.{length, drop, nat_eq, nat_lt, find, take_while, Option, Some, None}
+use Rattle.std.specs.Prelude.{slice_range, if◌then◌else◌}
 use Rattle.std.specs.List.{slice_split, starts_with}
 use Rattle.std.specs.Option.{option_map}
 use Rattle.std.specs.Str.{is_utf8}
@@ -19,20 +22,25 @@ first_place bytes = if starts_with nat_eq bytes byte_order_mark then 3 else 0
 abbrev pub is_line_feed : ℕ → Bool
 is_line_feed byte = byte == 10
 
--- the line of a piece that begins at a place: a carriage return at the piece's end is not of the line, but only the last one
+-- the line of a piece that begins at a place: a carriage return at the piece's end is not of the
+-- line, but only the last one
 abbrev pub line_at : ℕ → ℕ → List ℕ → Line
-line_at number place piece = record { number = number; from = place; to = place + length (strip_carriage_return piece) }
+line_at number place piece =
+    record { number = number; from = place; to = place + length (strip_carriage_return piece) }
 
--- the lines of the pieces between line feeds, where the first piece begins at a place and its line has a number
+-- the lines of the pieces between line feeds, where the first piece begins at a place and its line
+-- has a number
 abbrev pub lines_from : ℕ → ℕ → List (List ℕ) → List Line
 lines_from number place [] = []
-lines_from number place (piece ∷ []) = if length piece == 0 then [] else line_at number place piece ∷ []
+lines_from number place (piece ∷ []) =
+    if length piece == 0 then [] else line_at number place piece ∷ []
 lines_from number place (piece ∷ next ∷ more) =
     line_at number place piece ∷ lines_from (number + 1) (place + length piece + 1) (next ∷ more)
 
 -- the lines from a place on, the first of them with a number
 unfoldable pub lines_after : List ℕ → ℕ → ℕ → List Line
-lines_after bytes number place = lines_from number place (slice_split is_line_feed (drop place bytes))
+lines_after bytes number place =
+    lines_from number place (slice_split is_line_feed (drop place bytes))
 
 -- the lines of a file, numbered from 1
 abbrev pub all_lines : List ℕ → List Line
@@ -56,7 +64,8 @@ good_lines bytes = take_while (is_text bytes) (all_lines bytes)
 
 -- the number of the first line that is not UTF-8
 abbrev pub bad_line : List ℕ → Option ℕ
-bad_line bytes = option_map (λ line. line.number) (find (λ line. not (is_text bytes line)) (all_lines bytes))
+bad_line bytes =
+    option_map (λ line. line.number) (find (λ line. not (is_text bytes line)) (all_lines bytes))
 
 -- the lines from here on before the first that is not UTF-8
 abbrev pub good_ahead : List ℕ → Ahead → List Line
@@ -64,7 +73,9 @@ good_ahead bytes ahead = take_while (is_text bytes) (lines_after bytes ahead.num
 
 -- the number of the first line from here on that is not UTF-8
 abbrev pub bad_ahead : List ℕ → Ahead → Option ℕ
-bad_ahead bytes ahead = option_map (λ line. line.number) (find (λ line. not (is_text bytes line)) (lines_after bytes ahead.number ahead.place))
+bad_ahead bytes ahead =
+    option_map (λ line. line.number)
+    (find (λ line. not (is_text bytes line)) (lines_after bytes ahead.number ahead.place))
 
 -- the line that comes next, if one does, and the good lines behind it
 abbrev pub good_from : List ℕ → Option (Line × Ahead) → List Line

@@ -5,11 +5,14 @@
 //! dropped. A field is a longest run of characters other than space and tab.
 #![tactic(auto)]
 
-ghost use Rattle.std.specs.Prelude.{◌≡◌, ◌+◌, ◌≤◌, ◌<◌, All, IfNone, IfOk, IfSome, OnOk, IsTrue, length, drop, map, slice_get, slice_range};
+ghost use Rattle.std.specs.Prelude.{◌≡◌, ◌+◌, ◌≤◌, ◌<◌, All, IfNone, IfOk, IfSome, OnOk, IsTrue};
+ghost use Rattle.std.specs.Prelude.{length, drop, map, slice_get, slice_range};
 ghost use Rattle.std.specs.List.{position_or_len, range_with_len};
 ghost use Rattle.std.specs.Option.{option_copied};
 ghost use Rattle.text_lines.specs.Fields.{fields, decimal_of};
-ghost use Rattle.text_lines.specs.Lines.{first_place, is_line_feed, line_at, is_text, good_lines, bad_line, good_ahead, bad_ahead, good_from, number_here, text_of, IsInside, ComesNext};
+ghost use Rattle.text_lines.specs.Lines.{first_place, is_line_feed, line_at, is_text, good_lines};
+ghost use Rattle.text_lines.specs.Lines.{bad_line, good_ahead, bad_ahead, good_from, number_here};
+ghost use Rattle.text_lines.specs.Lines.{text_of, IsInside, ComesNext};
 
 use crate::found::{Ahead, Line, Lines};
 use bstr::ByteSlice;

@@ -1,7 +1,8 @@
 //! The runner of rows: text that says what a run of the program meets, and how it ends.
 //!
-//! Rows are blocks of lines, with blank lines between them. A line begins with its name and a space. A line that runs the program
-//! takes all that the block says above it; of two lines with one name the later one counts.
+//! Rows are blocks of lines, with blank lines between them. A line begins with its name and a
+//! space. A line that runs the program takes all that the block says above it; of two lines with
+//! one name the later one counts.
 //!
 //! | line | what it says |
 //! |---|---|
@@ -18,19 +19,21 @@
 //! | `puts 1 7` | the put that fails, and how many bytes it takes |
 //! | `piece 5` | how many bytes a read brings |
 //!
-//! Without `words` a block with an input runs `edit a.aff a.dic`, and has the files of `FOLDER` beside its own. A block without an
-//! input runs `check a.aff a.dic text`, where a file that the block does not name is empty. With `words` a file that is not named is
-//! missing.
+//! Without `words` a block with an input runs `edit a.aff a.dic`, and has the files of `FOLDER`
+//! beside its own. A block without an input runs `check a.aff a.dic text`, where a file that the
+//! block does not name is empty. With `words` a file that is not named is missing.
 //!
-//! A dialogue that is to end with the status 0, and with nothing behind its last reply, needs no line that runs it. Each run with an
-//! input is tried in pieces of one byte, of seven, and in one, unless `piece` says how long they are, and without its last line feed
-//! as well.
+//! A dialogue that is to end with the status 0, and with nothing behind its last reply, needs no
+//! line that runs it. Each run with an input is tried in pieces of one byte, of seven, and in one,
+//! unless `piece` says how long they are, and without its last line feed as well.
 //!
-//! Of a file bars part the lines: the last one has an end where a bar stands behind it. `3*LINE` is a line three times. `@9 TEXT@` is
-//! a text nine times, and `@xc0af@` are the bytes of these digits. The same stands behind a status, where the last line has an end,
-//! unless a line `puts` is there; behind `> ` and `< ` bars and stars are themselves.
+//! Of a file bars part the lines: the last one has an end where a bar stands behind it. `3*LINE` is
+//! a line three times. `@9 TEXT@` is a text nine times, and `@xc0af@` are the bytes of these
+//! digits. The same stands behind a status, where the last line has an end, unless a line `puts` is
+//! there; behind `> ` and `< ` bars and stars are themselves.
 //!
-//! Nothing is passed over in silence: a line with no such name fails, and so does one that no run takes in.
+//! Nothing is passed over in silence: a line with no such name fails, and so does one that no run
+//! takes in.
 
 mod files;
 mod given;
@@ -139,7 +142,8 @@ fn run_fault<R: Threads + Wait + Sync + Abort>(
     run_line(rt, alloc, &given, &ending)
 }
 
-/// Runs the program over what the given lines say, in each way that its input may come, as a line with a status says.
+/// Runs the program over what the given lines say, in each way that its input may come, as a line
+/// with a status says.
 fn run_line<R: Threads + Wait + Sync + Abort>(
     rt: &R,
     alloc: Global,

@@ -1,5 +1,6 @@
 -- The words of what is left of a paragraph, one after another.
-use Rattle.std.specs.Prelude.{◌≡◌, ℕ, ◌+◌, ◌-◌, ◌<◌, ◌≤◌, Bool, true, false, List, [], ◌∷◌, Option, Some, None, drop, length}
+use Rattle.std.specs.Prelude.{◌≡◌, ℕ, ◌+◌, ◌-◌, ◌<◌, ◌≤◌, Bool, true, false, List, [], ◌∷◌, Option}
+use Rattle.std.specs.Prelude.{Some, None, drop, length}
 use Rattle.std.specs.List.{filter_map, slice_split}
 use Rattle.std.specs.Str.{IsUtf8, chars}
 use Rattle.mark_types.specs.Words.{Word, placed, word_of, is_outside}
@@ -8,7 +9,8 @@ use Rattle.word_cutter.specs.declared.Found.{Found}
 
 -- the words of the text from this byte of its paragraph on, behind the character `before`
 unfoldable pub words_from : List ℕ → ℕ → ℕ → List ℕ → List Word
-words_from wordchars at before text = filter_map word_of (slice_split is_outside (placed wordchars at before (chars text)))
+words_from wordchars at before text =
+    filter_map word_of (slice_split is_outside (placed wordchars at before (chars text)))
 
 -- the words of what is left of a paragraph
 unfoldable pub words_after : List ℕ → Rest → List Word
@@ -21,7 +23,8 @@ found_word characters found = record { from = found.from; to = found.to; charact
 -- the word that was found, if one was, with these characters, and those behind it
 abbrev pub words_from_found : List ℕ → List ℕ → Option Found → List Word
 words_from_found wordchars characters None = []
-words_from_found wordchars characters (Some found) = found_word characters found ∷ words_after wordchars found.rest
+words_from_found wordchars characters (Some found) =
+    found_word characters found ∷ words_after wordchars found.rest
 
 -- whether there are words
 abbrev pub has_some : List Word → Bool

@@ -2,7 +2,8 @@
 
 ghost use Rattle.std.specs.Prelude.{◌≡◌, ◌||◌};
 ghost use Rattle.unicode.specs.Binary.{is_alphabetic};
-ghost use Rattle.mark_types.specs.Characters.{is_word_character, is_apostrophe, is_combining_mark, is_letter_or_digit};
+ghost use Rattle.mark_types.specs.Characters.{is_word_character, is_apostrophe, is_combining_mark};
+ghost use Rattle.mark_types.specs.Characters.{is_letter_or_digit};
 
 use unicode::properties::{GeneralCategory, GeneralCategoryGroup, is_alphabetic};
 

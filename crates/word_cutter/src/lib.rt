@@ -1,10 +1,11 @@
 //! Cuts a paragraph into words.
 //!
-//! Letters, combining marks and the characters of WORDCHARS, an option of hunspell(5), make words; apostrophes join, and a
-//! word holds a letter or an ASCII digit: this is the project's own rule.
+//! Letters, combining marks and the characters of WORDCHARS, an option of hunspell(5), make words;
+//! apostrophes join, and a word holds a letter or an ASCII digit: this is the project's own rule.
 #![tactic(auto)]
 
-ghost use Rattle.std.specs.Prelude.{◌≡◌, ℕ, ◌+◌, ◌<◌, ◌≤◌, ◌^◌, ◌&&◌, List, [], ◌∷◌, ◌++◌, IfOk, IfNone, IfSome, encode_utf8, map, length};
+ghost use Rattle.std.specs.Prelude.{◌≡◌, ℕ, ◌+◌, ◌<◌, ◌≤◌, ◌^◌, ◌&&◌, List, [], ◌∷◌, ◌++◌, IfOk};
+ghost use Rattle.std.specs.Prelude.{IfNone, IfSome, encode_utf8, map, length};
 ghost use Rattle.std.specs.Str.{chars};
 ghost use Rattle.mark_types.specs.Characters.{is_letter_or_digit};
 ghost use Rattle.mark_types.specs.Words.{belongs, first_of, words_of};
@@ -41,7 +42,8 @@ pub struct Found<'a> {
 /// The words of a paragraph, in order, by their bytes from 0.
 pub fn cut(alloc: Global, text: &str, wordchars: &[char]) -> Result<Vec<Span>, NoMemory>
     requires { length text.now < 2 ^ 32 }
-    ensures words { IfOk result (λ spans. spans.items ≡ map span_of (words_of wordchars.now (chars text.now))) }
+    ensures words { IfOk result
+        (λ spans. spans.items ≡ map span_of (words_of wordchars.now (chars text.now))) }
     ensures few { IfOk result (λ spans. length spans.items ≤ length text.now) }
 {
     let mut word = Vec::new(alloc);
@@ -60,7 +62,8 @@ pub fn cut(alloc: Global, text: &str, wordchars: &[char]) -> Result<Vec<Span>, N
 impl<'a> Rest<'a> {
     /// All of a paragraph.
     pub fn of(text: &'a str) -> Rest<'a>
-        ensures words { (wordchars : List ℕ) → words_after wordchars result ≡ words_of wordchars (chars text.now) }
+        ensures words { (wordchars : List ℕ)
+            → words_after wordchars result ≡ words_of wordchars (chars text.now) }
         ensures text { result.text.now ≡ text.now }
         ensures at { result.at ≡ 0 }
     {
@@ -72,15 +75,17 @@ impl<'a> Rest<'a> {
     }
 }
 
-/// The first word of what is left of a paragraph. Its characters are put where those of another word stood: no more are
-/// held than stand in one run of characters of words.
+/// The first word of what is left of a paragraph. Its characters are put where those of another
+/// word stood: no more are held than stand in one run of characters of words.
 pub fn next_word<'a>(
     wordchars: &[char],
     rest: Rest<'a>,
     word: &mut Vec<char>,
 ) -> Result<Option<Found<'a>>, NoMemory>
     requires { rest.at + length rest.text.now < 2 ^ 32 }
-    ensures words { IfOk result (λ found. words_from_found wordchars.now word.new.items found ≡ words_after wordchars.now rest.entry) }
+    ensures words { IfOk result
+        (λ found. words_from_found wordchars.now word.new.items found ≡ words_after wordchars.now
+        rest.entry) }
     ensures less { IfOk result (λ found. IfSome found (LeavesLess rest.entry)) }
 {
     word.clear();
@@ -121,7 +126,8 @@ pub fn next_word<'a>(
     }))
 }
 
-/// Whether a word is left of a paragraph. It is looked for up to its first letter or digit, which takes no memory.
+/// Whether a word is left of a paragraph. It is looked for up to its first letter or digit, which
+/// takes no memory.
 pub fn has_word(wordchars: &[char], rest: Rest<'_>) -> bool
     ensures { result ≡ has_some (words_after wordchars.now rest.entry) }
 {
@@ -142,7 +148,8 @@ pub fn has_word(wordchars: &[char], rest: Rest<'_>) -> bool
 
 /// Whether the character is a letter or a digit of a word, where it stands between these two.
 fn shows_word(wordchars: &[char], before: char, c: char, behind: &str) -> bool
-    ensures { result ≡ (is_letter_or_digit c && belongs wordchars.now before c (first_of (chars behind.now))) }
+    ensures { result
+        ≡ (is_letter_or_digit c && belongs wordchars.now before c (first_of (chars behind.now))) }
 {
     is_letter_or_digit(c) && belongs(wordchars, before, c, behind)
 }
@@ -150,7 +157,9 @@ fn shows_word(wordchars: &[char], before: char, c: char, behind: &str) -> bool
 /// The first character of a text, and what stands behind it.
 fn first_character(text: &str) -> Option<(char, &str)>
     ensures none { IfNone result ((chars text.now ≡ []) × (length text.now ≡ 0)) }
-    ensures some { IfSome result (λ (c, behind). (chars text.now ≡ c ∷ chars behind.now) × (text.now ≡ encode_utf8 c ++ behind.now)) }
+    ensures some { IfSome result
+        (λ (c, behind). (chars text.now ≡ c ∷ chars behind.now)
+        × (text.now ≡ encode_utf8 c ++ behind.now)) }
 {
     let mut left = text.chars();
     match left.next() {
@@ -169,8 +178,8 @@ fn first_of(text: &str) -> char
     }
 }
 
-/// Whether the character belongs to a word where it stands between these two. Only an apostrophe needs to know what is
-/// behind it.
+/// Whether the character belongs to a word where it stands between these two. Only an apostrophe
+/// needs to know what is behind it.
 #[tactic(auto, unfolding(mark_types::specs::Words::belongs))]
 fn belongs(wordchars: &[char], before: char, c: char, behind: &str) -> bool
     ensures { result ≡ belongs wordchars.now before c (first_of (chars behind.now)) }

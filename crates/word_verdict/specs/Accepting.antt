@@ -9,7 +9,8 @@ use Rattle.spell_types.specs.Yields.{is_broken_by, is_accepted, is_accepted_undo
 abbrev pub is_accepted_short : Lexicon → List ℕ → Bool
 is_accepted_short lexicon word = is_broken_by lexicon word || is_accepted_undotted lexicon word
 
--- whether what stands before the dots at the end of a word is accepted, where dots are word characters
+-- whether what stands before the dots at the end of a word is accepted, where dots are word
+-- characters
 abbrev pub is_accepted_before_dots : Lexicon → List ℕ → Bool
 is_accepted_before_dots lexicon rest =
     is_one_of lexicon.affixes.wordchars 46 && (nat_lt 0 (length rest) && is_accepted lexicon rest)

@@ -2,7 +2,8 @@
 use Rattle.std.specs.Prelude.{ℕ, Bool, ◌||◌, List, [], ◌∷◌, if◌then◌else◌}
 use Rattle.std.specs.List.{list_any}
 use Rattle.spell_types.specs.declared.Lexicon.{Lexicon}
-use Rattle.spell_types.specs.Bases.{is_alone_in_case, asked_for, case_of, is_base, is_right_spelling}
+use Rattle.spell_types.specs.Bases.{is_alone_in_case, asked_for, case_of, is_base}
+use Rattle.spell_types.specs.Bases.{is_right_spelling}
 use Rattle.spell_types.specs.Cases.{covered_by}
 use Rattle.spell_types.specs.Compounds.{is_compound}
 use Rattle.spell_types.specs.Licences.{is_derived, is_barred}
@@ -20,7 +21,8 @@ judged lexicon piece = judged_by (is_barred lexicon piece) (is_base lexicon piec
 -- whether a spelling stands by itself for a word that is written so, or is a compound
 abbrev pub is_alone_or_compound : Lexicon → List ℕ → List ℕ → Bool
 is_alone_or_compound lexicon written spelling =
-    is_derived (is_alone_in_case (case_of lexicon.affixes.options.sharps written spelling)) lexicon spelling
+    is_derived (is_alone_in_case (case_of lexicon.affixes.options.sharps written spelling)) lexicon
+    spelling
     || is_compound (asked_for lexicon written spelling) spelling
 
 -- the spellings but the first one, which is the word as it is written
@@ -30,4 +32,6 @@ behind_first (written ∷ others) = others
 
 -- whether another spelling than the written one, which the word covers, is right
 unfoldable pub covers_right_spelling : Lexicon → List ℕ → Bool
-covers_right_spelling lexicon word = list_any (is_right_spelling lexicon word) (behind_first (covered_by lexicon.affixes.options.sharps word))
+covers_right_spelling lexicon word =
+    list_any (is_right_spelling lexicon word)
+    (behind_first (covered_by lexicon.affixes.options.sharps word))

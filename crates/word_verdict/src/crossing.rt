@@ -1,5 +1,5 @@
-//! Threads may have spellers, and may be lent them. Where a field forbids it, the proof of this crate fails, and not first
-//! that of a program that starts threads.
+//! Threads may have spellers, and may be lent them. Where a field forbids it, the proof of this
+//! crate fails, and not first that of a program that starts threads.
 
 use crate::Speller;
 

@@ -41,7 +41,8 @@ impl Model for Speller {
 
     ghost view = { λ inside. inside.stems };
 
-    ghost invariant = { λ inside. ArePrepared inside.stems inside.compounds inside.conversions inside.ignored inside.breaks };
+    ghost invariant = { λ inside. ArePrepared inside.stems inside.compounds inside.conversions
+        inside.ignored inside.breaks };
 }
 
 impl Speller {
@@ -57,8 +58,8 @@ impl Speller {
     }
 }
 
-/// What is prepared of a dictionary beside its stems. It is made in a function that only borrows the dictionary: one that owns it
-/// over many `?` takes minutes to prove.
+/// What is prepared of a dictionary beside its stems. It is made in a function that only borrows
+/// the dictionary: one that owns it over many `?` takes minutes to prove.
 #[derive(Drop)]
 struct Beside {
     compounds: Compounds,
@@ -71,7 +72,9 @@ impl Beside {
     /// What is prepared of this dictionary.
     fn prepare(alloc: Global, lexicon: &Lexicon) -> Result<Beside, NoMemory>
         requires { IsSane lexicon.now }
-        ensures { IfOk result (λ made. ArePrepared lexicon.now made.compounds made.conversions made.ignored made.breaks) }
+        ensures { IfOk result
+            (λ made. ArePrepared lexicon.now made.compounds made.conversions made.ignored
+            made.breaks) }
     {
         Ok(Beside {
             compounds: Compounds::new(alloc, lexicon)?,

@@ -6,8 +6,9 @@ ghost use Rattle.std.specs.Char.{is_ascii_digit};
 ghost use Rattle.spell_types.specs.Numbers.{is_separator, is_group, is_number, undotted};
 ghost use Rattle.word_verdict.specs.Accepting.{begins_with_digit};
 
-/// Whether a word is a number: groups of ASCII digits, with a dot, a comma or a dash between neighbours. This is this
-/// project's own rule. Most words do not begin with a digit, and no more of them is looked at.
+/// Whether a word is a number: groups of ASCII digits, with a dot, a comma or a dash between
+/// neighbours. This is this project's own rule. Most words do not begin with a digit, and no more
+/// of them is looked at.
 #[tactic(auto, using(crate::proofs::NumberLemmas::no_digit))]
 pub(crate) fn is_number(word: &[char]) -> bool
     ensures { result ≡ is_number word.now }

@@ -3,7 +3,8 @@
 ghost use Rattle.std.specs.Prelude.{◌≡◌, ◌||◌, not, true, IfOk};
 ghost use Rattle.std.specs.List.{list_any};
 ghost use Rattle.compound_words.specs.Prepared.{AreCompoundsOf};
-ghost use Rattle.spell_types.specs.Bases.{asked_for, case_of, holds_character, is_right_spelling, is_sharp_case};
+ghost use Rattle.spell_types.specs.Bases.{asked_for, case_of, holds_character, is_right_spelling};
+ghost use Rattle.spell_types.specs.Bases.{is_sharp_case};
 ghost use Rattle.spell_types.specs.Cases.{begins_upper, first_lowered, has_lower, is_same_word};
 ghost use Rattle.spell_types.specs.Compounds.{is_compound};
 ghost use Rattle.word_verdict.specs.Judging.{judged, is_alone_or_compound, covers_right_spelling};
@@ -23,7 +24,8 @@ pub(crate) struct Prepared<'a> {
     pub(crate) compounds: &'a Compounds,
 }
 
-/// What a piece of a word is by itself. It is looked at as it is written first, since most words need no other spelling.
+/// What a piece of a word is by itself. It is looked at as it is written first, since most words
+/// need no other spelling.
 #[tactic(auto, unfolding(crate::specs::Judging::judged, crate::specs::Judging::covers_right_spelling, spell_types::specs::Bases::is_base, spell_types::specs::Bases::is_right_spelling, spell_types::specs::Cases::covered_by))]
 pub(crate) fn judge_piece(
     alloc: Global,
@@ -67,7 +69,8 @@ fn covers_right_spelling(
     }
 }
 
-/// Whether a word may cover spellings other than itself: it begins in upper case, or has no lower-case character.
+/// Whether a word may cover spellings other than itself: it begins in upper case, or has no
+/// lower-case character.
 fn may_cover_others(word: &[char]) -> bool
     ensures { result ≡ (begins_upper word.now || not (has_lower word.now)) }
 {
@@ -111,8 +114,8 @@ fn is_right(
     is_alone_or_compound(alloc, dictionary, written, spelling)
 }
 
-/// Whether a spelling stands by itself for the word that is written so, or is a compound. That is asked last, since it takes
-/// longest.
+/// Whether a spelling stands by itself for the word that is written so, or is a compound. That is
+/// asked last, since it takes longest.
 fn is_alone_or_compound(
     alloc: Global,
     dictionary: &Prepared,
@@ -182,7 +185,8 @@ fn is_compound(
 ) -> Result<bool, NoMemory>
     requires { AreCompoundsOf dictionary.now.stems.now dictionary.now.compounds.now }
     ensures { IfOk result (λ answer.
-        answer ≡ is_compound (asked_for dictionary.now.stems.now written.now spelling.now) spelling.now) }
+        answer ≡ is_compound (asked_for dictionary.now.stems.now written.now spelling.now)
+        spelling.now) }
 {
     let by_case = spelling != written;
     let capital = begins_upper(written);

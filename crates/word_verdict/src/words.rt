@@ -38,8 +38,8 @@ pub(crate) fn accepts(
     accepts_short(alloc, dictionary, breaks, word)
 }
 
-/// Whether a word that is no number and not too long is accepted, as it is or without the dots at its end. Where there
-/// are no dots it is looked at once.
+/// Whether a word that is no number and not too long is accepted, as it is or without the dots at
+/// its end. Where there are no dots it is looked at once.
 #[tactic(auto, using(crate::proofs::AcceptLemmas::refuses_undotted, crate::proofs::AcceptLemmas::accepts_undotted))]
 fn accepts_short(
     alloc: Global,
@@ -62,7 +62,8 @@ fn accepts_short(
     accepts_before_dots(alloc, dictionary, breaks, rest)
 }
 
-/// Whether what stands before the dots at the end of a word is accepted, where dots are word characters.
+/// Whether what stands before the dots at the end of a word is accepted, where dots are word
+/// characters.
 fn accepts_before_dots(
     alloc: Global,
     dictionary: &Prepared,
@@ -71,7 +72,8 @@ fn accepts_before_dots(
 ) -> Result<bool, NoMemory>
     requires breaks { BreakAlike breaks.now dictionary.now.stems.now.affixes.breaks }
     requires compounds { AreCompoundsOf dictionary.now.stems.now dictionary.now.compounds.now }
-    ensures { IfOk result (λ answer. answer ≡ is_accepted_before_dots dictionary.now.stems.now rest.now) }
+    ensures { IfOk result
+        (λ answer. answer ≡ is_accepted_before_dots dictionary.now.stems.now rest.now) }
 {
     if rest.is_empty() || !are_dots_inside(dictionary.stems.lexicon()) {
         return Ok(false);

@@ -1,5 +1,7 @@
--- The made files: the .aff file, the .dic file of as many stems as are asked for, and the text of as many words.
-use Rattle.std.specs.Prelude.{ℕ, zero, suc, ◌+◌, ◌*◌, ◌/◌, ◌%◌, ◌^◌, List, [], ◌∷◌, ◌++◌, length, map, codes}
+-- The made files: the .aff file, the .dic file of as many stems as are asked for, and the text of
+-- as many words.
+use Rattle.std.specs.Prelude.{ℕ, zero, suc, ◌+◌, ◌*◌, ◌/◌, ◌%◌, ◌^◌, List, [], ◌∷◌, ◌++◌, length}
+use Rattle.std.specs.Prelude.{map, codes}
 use Rattle.std.specs.Fmt.{decimal}
 use Rattle.std.specs.Fork.{slice_chunk}
 use Rattle.std.specs.List.{flat_map, range_with_len, join_with_byte}
@@ -37,7 +39,8 @@ unfoldable pub drawn : ℕ → ℕ → ℕ
 drawn start zero = start % 2 ^ 20
 drawn start (suc before) = drawn_after (drawn start before)
 
--- the word that a drawn number stands for: its highest two bits tell the kind, and what is left without its lowest four the stem
+-- the word that a drawn number stands for: its highest two bits tell the kind, and what is left
+-- without its lowest four the stem
 abbrev pub drawn_word : ℕ → ℕ → List ℕ
 drawn_word size number = word_of (kind_of (number / 2 ^ 18)) (stem_of (number / 16 % size))
 
@@ -47,7 +50,8 @@ words_of start size = map (λ place. drawn_word size (drawn start place)) (range
 
 -- lists in tens, of which the last may be shorter
 abbrev pub in_tens : List (List ℕ) → List (List (List ℕ))
-in_tens words = map (λ number. slice_chunk words 10 number) (range_with_len 0 ((length words + 9) / 10))
+in_tens words =
+    map (λ number. slice_chunk words 10 number) (range_with_len 0 ((length words + 9) / 10))
 
 -- the words, ten in a line, with a space between each two
 unfoldable pub text_bytes : ℕ → ℕ → List ℕ

@@ -13,7 +13,8 @@ const SUMMAND: u32 = 351;
 const LIMIT: u32 = 1 << 20;
 /// A quarter of the draws for each kind.
 const DRAWS_OF_A_KIND: u32 = 1 << 18;
-/// So many neighbouring draws name the same stem: the lowest bits are left out, since they repeat too soon.
+/// So many neighbouring draws name the same stem: the lowest bits are left out, since they repeat
+/// too soon.
 const DRAWS_OF_A_STEM: u32 = 16;
 
 /// A number drawn, which names a stem and the kind of a word.

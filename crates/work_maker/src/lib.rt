@@ -1,8 +1,9 @@
-//! Makes a dictionary and a text of as many entries and words as are asked for, so that there is work to measure.
-//! The same numbers give the same bytes.
+//! Makes a dictionary and a text of as many entries and words as are asked for, so that there is
+//! work to measure. The same numbers give the same bytes.
 #![tactic(auto)]
 
-ghost use Rattle.std.specs.Prelude.{◌≡◌, ◌≤◌, ◌+◌, ◌*◌, ◌%◌, ◌||◌, ◌==◌, if◌then◌else◌, length, IfOk};
+ghost use Rattle.std.specs.Prelude.{◌≡◌, ◌≤◌, ◌+◌, ◌*◌, ◌%◌, ◌||◌, ◌==◌, if◌then◌else◌, length};
+ghost use Rattle.std.specs.Prelude.{IfOk};
 ghost use Rattle.work_maker.specs.Made.{aff_bytes, dic_bytes, text_bytes};
 
 mod draws;
@@ -52,8 +53,9 @@ pub fn make_dic(alloc: Global, size: u32) -> Result<Vec<u8>, NoMemory>
     Ok(made)
 }
 
-/// A text of `size` words, from 1 to 50,000, each from a stem of the dictionary with so many. Which words they are is drawn
-/// from `start` on: about a quarter each are stems as they are, with the prefix, with the suffix, and with both.
+/// A text of `size` words, from 1 to 50,000, each from a stem of the dictionary with so many. Which
+/// words they are is drawn from `start` on: about a quarter each are stems as they are, with the
+/// prefix, with the suffix, and with both.
 pub fn make_text(alloc: Global, start: u64, size: u32) -> Result<Vec<u8>, NoMemory>
     requires some { 1 ≤ size }
     requires limited { size ≤ 50000 }

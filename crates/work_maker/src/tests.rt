@@ -5,7 +5,8 @@ use super::*;
 use std::process::Abort;
 use std::test::Fail;
 
-/// Each row has a start and a size, how many bytes the .dic file and the text have, and how both begin.
+/// Each row has a start and a size, how many bytes the .dic file and the text have, and how both
+/// begin.
 const MADE: &str = "||1 4 37 33=>4
 bababa
 bebaba/A

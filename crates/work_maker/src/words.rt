@@ -84,7 +84,8 @@ pub fn push_word(made: &mut Vec<u8>, kind: Kind, number: u32) -> Result<(), Allo
 /// Adds a stem with the suffix, which takes the place of an `a` at its end.
 fn push_suffixed(made: &mut Vec<u8>, stem: &[u8]) -> Result<(), AllocError>
     ensures bytes { OnOk result (made.new.items ≡ made.old.items ++ suffixed stem.now) }
-    ensures small { OnOk result (length made.new.items ≤ length made.old.items + length stem.now + 1) }
+    ensures small { OnOk result
+        (length made.new.items ≤ length made.old.items + length stem.now + 1) }
 {
     match stem.strip_suffix(b"a") {
         Some(front) => {

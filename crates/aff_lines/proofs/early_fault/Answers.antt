@@ -10,8 +10,12 @@ returns c =
     let rows = c.args.rows.now in
     let faults = pass_faults c.kind_said-kind.result rows in
     let third = c.first_of_passes-third.ensures (faults Pass.Third) [] c.find_fault.ensures refl in
-    let second = c.first_of_passes-second.ensures (faults Pass.Second) (faults Pass.Third ∷ []) c.find_fault-2.ensures third in
-    c.first_of_passes.ensures (faults Pass.First ++ bad_faults c.args.bad) (faults Pass.Second ∷ faults Pass.Third ∷ [])
+    let second =
+    c.first_of_passes-second.ensures (faults Pass.Second) (faults Pass.Third ∷ [])
+    c.find_fault-2.ensures third in
+    c.first_of_passes.ensures (faults Pass.First ++ bad_faults c.args.bad)
+    (faults Pass.Second ∷ faults Pass.Third ∷ [])
     c.encoding_fault.ensures second
     ∙ ap (λ kind. first_fault ((pass_faults kind rows Pass.First ++ bad_faults c.args.bad)
-    ∷ pass_faults kind rows Pass.Second ∷ pass_faults kind rows Pass.Third ∷ [])) c.kind_said-kind.ensures
+    ∷ pass_faults kind rows Pass.Second ∷ pass_faults kind rows Pass.Third ∷ []))
+    c.kind_said-kind.ensures

@@ -8,10 +8,14 @@ use Rattle.affix_strip.specs.Found.{derivation_cmp, AreInOrder}
 use Rattle.affix_strip.proofs.SameLemmas.{derivations-total, in-order, same-ties, same-is}
 use Rattle.affix_strip.proofs.put_in_order.Goals as goal
 
-both : (c : goal.After-dedup) → AreInOrder c.dedup.new.self.items × ((d : Derivation) → Contains c.dedup.new.self.items d ↔ Contains c.args.found.now.items d)
+both : (c : goal.After-dedup) → AreInOrder c.dedup.new.self.items
+    × ((d : Derivation) → Contains c.dedup.new.self.items d ↔ Contains c.args.found.now.items d)
 both c =
-    in-order _ same-ties same-is c.args.found.now.items c.sort_unstable_by.new.self.items c.dedup.new.self.items c.sort_unstable_by.ensures.permutation
-    (c.sort_unstable_by.ensures.sorted (λ x y. is_lt (derivation_cmp x y)) (ranks_by derivations-total (λ (d : Derivation). d)) (answers_always _ _ _ (λ f a r g called.
+    in-order _ same-ties same-is c.args.found.now.items c.sort_unstable_by.new.self.items
+    c.dedup.new.self.items c.sort_unstable_by.ensures.permutation
+    (c.sort_unstable_by.ensures.sorted (λ x y. is_lt (derivation_cmp x y))
+    (ranks_by derivations-total (λ (d : Derivation). d))
+    (answers_always _ _ _ (λ f a r g called.
     let is : r ≡ derivation_cmp a.0.now a.1.0.now = search rules in ap is_lt is)))
     (dedup_is _ _ _ c.dedup.ensures.filtered)
 

@@ -8,7 +8,9 @@ loop-number-init c = added-none c.args.side c.args.text.now c.args.ends.now
 
 pub loop-number-preserved : goal.loop-number-preserved
 loop-number-preserved c =
-    added-more c.args.side c.args.text.now c.loop-number.number c.loop-number.key c.key_with-key.result c.args.ends.now c.loop-number.ends c.insert.new.self c.loop-number.invariant
+    added-more c.args.side c.args.text.now c.loop-number.number c.loop-number.key
+    c.key_with-key.result c.args.ends.now c.loop-number.ends c.insert.new.self
+    c.loop-number.invariant
     (search rules) c.insert.ensures.there c.insert.ensures.kept
 
 pub returns-clause-has : goal.returns-clause-has

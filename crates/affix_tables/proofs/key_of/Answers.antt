@@ -7,4 +7,5 @@ loop-number-init c = key-none c.args.side c.args.text.now
 
 pub loop-number-preserved : goal.loop-number-preserved
 loop-number-preserved c =
-    key-next c.args.side c.args.text.now c.loop-number.number c.loop-number.key c.char_at.result c.key_with-key.result c.loop-number.invariant c.char_at.ensures c.key_with-key.ensures
+    key-next c.args.side c.args.text.now c.loop-number.number c.loop-number.key c.char_at.result
+    c.key_with-key.result c.loop-number.invariant c.char_at.ensures c.key_with-key.ensures

@@ -1,5 +1,6 @@
 -- What the look-ups give.
-use Rattle.affix_tables.proofs.LawLemmas.{suffix-members, prefix-members, suffixes-rise, prefixes-rise}
+use Rattle.affix_tables.proofs.LawLemmas.{suffix-members, prefix-members, suffixes-rise}
+use Rattle.affix_tables.proofs.LawLemmas.{prefixes-rise}
 use Rattle.affix_tables.proofs.places_are.Goals as goal
 
 pub returns-clause-suffixes : goal.returns-clause-suffixes

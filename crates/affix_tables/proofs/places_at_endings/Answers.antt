@@ -8,4 +8,5 @@ loop-count-preserved c =
     let word = c.args.word.now in
     let count = c.loop-count.count in
     c.in_ok-add_places.ensures
-    ∙ endings-more c.args.table.now word count _ c.loop-count.found.items (rest-whole word (length word - count)) c.loop-count.invariant
+    ∙ endings-more c.args.table.now word count _ c.loop-count.found.items
+    (rest-whole word (length word - count)) c.loop-count.invariant

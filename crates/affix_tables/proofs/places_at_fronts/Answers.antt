@@ -6,4 +6,5 @@ use Rattle.affix_tables.proofs.places_at_fronts.Goals as goal
 pub loop-count-preserved : goal.loop-count-preserved
 loop-count-preserved c =
     c.in_ok-add_places.ensures
-    ∙ fronts-more c.args.table.now c.args.word.now c.loop-count.count _ c.loop-count.found.items refl c.loop-count.invariant
+    ∙ fronts-more c.args.table.now c.args.word.now c.loop-count.count _ c.loop-count.found.items
+    refl c.loop-count.invariant

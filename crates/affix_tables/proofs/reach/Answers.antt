@@ -9,12 +9,15 @@ loop-number-init c = key-none c.args.side c.args.word.now
 
 pub loop-number-preserved : goal.loop-number-preserved
 loop-number-preserved c =
-    key-next c.args.side c.args.word.now c.loop-number.number c.loop-number.key c.char_at.result c.key_with-key.result c.loop-number.invariant c.char_at.ensures c.key_with-key.ensures
+    key-next c.args.side c.args.word.now c.loop-number.number c.loop-number.key c.char_at.result
+    c.key_with-key.result c.loop-number.invariant c.char_at.ensures c.key_with-key.ensures
 
 pub returns-then-not-may_have-clause-over : goal.returns-then-not-may_have-clause-over
 returns-then-not-may_have-clause-over c = λ less.
     ap (may_have c.args.ends.now)
-    (sym (key-next c.args.side c.args.word.now c.loop-number.number c.loop-number.key c.char_at.result c.key_with-key.result c.loop-number.invariant c.char_at.ensures c.key_with-key.ensures))
+    (sym (key-next c.args.side c.args.word.now c.loop-number.number c.loop-number.key
+    c.char_at.result c.key_with-key.result c.loop-number.invariant c.char_at.ensures
+    c.key_with-key.ensures))
     ∙ sym c.may_have.ensures ∙ c.if-not-may_have.true
 
 pub returns-clause-over : goal.returns-clause-over

@@ -1,4 +1,5 @@
-//! Boards, as one event after another makes them, with the dictionary of real words that a check needs.
+//! Boards, as one event after another makes them, with the dictionary of real words that a check
+//! needs.
 
 ghost use Rattle.std.specs.Prelude.{◌≡◌, IfOk, IfSome, map};
 ghost use Rattle.std.specs.Arc.{arc_value};
@@ -28,10 +29,12 @@ const AFF: &str =
 
 const DIC: &str = "3\nhello\ntry/B\nwork/AB\n";
 
-/// A line that opens a board has its texts, parted by bars. Each line behind it has an event, and behind ` = ` why it is refused, or
-/// the board that it makes: its point and its versions, and of each paragraph its id, its rev and its marks, or `?` where it waits,
-/// `w0` where worker 0 holds it, `-` where it is parked. In an event stand the worker, the id, the rev and the dictionary version, as far
-/// as it has them; a text is one word, in which `/` is a line feed. The dictionary that is loaded is always the same.
+/// A line that opens a board has its texts, parted by bars. Each line behind it has an event, and
+/// behind ` = ` why it is refused, or the board that it makes: its point and its versions, and of
+/// each paragraph its id, its rev and its marks, or `?` where it waits, `w0` where worker 0 holds
+/// it, `-` where it is parked. In an event stand the worker, the id, the rev and the dictionary
+/// version, as far as it has them; a text is one word, in which `/` is a line feed. The dictionary
+/// that is loaded is always the same.
 const HISTORIES: &str = "
 open hello|wurk
 claim 0 1 0 = 1 0 0|0.0 ?|1.0 w0
@@ -167,7 +170,8 @@ fn finish<J: Judge + Drop>(
     place: usize,
     line: &str,
 ) -> Result<Option<Event<J>>, NoMemory>
-    ensures { IfOk result (λ event. IfSome event (λ event. IsFit board.now (event_of J.lexicon event))) }
+    ensures { IfOk result
+        (λ event. IfSome event (λ event. IsFit board.now (event_of J.lexicon event))) }
 {
     checks_are_fit();
     let Some(view) = board.para(place) else {
@@ -193,7 +197,8 @@ fn own_finish<J: Judge + Drop>(
     place: usize,
     line: &str,
 ) -> Result<Option<Event<J>>, NoMemory>
-    ensures { IfOk result (λ event. IfSome event (λ event. IsOfBoard board.now (event_of J.lexicon event))) }
+    ensures { IfOk result
+        (λ event. IfSome event (λ event. IsOfBoard board.now (event_of J.lexicon event))) }
 {
     ids_name_paragraphs();
     let Some(view) = board.para(place) else {
@@ -267,7 +272,8 @@ fn edit_of(alloc: Global, line: &str) -> Result<Edit, NoMemory> {
 /// An event that brings no check and no dictionary.
 fn plain_event<J: Judge + Drop>(alloc: Global, line: &str) -> Result<Event<J>, NoMemory>
     ensures fit { IfOk result (λ event. (board : Seen) → IsFit board (event_of J.lexicon event)) }
-    ensures of { IfOk result (λ event. (board : Seen) → IsOfBoard board (event_of J.lexicon event)) }
+    ensures of { IfOk result
+        (λ event. (board : Seen) → IsOfBoard board (event_of J.lexicon event)) }
 {
     match word(line, 0) {
         "claim" => Ok(Event::Claim {
@@ -493,7 +499,8 @@ fn list_of<J: Judge + Drop>(
     board: &Board<J>,
     history: &str,
 ) -> Result<Vec<Event<J>>, NoMemory>
-    ensures { IfOk result (λ events. AllByRecursion (IsOfBoard board.now) (map (event_of J.lexicon) events.items)) }
+    ensures { IfOk result
+        (λ events. AllByRecursion (IsOfBoard board.now) (map (event_of J.lexicon) events.items)) }
 {
     let mut events = Vec::new(alloc);
     for line in history.split('\n') {

@@ -11,8 +11,8 @@ use std::test::Fail;
 use text_lines::Text;
 use word_verdict::Speller;
 
-/// Each row is a paragraph and its marks, each by its first byte, the byte past its end and its word, with a comma behind
-/// it. The dictionary has the words `hello` and `don't`.
+/// Each row is a paragraph and its marks, each by its first byte, the byte past its end and its
+/// word, with a comma behind it. The dictionary has the words `hello` and `don't`.
 const PARAGRAPHS: &str = "=
   ' 12 - \u{2019}=
 hello=

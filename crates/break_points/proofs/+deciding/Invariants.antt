@@ -23,7 +23,12 @@ decreases-decide_way g l = 4 * (l.piece.to - l.piece.from)
 
 abbrev pub invariant-decide_parts-loop-occurrence : goal.invariant-decide_parts-loop-occurrence
 invariant-decide_parts-loop-occurrence g l =
-    (judged : List ℕ → Judged) (breaks : List Anchored) → AnswersAs (FnReturnsAt g.F.Fn l.judge) judged → AreOccurrences breaks l.word l.occurrences
+    (judged : List ℕ → Judged) (breaks : List Anchored)
+    → AnswersAs (FnReturnsAt g.F.Fn l.judge) judged → AreOccurrences breaks l.word l.occurrences
     → IsRight (is_broken_piece judged breaks l.word) l.fn.table
-    → (list_any (λ occurrence. way_passes (all_left (is_broken_by judged breaks) (slice_range l.word l.piece.from l.piece.to)) (way_by occurrence l.piece)) (take l.occurrence-index l.occurrences) ≡ false)
+    → (list_any
+    (λ occurrence.
+    way_passes (all_left (is_broken_by judged breaks)
+    (slice_range l.word l.piece.from l.piece.to)) (way_by occurrence l.piece))
+    (take l.occurrence-index l.occurrences) ≡ false)
     × IsRight (is_broken_piece judged breaks l.word) l.table

@@ -9,5 +9,6 @@ pub returns : goal.returns
 unfolding BreakAlike
 returns g c = λ judged answers.
     ok_weaker c.broken.result _ _
-    (λ answer is. is ∙ c.in_ok-breaks.ensures (is_base_by judged) (is_barred_by judged) c.args.word.now)
+    (λ answer is. is ∙ c.in_ok-breaks.ensures (is_base_by judged) (is_barred_by judged)
+    c.args.word.now)
     (c.broken.ensures judged answers)

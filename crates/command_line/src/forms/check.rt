@@ -37,7 +37,8 @@ impl<'a> Model for CheckNames<'a> {
 
     ghost Value = { CheckedFiles };
 
-    ghost view = { λ inside. record { aff = inside.aff.now; dic = inside.dic.now; document = inside.document.now } };
+    ghost view = { λ inside.
+        record { aff = inside.aff.now; dic = inside.dic.now; document = inside.document.now } };
 }
 
 /// What the operands of `check` ask for.
@@ -64,18 +65,20 @@ pub fn check<F: Files, K: Sink>(
     out: &mut K,
 ) -> u8
     // Whatever there is of an input, which stays untouched.
-    ensures due { (reading : Reading) → IsUntouched reading → EndsAs (IsAnswerTo (Some (Check names.entry)) (record {
-      folder = F.told files.old;
-      files_before = F.faults files.old;
-      files_after = F.faults files.new;
-      reading = reading;
-    })) (K.faults out.old < K.faults out.new) (K.written out.old) (K.written out.new) result }
-    ensures complete { (reading : Reading) → K.faults out.new ≡ K.faults out.old → EndsAs ((form_of (Some (Check names.entry))).whole (record {
-      folder = F.told files.old;
-      files_before = F.faults files.old;
-      files_after = F.faults files.new;
-      reading = reading;
-    })) ⊥ (K.written out.old) (K.written out.new) result }
+    ensures due { (reading : Reading) → IsUntouched reading
+        → EndsAs (IsAnswerTo (Some (Check names.entry)) (record {
+          folder = F.told files.old;
+          files_before = F.faults files.old;
+          files_after = F.faults files.new;
+          reading = reading;
+        })) (K.faults out.old < K.faults out.new) (K.written out.old) (K.written out.new) result }
+    ensures complete { (reading : Reading) → K.faults out.new ≡ K.faults out.old
+        → EndsAs ((form_of (Some (Check names.entry))).whole (record {
+          folder = F.told files.old;
+          files_before = F.faults files.old;
+          files_after = F.faults files.new;
+          reading = reading;
+        })) ⊥ (K.written out.old) (K.written out.new) result }
     ensures same { F.told files.new ≡ F.told files.old }
     ensures files_count { F.faults files.old ≤ F.faults files.new }
     ensures sink_count { K.faults out.old ≤ K.faults out.new }
@@ -84,8 +87,8 @@ pub fn check<F: Files, K: Sink>(
     put_outcome(alloc, out, outcome)
 }
 
-/// The report on the document, or what stops it first: the dictionary is loaded before the document, and of that its bytes
-/// come before its lines.
+/// The report on the document, or what stops it first: the dictionary is loaded before the
+/// document, and of that its bytes come before its lines.
 fn outcome_of<F: Files>(
     alloc: Global,
     names: CheckNames<'_>,

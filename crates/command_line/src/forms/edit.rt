@@ -1,4 +1,5 @@
-//! What `edit` is asked for, and what it does: it opens a console by a dictionary, which replies to the commands that are read.
+//! What `edit` is asked for, and what it does: it opens a console by a dictionary, which replies to
+//! the commands that are read.
 
 ghost use Rattle.std.specs.Prelude.{◌≡◌, ◌<◌, ◌≤◌, ℕ, Option, Some, IfOk, IsErrOf, map};
 ghost use Rattle.std.specs.String.{string_bytes};
@@ -56,7 +57,8 @@ pub fn edit_of(operands: &[String]) -> Option<Request<'_>>
     }
 }
 
-/// Opens a console by a dictionary, and replies to the commands that are read until `quit` or the end of the input.
+/// Opens a console by a dictionary, and replies to the commands that are read until `quit` or the
+/// end of the input.
 pub fn edit<F: Files, S: Source, K: Sink>(
     alloc: Global,
     names: DictionaryNames<'_>,
@@ -74,18 +76,20 @@ pub fn edit<F: Files, S: Source, K: Sink>(
         faults_before = S.Source.faults input.old;
         faults_after = S.Source.faults input.new;
       };
-    })) (K.Sink.faults out.old < K.Sink.faults out.new) (K.written out.old) (K.written out.new) result }
-    ensures complete { K.Sink.faults out.new ≡ K.Sink.faults out.old → EndsAs ((form_of (Some (Edit names.entry))).whole (record {
-      folder = F.told files.old;
-      files_before = F.Files.faults files.old;
-      files_after = F.Files.faults files.new;
-      reading = record {
-        before = S.left input.old;
-        after = S.left input.new;
-        faults_before = S.Source.faults input.old;
-        faults_after = S.Source.faults input.new;
-      };
-    })) ⊥ (K.written out.old) (K.written out.new) result }
+    })) (K.Sink.faults out.old < K.Sink.faults out.new) (K.written out.old) (K.written out.new)
+        result }
+    ensures complete { K.Sink.faults out.new ≡ K.Sink.faults out.old
+        → EndsAs ((form_of (Some (Edit names.entry))).whole (record {
+          folder = F.told files.old;
+          files_before = F.Files.faults files.old;
+          files_after = F.Files.faults files.new;
+          reading = record {
+            before = S.left input.old;
+            after = S.left input.new;
+            faults_before = S.Source.faults input.old;
+            faults_after = S.Source.faults input.new;
+          };
+        })) ⊥ (K.written out.old) (K.written out.new) result }
     ensures same { F.told files.new ≡ F.told files.old }
     ensures files_count { F.Files.faults files.old ≤ F.Files.faults files.new }
     ensures input_count { S.Source.faults input.old ≤ S.Source.faults input.new }
@@ -106,10 +110,12 @@ fn open_console<F: Files>(
     files: &mut F,
 ) -> Result<Console<Speller>, Failure>
     // Its dictionary is what is due of some files, which are those that are told, where some are.
-    ensures due { (there : DictionaryFiles) × IsThere (F.told files.old) names.entry.aff names.entry.dic there
+    ensures due { (there : DictionaryFiles)
+        × IsThere (F.told files.old) names.entry.aff names.entry.dic there
         × GivesDue MayCome (λ (console : Console Speller). (console_of console.board).lexicon)
         (dictionary_due there) result }
-    ensures opens { IfOk result (λ console. console_of console.board ≡ opened (console_of console.board).lexicon) }
+    ensures opens { IfOk result
+        (λ console. console_of console.board ≡ opened (console_of console.board).lexicon) }
     ensures fresh { IfOk result (λ console. furthest_point console.board ≡ 0) }
     ensures failed { IsErrOf result (Load Failed) → F.faults files.old < F.faults files.new }
     ensures same { F.told files.new ≡ F.told files.old }
@@ -130,7 +136,8 @@ fn converse<F: Files, S: Source, K: Sink>(
     requires opens { console_of console.old.board ≡ opened (console_of console.old.board).lexicon }
     requires room { furthest_point console.old.board ≡ 0 }
     // The files may have failed before.
-    ensures dialogue { (folder : Option Folder) (files_before : ℕ) → folder ≡ F.told files.old → files_before ≤ F.Files.faults files.old
+    ensures dialogue { (folder : Option Folder) (files_before : ℕ) → folder ≡ F.told files.old
+        → files_before ≤ F.Files.faults files.old
         → EndsAs (IsDialogue (record {
           folder = folder;
           files_before = files_before;
@@ -141,7 +148,8 @@ fn converse<F: Files, S: Source, K: Sink>(
             faults_before = S.Source.faults input.old;
             faults_after = S.Source.faults input.new;
           };
-        }) (console_of console.old.board).lexicon) (K.Sink.faults out.old < K.Sink.faults out.new) (K.written out.old) (K.written out.new) result }
+        }) (console_of console.old.board).lexicon) (K.Sink.faults out.old < K.Sink.faults out.new)
+        (K.written out.old) (K.written out.new) result }
     ensures same { F.told files.new ≡ F.told files.old }
     ensures files_count { F.Files.faults files.old ≤ F.Files.faults files.new }
     ensures input_count { S.Source.faults input.old ≤ S.Source.faults input.new }

@@ -30,7 +30,8 @@ use work_maker::{make_aff, make_dic, make_text};
 /// The greatest size that is made.
 const SIZE_LIMIT: u64 = 50_000;
 
-/// What the words `make START SIZE` ask for. Contracts see both numbers, and that the size is one that is made.
+/// What the words `make START SIZE` ask for. Contracts see both numbers, and that the size is one
+/// that is made.
 #[derive(Drop)]
 pub struct Making {
     /// Where the words of the text are drawn from.
@@ -78,21 +79,24 @@ fn of_numbers(start: Option<u64>, size: Option<u64>) -> Option<Making>
 /// Writes the summary of a dictionary and a text that are made.
 pub fn make<K: Sink>(alloc: Global, making: Making, out: &mut K) -> u8
     // Whatever there is outside, which stays untouched.
-    ensures due { (folder : Option Folder) (files : ℕ) (reading : Reading) → IsUntouched reading → EndsAs (IsAnswerTo (Some (Make making)) (record {
-      folder = folder;
-      files_before = files;
-      files_after = files;
-      reading = reading;
-    })) (K.faults out.old < K.faults out.new) (K.written out.old) (K.written out.new) result }
-    ensures complete { (met : Met) → K.faults out.new ≡ K.faults out.old → EndsAs ((form_of (Some (Make making))).whole met) ⊥ (K.written out.old) (K.written out.new) result }
+    ensures due { (folder : Option Folder) (files : ℕ) (reading : Reading) → IsUntouched reading
+        → EndsAs (IsAnswerTo (Some (Make making)) (record {
+          folder = folder;
+          files_before = files;
+          files_after = files;
+          reading = reading;
+        })) (K.faults out.old < K.faults out.new) (K.written out.old) (K.written out.new) result }
+    ensures complete { (met : Met) → K.faults out.new ≡ K.faults out.old
+        → EndsAs ((form_of (Some (Make making))).whole met) ⊥ (K.written out.old)
+        (K.written out.new) result }
     ensures sink_count { K.faults out.old ≤ K.faults out.new }
 {
     let outcome = outcome_of(alloc, making);
     put_outcome(alloc, out, outcome)
 }
 
-/// The summary of a dictionary and a text that are made: the dictionary is loaded from memory, and the text is checked by
-/// it, as files are.
+/// The summary of a dictionary and a text that are made: the dictionary is loaded from memory, and
+/// the text is checked by it, as files are.
 fn outcome_of(alloc: Global, making: Making) -> Result<Report, Failure>
     ensures due { GivesDue MayCome printed_by (make_due making) result }
     ensures failed { ¬ (IsErrOf result (Load Failed)) }

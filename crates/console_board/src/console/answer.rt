@@ -1,6 +1,7 @@
 //! What is replied to the commands that are events of a board.
 
-ghost use Rattle.std.specs.Prelude.{◌≡◌, ◌+◌, ◌≤◌, ◌^◌, true, false, length, None, Option, Some, IfOk, IsSome};
+ghost use Rattle.std.specs.Prelude.{◌≡◌, ◌+◌, ◌≤◌, ◌^◌, true, false, length, None, Option, Some};
+ghost use Rattle.std.specs.Prelude.{IfOk, IsSome};
 ghost use Rattle.console_lang.specs.declared.reply.Reply.TheVariants.{NoPlace};
 ghost use Rattle.outside.specs.Files.{Folder};
 ghost use Rattle.edit_core.specs.Events.{event_of};
@@ -19,14 +20,20 @@ use mark_types::Judge;
 use std::alloc::Global;
 
 impl<J: Judge + Drop> Console<J> {
-    /// What a command comes to that names a place: what its event makes of the board, or that there is no such place.
+    /// What a command comes to that names a place: what its event makes of the board, or that there
+    /// is no such place.
     pub(super) fn carry_out(&self, alloc: Global, command: Command) -> Result<Response<J>, NoMemory>
         requires named { names_place command ≡ true }
         requires whole { HasWholeText command }
         requires room { furthest_point self.now.board + MOST_MOVED ≤ 2 ^ 62 }
-        ensures does { (told : Option Folder) → IfOk result (λ response. IsReplyTo told (console_of self.now.board) command response.reply (console_of (board_after self.now.board response.next))) }
+        ensures does { (told : Option Folder)
+            → IfOk result
+            (λ response. IsReplyTo told (console_of self.now.board) command response.reply
+            (console_of (board_after self.now.board response.next))) }
         ensures files { IfOk result (λ response. is_no_files response.reply ≡ false) }
-        ensures room { IfOk result (λ response. furthest_point (board_after self.now.board response.next) ≤ furthest_point self.now.board + MOST_MOVED) }
+        ensures room { IfOk result
+            (λ response. furthest_point (board_after self.now.board response.next) ≤ furthest_point
+            self.now.board + MOST_MOVED) }
     {
         ids_name_paragraphs();
         self.board_is_valid();
@@ -48,15 +55,19 @@ impl<J: Judge + Drop> Console<J> {
         })
     }
 
-    /// What an event comes to. Of an event that is refused there is a reply, and the board stays. The paragraph that it names is looked
-    /// for at `near` first.
+    /// What an event comes to. Of an event that is refused there is a reply, and the board stays.
+    /// The paragraph that it names is looked for at `near` first.
     fn answer(&self, alloc: Global, event: Event<J>, near: usize) -> Result<Response<J>, NoMemory>
         requires fit { IsFit self.now.board (event_of J.lexicon event) }
         requires replied { HasReply (first_refusal self.now.board (event_of J.lexicon event)) }
-        ensures answered { IfOk result (λ response. IsAnswered self.now.board (event_of J.lexicon event)
-            (first_refusal self.now.board (event_of J.lexicon event)) response.reply (board_after self.now.board response.next)) }
+        ensures answered { IfOk result
+            (λ response. IsAnswered self.now.board (event_of J.lexicon event)
+            (first_refusal self.now.board (event_of J.lexicon event)) response.reply
+            (board_after self.now.board response.next)) }
         ensures files { IfOk result (λ response. is_no_files response.reply ≡ false) }
-        ensures room { IfOk result (λ response. furthest_point (board_after self.now.board response.next) ≤ furthest_point self.now.board + MOST_MOVED) }
+        ensures room { IfOk result
+            (λ response. furthest_point (board_after self.now.board response.next) ≤ furthest_point
+            self.now.board + MOST_MOVED) }
     {
         events_are_decided();
         runs_are_short();
@@ -107,7 +118,8 @@ fn refused(refusal: Refusal) -> Reply
     }
 }
 
-/// The board that an event makes. The event is one that is not refused. The paragraph that it names is looked for at `near` first.
+/// The board that an event makes. The event is one that is not refused. The paragraph that it names
+/// is looked for at `near` first.
 pub(super) fn made<J: Judge + Drop>(
     alloc: Global,
     board: &Board<J>,

@@ -4,7 +4,8 @@ ghost use Rattle.std.specs.Prelude.{◌≡◌, ◌≤◌, length, None, IfNone, 
 ghost use Rattle.std.specs.Option.{option_map};
 ghost use Rattle.paragraph_text.specs.declared.edits.Edit.TheVariants.{Replace};
 ghost use Rattle.edit_core.specs.Events.{AnEdit, event_of};
-ghost use Rattle.console_board.specs.BoardAnswers.{IsNamed, IsWholeAt, PutsWhole, event_for, gap_at, paragraph_at};
+ghost use Rattle.console_board.specs.BoardAnswers.{IsNamed, IsWholeAt, PutsWhole, event_for};
+ghost use Rattle.console_board.specs.BoardAnswers.{gap_at, paragraph_at};
 ghost use Rattle.paragraph_text.specs.declared.limits.TheConstants.{MOST_PARAGRAPHS};
 
 use super::Console;
@@ -48,9 +49,11 @@ struct Gap {
 }
 
 impl<J: Judge + Drop> Console<J> {
-    /// The event that a command over the board is. There is none where it names no place of the board.
+    /// The event that a command over the board is. There is none where it names no place of the
+    /// board.
     pub(super) fn event_for(&self, command: Command) -> Option<Event<J>>
-        ensures event { option_map (event_of J.lexicon) result ≡ event_for SESSION self.now.board command }
+        ensures event { option_map (event_of J.lexicon) result ≡ event_for SESSION self.now.board
+            command }
         ensures whole { PutsWhole self.now.board command }
     {
         let session = SESSION;
@@ -91,7 +94,8 @@ impl<J: Judge + Drop> Console<J> {
     /// The paragraph at a place, from 1.
     fn named(&self, place: u32) -> Option<Named>
         ensures none { IfNone result (paragraph_at self.now.board place ≡ None) }
-        ensures some { IfSome result (λ named. IsNamed self.now.board place named.id named.rev named.size) }
+        ensures some { IfSome result
+            (λ named. IsNamed self.now.board place named.id named.rev named.size) }
         ensures whole { IsWholeAt self.now.board place }
     {
         self.board_is_valid();

@@ -19,7 +19,8 @@ use std::sync::Arc;
 use word_verdict::Speller;
 
 impl Console<Speller> {
-    /// `load AFF DIC`: the dictionary of these two files in place of the one in force, or what is wrong with them.
+    /// `load AFF DIC`: the dictionary of these two files in place of the one in force, or what is
+    /// wrong with them.
     pub(super) fn load<F: Files>(
         &self,
         alloc: Global,
@@ -28,9 +29,15 @@ impl Console<Speller> {
         dic: &str,
     ) -> Result<Response<Speller>, NoMemory>
         requires room { furthest_point self.now.board + MOST_MOVED ≤ 2 ^ 62 }
-        ensures does { IfOk result (λ response. Loads (F.told files.old) (console_of self.now.board) aff.now dic.now response.reply (console_of (board_after self.now.board response.next))) }
-        ensures room { IfOk result (λ response. furthest_point (board_after self.now.board response.next) ≤ furthest_point self.now.board + MOST_MOVED) }
-        ensures failures { IfOk result (λ response. F.faults files.old + failures_in (response.reply ∷ []) ≤ F.faults files.new) }
+        ensures does { IfOk result
+            (λ response. Loads (F.told files.old) (console_of self.now.board) aff.now dic.now
+            response.reply (console_of (board_after self.now.board response.next))) }
+        ensures room { IfOk result
+            (λ response. furthest_point (board_after self.now.board response.next) ≤ furthest_point
+            self.now.board + MOST_MOVED) }
+        ensures failures { IfOk result
+            (λ response. F.faults files.old + failures_in (response.reply ∷ [])
+            ≤ F.faults files.new) }
         ensures same { F.told files.new ≡ F.told files.old }
         ensures count { F.faults files.old ≤ F.faults files.new }
     {
@@ -43,8 +50,12 @@ impl Console<Speller> {
     /// What it comes to that a dictionary is put in force.
     fn put_in_force(&self, alloc: Global, speller: Speller) -> Result<Response<Speller>, NoMemory>
         requires room { furthest_point self.now.board < 2 ^ 62 }
-        ensures does { IfOk result (λ response. HasOutcome (loaded (console_of self.now.board) speller) response.reply (console_of (board_after self.now.board response.next))) }
-        ensures room { IfOk result (λ response. furthest_point (board_after self.now.board response.next) ≤ furthest_point self.now.board + MOST_MOVED) }
+        ensures does { IfOk result
+            (λ response. HasOutcome (loaded (console_of self.now.board) speller) response.reply
+            (console_of (board_after self.now.board response.next))) }
+        ensures room { IfOk result
+            (λ response. furthest_point (board_after self.now.board response.next) ≤ furthest_point
+            self.now.board + MOST_MOVED) }
     {
         runs_are_short();
         self.board_is_valid();

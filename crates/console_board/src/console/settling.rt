@@ -22,12 +22,17 @@ use std::sync::Arc;
 use text_lines::Text;
 
 impl<J: Judge + Drop> Console<J> {
-    /// `settle`: checks each text that waits. Each check is an event of its own, whose paragraph is found at its place.
+    /// `settle`: checks each text that waits. Each check is an event of its own, whose paragraph is
+    /// found at its place.
     pub(super) fn settle(&self, alloc: Global) -> Result<Response<J>, NoMemory>
         requires room { furthest_point self.now.board + MOST_MOVED ≤ 2 ^ 62 }
-        ensures does { IfOk result (λ response. HasOutcome (settled (console_of self.now.board)) response.reply (console_of (board_after self.now.board response.next))) }
+        ensures does { IfOk result
+            (λ response. HasOutcome (settled (console_of self.now.board)) response.reply
+            (console_of (board_after self.now.board response.next))) }
         ensures files { IfOk result (λ response. is_no_files response.reply ≡ false) }
-        ensures room { IfOk result (λ response. furthest_point (board_after self.now.board response.next) ≤ furthest_point self.now.board) }
+        ensures room { IfOk result
+            (λ response. furthest_point (board_after self.now.board response.next) ≤ furthest_point
+            self.now.board) }
     {
         self.board_is_valid();
         let versions = self.board.versions();
@@ -43,8 +48,8 @@ impl<J: Judge + Drop> Console<J> {
         })
     }
 
-    /// The next board where the text with a place, from 0, is checked, if it waits. The next board before, if there is one, is
-    /// given, and the dictionary's version.
+    /// The next board where the text with a place, from 0, is checked, if it waits. The next board
+    /// before, if there is one, is given, and the dictionary's version.
     fn settle_at(
         &self,
         alloc: Global,
@@ -55,9 +60,16 @@ impl<J: Judge + Drop> Console<J> {
         requires inside { place < length (board_after self.now.board next).paragraphs }
         requires dict { dict ≡ (board_after self.now.board next).dict_version }
         requires room { furthest_point (board_after self.now.board next) < 2 ^ 62 }
-        ensures does { IfOk result (λ later. let console = console_of (board_after self.now.board next) in console_of (board_after self.now.board later)
-            ≡ record console { states = set console.states place (settled_state (state_at console place)) }) }
-        ensures room { IfOk result (λ later. furthest_point (board_after self.now.board later) ≤ furthest_point (board_after self.now.board next)) }
+        ensures does { IfOk result
+            (λ later. let console = console_of (board_after self.now.board next) in
+            console_of (board_after self.now.board later)
+            ≡ record console {
+              states = set console.states place
+                  (settled_state (state_at console place));
+            }) }
+        ensures room { IfOk result
+            (λ later. furthest_point (board_after self.now.board later) ≤ furthest_point
+            (board_after self.now.board next)) }
     {
         let board = next.as_ref().unwrap_or(&self.board);
         match settled_at(alloc, board, place, dict)? {
@@ -67,7 +79,8 @@ impl<J: Judge + Drop> Console<J> {
     }
 }
 
-/// The board where the text with a place, from 0, is checked; none where it does not wait. The dictionary's version is given.
+/// The board where the text with a place, from 0, is checked; none where it does not wait. The
+/// dictionary's version is given.
 fn settled_at<J: Judge + Drop>(
     alloc: Global,
     board: &Board<J>,
@@ -77,9 +90,14 @@ fn settled_at<J: Judge + Drop>(
     requires inside { place < length board.now.paragraphs }
     requires dict { dict ≡ board.now.dict_version }
     requires room { furthest_point board.now < 2 ^ 62 }
-    ensures does { IfOk result (λ next. let console = console_of board.now in console_of (board_after board.now next)
-        ≡ record console { states = set console.states place (settled_state (state_at console place)) }) }
-    ensures room { IfOk result (λ next. furthest_point (board_after board.now next) ≤ furthest_point board.now) }
+    ensures does { IfOk result (λ next. let console = console_of board.now in
+        console_of (board_after board.now next)
+        ≡ record console {
+          states = set console.states place
+              (settled_state (state_at console place));
+        }) }
+    ensures room { IfOk result
+        (λ next. furthest_point (board_after board.now next) ≤ furthest_point board.now) }
 {
     checks_are_fit();
     events_are_decided();
@@ -111,7 +129,8 @@ fn check_all<J: Judge + Drop>(
     text: &Arc<Text>,
 ) -> Result<Checked<J>, NoMemory>
     requires { length (arc_value text.now) < 2 ^ 32 }
-    ensures { IfOk result (λ checked. checked ≡ record { judge = arc_value judge.now; text = arc_value text.now }) }
+    ensures { IfOk result
+        (λ checked. checked ≡ record { judge = arc_value judge.now; text = arc_value text.now }) }
 {
     let mut asker = Plain::new(Arc::try_clone(judge)?);
     let mut checking = Checking::start(alloc, Arc::try_clone(judge)?, Arc::try_clone(text)?)?;

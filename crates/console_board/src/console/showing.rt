@@ -19,7 +19,8 @@ impl<J: Judge + Drop> Console<J> {
     #[tactic(auto, using(std::proofs::lemmas::Grind::common_steps, std::proofs::lemmas::Option::gets))]
     pub(super) fn show(&self, alloc: Global) -> Result<Response<J>, NoMemory>
         ensures look { IfOk result (λ response. response.reply ≡ look_reply self.now.board) }
-        ensures does { IfOk result (λ response. response.reply ≡ (shown (console_of self.now.board)).reply) }
+        ensures does { IfOk result
+            (λ response. response.reply ≡ (shown (console_of self.now.board)).reply) }
         ensures stays { IfOk result (λ response. response.next ≡ None) }
         ensures files { IfOk result (λ response. is_no_files response.reply ≡ false) }
     {

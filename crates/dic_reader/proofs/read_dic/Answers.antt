@@ -3,7 +3,8 @@ use Rattle.dic_reader.proofs.FaultLemmas.{reads-as-said, refuses-at-first}
 use Rattle.dic_reader.proofs.read_dic.Goals as goal
 
 pub returns-clause-read : goal.returns-clause-read
-returns-clause-read c = reads-as-said c.args.affixes.now c.args.bytes.now c.read_file.result c.read_file.ensures.read
+returns-clause-read c =
+    reads-as-said c.args.affixes.now c.args.bytes.now c.read_file.result c.read_file.ensures.read
 
 pub returns-clause-refused : goal.returns-clause-refused
 returns-clause-refused c =

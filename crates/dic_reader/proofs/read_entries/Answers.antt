@@ -7,7 +7,8 @@ use Rattle.spell_types.specs.Flags.{AreOrdinary}
 use Rattle.spell_types.specs.Sanity.{HaveOrdinaryFlags}
 use Rattle.dic_reader.specs.declared.faults.DicFault.{DicFault}
 use Rattle.dic_reader.specs.Faults.{Fault, IsRead, IsTold}
-use Rattle.dic_reader.proofs.TurnLemmas.{turn-at, read-past, read-more, told-own, told-many, read-all}
+use Rattle.dic_reader.proofs.TurnLemmas.{turn-at, read-past, read-more, told-own, told-many}
+use Rattle.dic_reader.proofs.TurnLemmas.{read-all}
 use Rattle.dic_reader.proofs.read_entries.Goals as goal
 
 -- a fault that is handed on
@@ -19,14 +20,16 @@ handed read (Err given) fault same told = subst (IsTold read) (sym same) told
 pub loop-line-preserved-then-is_passed_over : goal.loop-line-preserved-then-is_passed_over
 loop-line-preserved-then-is_passed_over c = record {
   read =
-      read-past c.args.bytes.now c.args.lines.now c.loop-line.line-index c.loop-line-test.true c.line_text-text.ensures
+      read-past c.args.bytes.now c.args.lines.now c.loop-line.line-index c.loop-line-test.true
+      c.line_text-text.ensures
       (sym c.if-is_passed_over.ensures) c.loop-line.invariant.read;
   ordinary = c.loop-line.invariant.ordinary;
 }
 
 pub returns-in_err-entry-clause-read : goal.returns-in_err-entry-clause-read
 returns-in_err-entry-clause-read c =
-    let turn = turn-at c.args.bytes.now c.args.lines.now c.loop-line.line-index c.requires.rising c.loop-line-test.true
+    let turn = turn-at c.args.bytes.now c.args.lines.now c.loop-line.line-index c.requires.rising
+    c.loop-line-test.true
     c.line_text-text.ensures (sym c.if-is_passed_over.ensures) c.entry_of.ensures in
     let fault = c.in_err-entry.field-0.0 in
     handed _ c.from_residual.result fault c.from_residual.ensures.1
@@ -34,25 +37,30 @@ returns-in_err-entry-clause-read c =
 
 pub returns-then-len-limit-clause-read : goal.returns-then-len-limit-clause-read
 returns-then-len-limit-clause-read c =
-    let turn = turn-at c.args.bytes.now c.args.lines.now c.loop-line.line-index c.requires.rising c.loop-line-test.true
+    let turn = turn-at c.args.bytes.now c.args.lines.now c.loop-line.line-index c.requires.rising
+    c.loop-line-test.true
     c.line_text-text.ensures (sym c.if-is_passed_over.ensures) c.entry_of.ensures in
     told-many c.in_ok-entry.entry turn c.loop-line.invariant.read c.in_ok-entry.ensures.read
     (omega (arith, c.len.ensures, c.if-len-limit.true))
 
 pub loop-line-preserved : goal.loop-line-preserved
 loop-line-preserved c =
-    let turn = turn-at c.args.bytes.now c.args.lines.now c.loop-line.line-index c.requires.rising c.loop-line-test.true
+    let turn = turn-at c.args.bytes.now c.args.lines.now c.loop-line.line-index c.requires.rising
+    c.loop-line-test.true
     c.line_text-text.ensures (sym c.if-is_passed_over.ensures) c.entry_of.ensures in
     let made = c.in_ok-entry.entry in
     let given = c.in_ok-entry.ensures in
     let before = c.loop-line.invariant in
     record {
       read =
-          read-more made c.push.new.self turn before.read given.read given.word (λ full. c.if-len-limit.false (c.len.ensures ∙ full)) c.in_ok-push.ensures.ok;
+          read-more made c.push.new.self turn before.read given.read given.word
+          (λ full. c.if-len-limit.false (c.len.ensures ∙ full)) c.in_ok-push.ensures.ok;
       ordinary = λ has. subst HaveOrdinaryFlags (sym c.in_ok-push.ensures.ok)
-          (All-push (λ (entry : Entry). AreOrdinary entry.flags) c.loop-line.entries made (before.ordinary has) (given.ordinary has));
+          (All-push (λ (entry : Entry). AreOrdinary entry.flags) c.loop-line.entries made
+          (before.ordinary has) (given.ordinary has));
     }
 
 pub returns-clause-read : goal.returns-clause-read
 returns-clause-read c =
-    read-all c.args.affixes.now c.args.limit c.args.bytes.now c.args.lines.now c.loop-line.line-index c.loop-line.entries (omega arith) c.loop-line.invariant.read
+    read-all c.args.affixes.now c.args.limit c.args.bytes.now c.args.lines.now
+    c.loop-line.line-index c.loop-line.entries (omega arith) c.loop-line.invariant.read

@@ -5,9 +5,11 @@ use Rattle.dic_reader.proofs.read_file.Goals as goal
 
 pub returns-in-Some-clause-read : goal.returns-in-Some-clause-read
 returns-in-Some-clause-read c =
-    bad-told c.args.affixes.now c.args.bytes.now c.in-Some.line (sym c.in_ok-found.ensures.bad ∙ c.in-Some.is)
+    bad-told c.args.affixes.now c.args.bytes.now c.in-Some.line
+    (sym c.in_ok-found.ensures.bad ∙ c.in-Some.is)
 
 pub returns-clause-read : goal.returns-clause-read
 returns-clause-read c =
     of-lines c.args.affixes.now c.args.bytes.now c.deref.result.now c.read_lines.result
-    (c.deref.ensures ∙ c.in_ok-found.ensures.good) (sym c.in_ok-found.ensures.bad ∙ c.in_default.is) c.read_lines.ensures.read
+    (c.deref.ensures ∙ c.in_ok-found.ensures.good) (sym c.in_ok-found.ensures.bad ∙ c.in_default.is)
+    c.read_lines.ensures.read

@@ -47,5 +47,10 @@ pub returns-clause-found : goal.returns-clause-found
 unfolding lexicon_due
 returns-clause-found g c = (
   record { aff = c.in_ok-affixes.ensures.found.0; dic = c.in_ok-entries.ensures.found.0 },
-  search (rules, c.in_ok-affixes.ensures.found.1, c.in_ok-entries.ensures.found.1, c.in_ok-build.ensures),
+  search (
+    rules,
+    c.in_ok-affixes.ensures.found.1,
+    c.in_ok-entries.ensures.found.1,
+    c.in_ok-build.ensures,
+  ),
 )

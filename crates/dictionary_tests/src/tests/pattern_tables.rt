@@ -1,4 +1,5 @@
-//! Compound rules: what their texts are told to be in each type of flags, and which lists of flag sets they match.
+//! Compound rules: what their texts are told to be in each type of flags, and which lists of flag
+//! sets they match.
 
 use compound_pattern::{States, read_pattern};
 use lists::{Copied, NoMemory};
@@ -7,8 +8,9 @@ use std::alloc::{AllocError, Global};
 use std::process::Abort;
 use std::test::Fail;
 
-/// Each row is a text, and behind it what is told of it where flags are characters, where they are so in UTF-8, where they are
-/// pairs, and where they are numbers: the numbers of the flags, with their signs, or the fault. The first text is empty.
+/// Each row is a text, and behind it what is told of it where flags are characters, where they are
+/// so in UTF-8, where they are pairs, and where they are numbers: the numbers of the flags, with
+/// their signs, or the fault. The first text is empty.
 const TEXTS: &str = " BadPattern BadPattern BadPattern BadPattern
 * BadPattern BadPattern BadPattern BadPattern
 *a BadPattern BadPattern BadPattern BadPattern
@@ -47,7 +49,8 @@ n*1t 110*,49,116 110*,49,116 BadPattern BadPattern
 (\u{e4}\u{1f600})? BadFlag BadFlag 979252672000? BadFlag
 1,2 49,44,50 49,44,50 BadPattern BadPattern";
 
-/// Rules of three flags, and how many of all lists of up to four sets of these flags each of them matches.
+/// Rules of three flags, and how many of all lists of up to four sets of these flags each of them
+/// matches.
 const RULES: &str = "n*1t 336|n*mp 336|a?b*c 508|ab?c? 92|a*b*c* 1716|abc 64";
 
 fn sign_of(times: Times) -> &'static str {
@@ -158,8 +161,8 @@ fn stands_for(step: Option<&PatternStep>, bit: u32, masks: &[u32]) -> bool {
     }
 }
 
-/// Whether a rule of three steps matches the sets: some of them at the front are the first step's, some behind them the
-/// second one's, and the others the third one's.
+/// Whether a rule of three steps matches the sets: some of them at the front are the first step's,
+/// some behind them the second one's, and the others the third one's.
 fn is_matched(steps: &[PatternStep], masks: &[u32]) -> bool {
     for first in 0..=masks.len() {
         let (front, rest) = masks.split_at(first);

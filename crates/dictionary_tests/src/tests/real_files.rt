@@ -1,4 +1,5 @@
-//! What no run over objects in memory shows: the files and the input of the system, and lists as keys.
+//! What no run over objects in memory shows: the files and the input of the system, and lists as
+//! keys.
 
 use lists::Items;
 use outside::{FileFault, Files, RealFiles, Source, StdSource};

@@ -5,4 +5,5 @@ use Rattle.flag_sets.proofs.fields_have_their_flags.Goals as goal
 
 pub returns : goal.returns
 returns c = λ kind text set is.
-    field_has (listed_flags kind text) set is c.sets_have_their_flags.ensures.rising c.sets_have_their_flags.ensures.members
+    field_has (listed_flags kind text) set is c.sets_have_their_flags.ensures.rising
+    c.sets_have_their_flags.ensures.members

@@ -10,7 +10,8 @@ use Rattle.flag_sets.proofs.read_listed.Given as goal
 abbrev pub invariant-loop-rest : goal.invariant-loop-rest
 invariant-loop-rest l =
     shadow (Utf8 l.rest)
-    × (option_map (put_all l.set) (listed_flags l.kind l.rest) ≡ option_map (put_all []) (listed_flags l.kind l.fn.text))
+    × (option_map (put_all l.set) (listed_flags l.kind l.rest) ≡ option_map (put_all [])
+    (listed_flags l.kind l.fn.text))
     × AreOrdinary l.set
 
 abbrev pub decreases-loop-rest : goal.decreases-loop-rest

@@ -8,4 +8,6 @@ use Rattle.text_lines.proofs.end_of.Goals as goal
 
 pub returns-clause-end : goal.returns-clause-end
 returns-clause-end c =
-    ap (λ n. c.args.place + n) (c.unwrap_or.ensures ∙ place_of_line_feed _ c.find_byte.result c.find_byte.ensures ∙ ap (position_or_len is_line_feed) (take_rest c.args.bytes.now c.args.place))
+    ap (λ n. c.args.place + n)
+    (c.unwrap_or.ensures ∙ place_of_line_feed _ c.find_byte.result c.find_byte.ensures
+    ∙ ap (position_or_len is_line_feed) (take_rest c.args.bytes.now c.args.place))

@@ -32,7 +32,8 @@ fn replies_within(alloc: Global, block: &str, bytes: usize) -> Result<String, Al
     Ok(replies)
 }
 
-/// A read that fails ends the run behind the replies to all lines that were whole in the bytes before it.
+/// A read that fails ends the run behind the replies to all lines that were whole in the bytes
+/// before it.
 fn assert_failing_read<R: Threads + Wait + Sync + Abort>(
     rt: &R,
     alloc: Global,
@@ -81,8 +82,8 @@ fn assert_failing_reads<R: Threads + Wait + Sync + Abort>(
     assert_unread(rt, alloc, block, reads.saturating_add(1))
 }
 
-/// A put that fails ends the run, and what is written is a front of all replies, with the bytes that it took. One that does
-/// not come changes nothing.
+/// A put that fails ends the run, and what is written is a front of all replies, with the bytes
+/// that it took. One that does not come changes nothing.
 fn assert_failing_put<R: Threads + Wait + Sync + Abort>(
     rt: &R,
     alloc: Global,
@@ -114,7 +115,8 @@ fn assert_failing_puts<R: Threads + Wait + Sync + Abort>(
     Ok(())
 }
 
-/// An input that ends at a place is replied to line by line up to there, and ends well. What is left of a line may be a line.
+/// An input that ends at a place is replied to line by line up to there, and ends well. What is
+/// left of a line may be a line.
 fn assert_cut<R: Threads + Wait + Sync + Abort>(
     rt: &R,
     alloc: Global,
@@ -145,7 +147,8 @@ fn assert_cuts<R: Threads + Wait + Sync + Abort>(
     Ok(())
 }
 
-/// The first dialogue has 110 bytes with `quit`, which seven reads bring; the second 86, and is read to its end.
+/// The first dialogue has 110 bytes with `quit`, which seven reads bring; the second 86, and is
+/// read to its end.
 #[test]
 fn ends_where_the_outside_fails(rt: HostRuntime) -> Result<(), Fail> {
     let alloc = rt.alloc();

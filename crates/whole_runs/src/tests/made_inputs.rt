@@ -9,7 +9,8 @@ use std::sync::Wait;
 use std::test::Fail;
 use std::thread::Threads;
 
-/// As many paragraphs as there may be, and then one more; where one is taken out, there is room for another.
+/// As many paragraphs as there may be, and then one more; where one is taken out, there is room for
+/// another.
 fn full_input(alloc: Global) -> Result<String, AllocError> {
     let mut input = String::new(alloc);
     for _ in 0..20_000u32 {

@@ -8,8 +8,8 @@ use std::alloc::{AllocError, Global};
 const GIVEN: &str =
     "aff SET UTF-8|# words|WORDCHARS 0123456789|\ndic 2|hello|2nd|\ntext hello 2nd wrld";
 
-/// A sink that needs no memory, and remembers only whether what was put is one of two texts. It tells contracts
-/// nothing.
+/// A sink that needs no memory, and remembers only whether what was put is one of two texts. It
+/// tells contracts nothing.
 #[derive(Drop)]
 struct Witness {
     puts: u64,
@@ -45,8 +45,9 @@ fn make_ready(alloc: Global) -> Result<Ready, AllocError> {
     Ok(Ready { words, files })
 }
 
-/// With an allocation that fails, as the kit can arrange for a run of the tests, the run says that memory is
-/// wanting or prints all that is due. Where the objects of the test itself find no memory there is no run.
+/// With an allocation that fails, as the kit can arrange for a run of the tests, the run says that
+/// memory is wanting or prints all that is due. Where the objects of the test itself find no memory
+/// there is no run.
 #[test]
 fn says_that_memory_is_wanting(rt: HostRuntime) {
     let alloc = rt.alloc();

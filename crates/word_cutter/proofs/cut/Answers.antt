@@ -11,7 +11,8 @@ loop-spans-init c =
     let at = c.of-rest.ensures.at in
     let none = ap length c.new-spans.ensures.items in
     record {
-      cut = ap (λ spans. spans ++ map span_of (words_after wordchars c.of-rest.result)) c.new-spans.ensures.items
+      cut = ap (λ spans. spans ++ map span_of (words_after wordchars c.of-rest.result))
+          c.new-spans.ensures.items
           ∙ ap (map span_of) (c.of-rest.ensures.words wordchars);
       few = omega arith;
       size = omega arith;

@@ -8,7 +8,8 @@ use Rattle.word_cutter.proofs.cut.Given as goal
 
 abbrev pub invariant-loop-spans : goal.invariant-loop-spans
 invariant-loop-spans l = record {
-  cut : l.spans.items ++ map span_of (words_after l.wordchars l.rest) ≡ map span_of (words_of l.wordchars (chars l.text));
+  cut : l.spans.items ++ map span_of (words_after l.wordchars l.rest)
+      ≡ map span_of (words_of l.wordchars (chars l.text));
   few : length l.spans.items + length l.rest.text.now ≤ length l.text;
   size : l.rest.at + length l.rest.text.now ≡ length l.text;
 }

@@ -11,7 +11,8 @@ returns-in-Some-clause-some c =
     let first = c.in-Some.c in
     let behind = c.as_str.result.now in
     let whole : c.args.text.now ≡ encode_utf8 first ++ behind =
-    sym c.chars-left.ensures.rest ∙ c.in-Some.ensures.steps.0 ∙ ap (λ t. encode_utf8 first ++ t) (sym c.as_str.ensures) in
+    sym c.chars-left.ensures.rest ∙ c.in-Some.ensures.steps.0
+    ∙ ap (λ t. encode_utf8 first ++ t) (sym c.as_str.ensures) in
     (chars_past_char _ behind first c.utf8.text whole, whole)
 
 pub returns-in-None-clause-none : goal.returns-in-None-clause-none

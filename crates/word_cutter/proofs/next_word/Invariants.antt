@@ -6,7 +6,9 @@ use Rattle.word_cutter.proofs.CutLemmas.{Walks}
 use Rattle.word_cutter.proofs.next_word.Given as goal
 
 abbrev pub invariant-loop-c : goal.invariant-loop-c
-invariant-loop-c l = shadow (Utf8 l.text) × Walks l.wordchars l.rest l.text l.at l.before l.from l.is_word l.word.items
+invariant-loop-c l =
+    shadow (Utf8 l.text) × Walks l.wordchars l.rest l.text l.at l.before l.from l.is_word
+    l.word.items
 
 abbrev pub decreases-loop-c : goal.decreases-loop-c
 decreases-loop-c l = length l.text

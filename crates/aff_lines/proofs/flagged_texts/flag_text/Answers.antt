@@ -10,9 +10,11 @@ use Rattle.aff_lines.proofs.flagged_texts.flag_text.Goals as goal
 
 none-behind : (text : List ℕ) → position_or_len is_slash text ≡ length text → None ≡ flag_text text
 none-behind text is =
-    let none = list_any_none is_slash text (λ k d within. fails_before_first is_slash text k d (omega (arith, within, is))) in
+    let none = list_any_none is_slash text
+    (λ k d within. fails_before_first is_slash text k d (omega (arith, within, is))) in
     rw none
 
 pub returns-in_err-flag : goal.returns-in_err-flag
 returns-in_err-flag c =
-    ap option_copied c.from_residual.ensures ∙ none-behind c.args.text.now (c.in_err-flag.ensures.byte (lit< tt) (λ w o finds. finds))
+    ap option_copied c.from_residual.ensures
+    ∙ none-behind c.args.text.now (c.in_err-flag.ensures.byte (lit< tt) (λ w o finds. finds))

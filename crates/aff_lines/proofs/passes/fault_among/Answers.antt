@@ -8,7 +8,9 @@ use Rattle.aff_lines.proofs.passes.fault_among.Goals as goal
 
 pub loop-described-preserved : goal.loop-described-preserved
 loop-described-preserved c =
-    pass_turn c.args.kind c.args.rows.now c.args.pass c.args.directives.now c.loop-described.described-index _ c.loop-described.found c.fault_in.result c.sooner-found.result
+    pass_turn c.args.kind c.args.rows.now c.args.pass c.args.directives.now
+    c.loop-described.described-index _ c.loop-described.found c.fault_in.result
+    c.sooner-found.result
     c.loop-described-test.true c.sooner-found.ensures c.fault_in.ensures c.loop-described.invariant
 
 pub returns : goal.returns

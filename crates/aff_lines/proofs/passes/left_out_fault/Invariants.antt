@@ -8,7 +8,8 @@ use Rattle.aff_lines.proofs.passes.left_out_fault.Given as goal
 
 abbrev pub invariant-loop-line : goal.invariant-loop-line
 invariant-loop-line l =
-    sooner l.found (least_of (flat_map left_out_faults (lines_of l.directive l.rest))) ≡ least_of (all_left_out (lines_of l.directive l.rows))
+    sooner l.found (least_of (flat_map left_out_faults (lines_of l.directive l.rest)))
+    ≡ least_of (all_left_out (lines_of l.directive l.rows))
 
 abbrev pub decreases-loop-line : goal.decreases-loop-line
 decreases-loop-line l = length l.rest

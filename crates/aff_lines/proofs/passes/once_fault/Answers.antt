@@ -10,4 +10,5 @@ pub loop-line-preserved : goal.loop-line-preserved
 loop-line-preserved c =
     let faults_in = later_faults c.args.kind c.args.form in
     found_more cause_number c.loop-line.found (faults_in c.in-Some.line.now) _
-    c.sooner-found.ensures c.later_fault.ensures (ap (flat_map faults_in) c.in-Some.ensures.0) c.loop-line.invariant
+    c.sooner-found.ensures c.later_fault.ensures (ap (flat_map faults_in) c.in-Some.ensures.0)
+    c.loop-line.invariant

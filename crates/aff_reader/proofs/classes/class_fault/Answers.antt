@@ -8,7 +8,8 @@ use Rattle.aff_reader.proofs.classes.class_fault.Goals as goal
 
 pub returns : goal.returns
 returns c =
-    let lines = each_after (line_faults c.args.kind (option_copied c.args.aliases) c.args.rows.now) [] c.args.rows.now in
+    let lines = each_after (line_faults c.args.kind (option_copied c.args.aliases) c.args.rows.now)
+    [] c.args.rows.now in
     let many = many_faults c.args.kind rule_limit c.args.rows.now in
     c.sooner.ensures
     ∙ ap (λ found. sooner found c.in_ok-many_fault.field-0) c.in_ok-fault.ensures

@@ -9,5 +9,7 @@ use Rattle.aff_reader.proofs.classes.lines_fault.Given as goal
 abbrev pub invariant-loop-line : goal.invariant-loop-line
 invariant-loop-line l = record {
   known : Knows l.kind (take l.line-index l.rows) l.classes;
-  least : l.found ≡ least_of (each_after (line_faults l.kind (option_copied l.aliases) l.rows) [] (take l.line-index l.rows));
+  least : l.found
+      ≡ least_of (each_after (line_faults l.kind (option_copied l.aliases) l.rows) []
+      (take l.line-index l.rows));
 }

@@ -12,5 +12,6 @@ abbrev pub invariant-loop-line : goal.invariant-loop-line
 invariant-loop-line l = record {
   known : Knows l.kind (take l.line-index l.rows) l.classes;
   ordinary : IfSome (option_copied l.aliases) (All AreOrdinary) → All IsOrdinaryRule l.rules;
-  said : l.rules ≡ map (rule_without l.ignore) (rules_said l.kind (option_copied l.aliases) (take l.line-index l.rows));
+  said : l.rules ≡ map (rule_without l.ignore)
+      (rules_said l.kind (option_copied l.aliases) (take l.line-index l.rows));
 }

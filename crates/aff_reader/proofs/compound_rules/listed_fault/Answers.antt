@@ -8,6 +8,9 @@ use Rattle.aff_reader.proofs.compound_rules.listed_fault.Goals as goal
 
 pub loop-row-preserved : goal.loop-row-preserved
 loop-row-preserved c =
-    faults-turn c.earliest_faults.ensures.join (text_faults c.args.kind) c.loop-row.found c.fault_at.result c.sooner-found.result
-    c.args.rows.now c.loop-row.row-index c.row-item.result c.loop-row-test.true c.row-item.is c.sooner-found.ensures
-    (c.fault_at.ensures ∙ ap (λ why. least_of (faults_at why c.row-item.result.now)) c.in_ok-why.ensures) c.loop-row.invariant
+    faults-turn c.earliest_faults.ensures.join (text_faults c.args.kind) c.loop-row.found
+    c.fault_at.result c.sooner-found.result
+    c.args.rows.now c.loop-row.row-index c.row-item.result c.loop-row-test.true c.row-item.is
+    c.sooner-found.ensures
+    (c.fault_at.ensures ∙ ap (λ why. least_of (faults_at why c.row-item.result.now))
+    c.in_ok-why.ensures) c.loop-row.invariant

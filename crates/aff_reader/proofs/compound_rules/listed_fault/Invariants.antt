@@ -7,4 +7,5 @@ use Rattle.aff_reader.specs.CompoundRules.{text_faults}
 use Rattle.aff_reader.proofs.compound_rules.listed_fault.Given as goal
 
 abbrev pub invariant-loop-row : goal.invariant-loop-row
-invariant-loop-row l = l.found ≡ least_of (flat_map (text_faults l.kind) (lines_at (take l.row-index l.rows)))
+invariant-loop-row l =
+    l.found ≡ least_of (flat_map (text_faults l.kind) (lines_at (take l.row-index l.rows)))

@@ -10,4 +10,5 @@ returns-in_ok-characters_of-in-Some-clause-some c = λ own is.
     let found = c.field_of.ensures in
     let there = ap option_copied c.in-Some.is in
     let text = field-some c.args.row.now.text c.args.k c.in-Some.text.now (sym found ∙ there) in
-    subst (λ (made : List ℕ). 0 < length made) (cc is) (c.in_ok-characters_of-in-Some.ensures.some text)
+    subst (λ (made : List ℕ). 0 < length made) (cc is)
+    (c.in_ok-characters_of-in-Some.ensures.some text)

@@ -1,5 +1,6 @@
 -- The laws are lemmas on the definition alone.
-use Rattle.affix_classes.proofs.PieceLemmas.{pieces_of-nil, pieces_of-plain, pieces_of-bracket, pieces_of-unclosed}
+use Rattle.affix_classes.proofs.PieceLemmas.{pieces_of-nil, pieces_of-plain, pieces_of-bracket}
+use Rattle.affix_classes.proofs.PieceLemmas.{pieces_of-unclosed}
 use Rattle.affix_classes.proofs.reading.conditions_are_read_by_pieces.Goals as goal
 
 pub returns-clause-end : goal.returns-clause-end

@@ -10,16 +10,26 @@ pub returns-in_err-piece-clause-fault : goal.returns-in_err-piece-clause-fault
 returns-in_err-piece-clause-fault c =
     let l = c.loop-place in
     let none : (c.in_err-piece.field-0.0 ≢ NoMemory → pieces_of c.args.text.now ≡ None) =
-    λ other. none_read c.args.text.now l.made l.place c.index-text-place.result c.loop-place-test.true c.index-text-place.is (c.in_err-piece.ensures.fault other) l.invariant.whole in
+    λ other. none_read c.args.text.now l.made l.place c.index-text-place.result
+    c.loop-place-test.true c.index-text-place.is (c.in_err-piece.ensures.fault other)
+    l.invariant.whole in
     search (rules, none)
 
 pub loop-place-preserved : goal.loop-place-preserved
 loop-place-preserved c =
     let l = c.loop-place in record {
-      within = omega (arith, c.in_ok-piece.ensures.within, ap length (take-rest (l.place + 1) c.args.text.now), length-drop (l.place + 1) c.args.text.now);
-      whole = piece_read c.args.text.now l.made c.push.new.self l.place c.index-text-place.result c.in_ok-piece.piece c.in_ok-piece.more c.loop-place-test.true c.index-text-place.is c.in_ok-piece.ensures.piece c.in_ok-push.ensures.ok l.invariant.whole;
+      within = omega (
+        arith,
+        c.in_ok-piece.ensures.within,
+        ap length (take-rest (l.place + 1) c.args.text.now),
+        length-drop (l.place + 1) c.args.text.now,
+      );
+      whole = piece_read c.args.text.now l.made c.push.new.self l.place c.index-text-place.result
+          c.in_ok-piece.piece c.in_ok-piece.more c.loop-place-test.true c.index-text-place.is
+          c.in_ok-piece.ensures.piece c.in_ok-push.ensures.ok l.invariant.whole;
     }
 
 pub returns-clause-condition : goal.returns-clause-condition
 returns-clause-condition c =
-    all_read c.args.text.now c.loop-place.made c.loop-place.place c.loop-place-test.false c.loop-place.invariant.whole
+    all_read c.args.text.now c.loop-place.made c.loop-place.place c.loop-place-test.false
+    c.loop-place.invariant.whole

@@ -8,9 +8,13 @@ use Rattle.affix_strip.proofs.Stems.derivations.Goals as goal
 pub returns : goal.returns
 returns c =
     let lexicon = c.self.inside.dictionary.lexicon in
-    same-derivations lexicon c.args.word.now c.put_in_order.new.found.items c.put_in_order.ensures.order
+    same-derivations lexicon c.args.word.now c.put_in_order.new.found.items
+    c.put_in_order.ensures.order
     (λ d. (
-      λ inside. (listed lexicon c.args.word.now _ _ _ c.new-found.ensures.items c.in_ok-visit_all.ensures d).0 ((c.put_in_order.ensures.members d).0 inside),
-      λ gives. (c.put_in_order.ensures.members d).1 ((listed lexicon c.args.word.now _ _ _ c.new-found.ensures.items c.in_ok-visit_all.ensures d).1 gives),
+      λ inside. (listed lexicon c.args.word.now _ _ _ c.new-found.ensures.items
+          c.in_ok-visit_all.ensures d).0 ((c.put_in_order.ensures.members d).0 inside),
+      λ gives. (c.put_in_order.ensures.members d).1
+          ((listed lexicon c.args.word.now _ _ _ c.new-found.ensures.items c.in_ok-visit_all.ensures
+          d).1 gives),
     ))
     ∙ ap (λ given. derivations_of given c.args.word.now) c.self.view_is

@@ -8,4 +8,5 @@ returns-then-not-one_is_forbidden c = nowhere c.args.lexicon.now (search rules)
 
 pub returns : goal.returns
 returns c =
-    at-entries c.args.lexicon.now c.in_ok-classes.classes c.sets_have_their_flags.ensures.told (search rules) (search rules)
+    at-entries c.args.lexicon.now c.in_ok-classes.classes c.sets_have_their_flags.ensures.told
+    (search rules) (search rules)

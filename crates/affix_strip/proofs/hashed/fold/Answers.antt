@@ -10,4 +10,5 @@ loop-c-init c = sym (folded-none c.args.hash)
 pub loop-c-preserved : goal.loop-c-preserved
 loop-c-preserved c =
     ap (λ h. ((h * FACTOR) % 2 ^ 64 + c.c-item.result) % 2 ^ 64) c.loop-c.invariant
-    ∙ sym (folded-more c.args.hash c.args.characters.now c.loop-c.c-index c.c-item.result c.loop-c-test.true c.c-item.is)
+    ∙ sym (folded-more c.args.hash c.args.characters.now c.loop-c.c-index c.c-item.result
+    c.loop-c-test.true c.c-item.is)

@@ -6,6 +6,9 @@ use Rattle.affix_strip.proofs.lengths.longest_of.Goals as goal
 
 pub returns : goal.returns
 returns c =
-    longest-is c.args.lexicon.now c.longest_word-word.result c.longest_added-added.result c.sum_of.result
-    (subst (λ entries. AreWordsWithin entries c.longest_word-word.result) c.deref.ensures c.longest_word-word.ensures)
-    (subst (λ rules. AreAddedWithin rules c.longest_added-added.result) c.deref-2.ensures c.longest_added-added.ensures) c.sum_of.ensures
+    longest-is c.args.lexicon.now c.longest_word-word.result c.longest_added-added.result
+    c.sum_of.result
+    (subst (λ entries. AreWordsWithin entries c.longest_word-word.result) c.deref.ensures
+    c.longest_word-word.ensures)
+    (subst (λ rules. AreAddedWithin rules c.longest_added-added.result) c.deref-2.ensures
+    c.longest_added-added.ensures) c.sum_of.ensures

@@ -4,4 +4,5 @@ use Rattle.spell_types.specs.declared.Entry.{Entry}
 use Rattle.affix_strip.proofs.lengths.longest_word.Given as goal
 
 abbrev pub invariant-loop-entry : goal.invariant-loop-entry
-invariant-loop-entry l = (place : ℕ) (entry : Entry) → place < l.entry-index → slice_get l.entries place ≡ Some entry → length entry.word ≤ l.found
+invariant-loop-entry l = (place : ℕ) (entry : Entry) → place < l.entry-index
+    → slice_get l.entries place ≡ Some entry → length entry.word ≤ l.found

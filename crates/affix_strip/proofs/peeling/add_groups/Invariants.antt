@@ -4,4 +4,5 @@ use Rattle.affix_strip.specs.Peeling.{peeled_by}
 use Rattle.affix_strip.proofs.peeling.add_groups.Given as goal
 
 abbrev pub invariant-loop-number : goal.invariant-loop-number
-invariant-loop-number l = l.found.items ≡ l.initial.found.items ++ map (peeled_by l.side l.kept) (take l.number l.groups)
+invariant-loop-number l =
+    l.found.items ≡ l.initial.found.items ++ map (peeled_by l.side l.kept) (take l.number l.groups)

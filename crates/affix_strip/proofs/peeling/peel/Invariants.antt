@@ -6,4 +6,5 @@ use Rattle.affix_strip.proofs.PeelLemmas.{ArePeeledBelow}
 use Rattle.affix_strip.proofs.peeling.peel.Given as goal
 
 abbrev pub invariant-loop-count : goal.invariant-loop-count
-invariant-loop-count l = (rules : List Rule) → IsTableOf rules l.tables → ArePeeledBelow rules l.side l.word l.count l.found.items
+invariant-loop-count l = (rules : List Rule) → IsTableOf rules l.tables
+    → ArePeeledBelow rules l.side l.word l.count l.found.items

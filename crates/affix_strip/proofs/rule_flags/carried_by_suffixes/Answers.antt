@@ -12,5 +12,7 @@ loop-rule-preserved c =
     let rule = c.rule-item.result in
     let within : i < length rules = omega arith in
     subst (λ rs. HasCarried rs c.add_carried.new.set)
-    (sym (take_more rules i rule within ∙ ap (λ last. take i rules ++ last ∷ []) (sym c.rule-item.is)))
-    (carried-more c.sets_have_their_flags.ensures.put_all (take i rules) rule c.loop-rule.set c.add_carried.new.set c.loop-rule.invariant c.in_ok-add_carried.ensures)
+    (sym (take_more rules i rule within
+    ∙ ap (λ last. take i rules ++ last ∷ []) (sym c.rule-item.is)))
+    (carried-more c.sets_have_their_flags.ensures.put_all (take i rules) rule c.loop-rule.set
+    c.add_carried.new.set c.loop-rule.invariant c.in_ok-add_carried.ensures)

@@ -12,5 +12,7 @@ loop-rule-preserved c =
     let rule = c.rule-item.result in
     let within : i < length rules = omega arith in
     subst (λ rs. HasClasses rs c.insert.new.self)
-    (sym (take_more rules i rule within ∙ ap (λ last. take i rules ++ last ∷ []) (sym c.rule-item.is)))
-    (classes-more c.sets_have_their_flags.ensures.put (take i rules) rule c.loop-rule.set c.insert.new.self c.loop-rule.invariant c.in_ok-insert.ensures.ok)
+    (sym (take_more rules i rule within
+    ∙ ap (λ last. take i rules ++ last ∷ []) (sym c.rule-item.is)))
+    (classes-more c.sets_have_their_flags.ensures.put (take i rules) rule c.loop-rule.set
+    c.insert.new.self c.loop-rule.invariant c.in_ok-insert.ensures.ok)

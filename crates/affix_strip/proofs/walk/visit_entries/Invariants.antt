@@ -7,4 +7,7 @@ use Rattle.affix_strip.proofs.walk.visit_entries.Given as goal
 
 abbrev pub invariant-loop-entry : goal.invariant-loop-entry
 invariant-loop-entry g l =
-    Shows (AtSome (λ entry d. (d ≡ derivation_of entry l.prefix l.first l.second) × (is_licensed l.lexicon d ≡ true)) (take l.entry-index l.entries)) (g.V.Visitor.sees l.initial.visitor) (g.V.Visitor.sees l.visitor) false
+    Shows (AtSome
+    (λ entry d. (d ≡ derivation_of entry l.prefix l.first l.second)
+    × (is_licensed l.lexicon d ≡ true)) (take l.entry-index l.entries))
+    (g.V.Visitor.sees l.initial.visitor) (g.V.Visitor.sees l.visitor) false

@@ -6,17 +6,30 @@ use Rattle.affix_strip.proofs.ShowLemmas.{loop-first, loop-more, loop-end, loop-
 use Rattle.affix_strip.proofs.walk.visit_prefixes.Goals as goal
 
 pub loop-prefix-init : goal.loop-prefix-init
-loop-prefix-init g c = loop-first (λ prefix. AtSome (λ second. From c.args.lexicon.now prefix c.args.first second c.args.entries.now) c.args.seconds.now) c.args.prefixes.now
+loop-prefix-init g c =
+    loop-first (λ prefix.
+    AtSome (λ second. From c.args.lexicon.now prefix c.args.first second c.args.entries.now)
+    c.args.seconds.now) c.args.prefixes.now
 
 pub returns-then-branch : goal.returns-then-branch
 returns-then-branch g c =
-    loop-end (λ prefix. AtSome (λ second. From c.args.lexicon.now prefix c.args.first second c.args.entries.now) c.args.seconds.now) c.args.prefixes.now c.loop-prefix.prefix-index (get_or c.args.prefixes.now c.loop-prefix.prefix-index None) None
+    loop-end (λ prefix.
+    AtSome (λ second. From c.args.lexicon.now prefix c.args.first second c.args.entries.now)
+    c.args.seconds.now) c.args.prefixes.now c.loop-prefix.prefix-index
+    (get_or c.args.prefixes.now c.loop-prefix.prefix-index None) None
     (omega arith) refl c.loop-prefix.invariant c.in_ok-visit_seconds.ensures c.if-branch.true
 
 pub loop-prefix-preserved : goal.loop-prefix-preserved
 loop-prefix-preserved g c =
-    loop-more (λ prefix. AtSome (λ second. From c.args.lexicon.now prefix c.args.first second c.args.entries.now) c.args.seconds.now) c.args.prefixes.now c.loop-prefix.prefix-index (get_or c.args.prefixes.now c.loop-prefix.prefix-index None) None
+    loop-more (λ prefix.
+    AtSome (λ second. From c.args.lexicon.now prefix c.args.first second c.args.entries.now)
+    c.args.seconds.now) c.args.prefixes.now c.loop-prefix.prefix-index
+    (get_or c.args.prefixes.now c.loop-prefix.prefix-index None) None
     (omega arith) refl c.loop-prefix.invariant c.in_ok-visit_seconds.ensures c.if-branch.false
 
 pub returns : goal.returns
-returns g c = loop-last (λ prefix. AtSome (λ second. From c.args.lexicon.now prefix c.args.first second c.args.entries.now) c.args.seconds.now) c.args.prefixes.now c.loop-prefix.prefix-index (omega arith) c.loop-prefix.invariant
+returns g c =
+    loop-last (λ prefix.
+    AtSome (λ second. From c.args.lexicon.now prefix c.args.first second c.args.entries.now)
+    c.args.seconds.now) c.args.prefixes.now c.loop-prefix.prefix-index (omega arith)
+    c.loop-prefix.invariant

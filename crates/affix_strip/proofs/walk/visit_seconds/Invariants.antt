@@ -6,4 +6,6 @@ use Rattle.affix_strip.proofs.walk.visit_seconds.Given as goal
 
 abbrev pub invariant-loop-second : goal.invariant-loop-second
 invariant-loop-second g l =
-    Shows (AtSome (λ second. From l.lexicon l.prefix l.first second l.entries) (take l.second-index l.seconds)) (g.V.Visitor.sees l.initial.visitor) (g.V.Visitor.sees l.visitor) false
+    Shows (AtSome (λ second. From l.lexicon l.prefix l.first second l.entries)
+    (take l.second-index l.seconds)) (g.V.Visitor.sees l.initial.visitor)
+    (g.V.Visitor.sees l.visitor) false

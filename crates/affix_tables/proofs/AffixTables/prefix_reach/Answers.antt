@@ -8,5 +8,6 @@ use Rattle.affix_tables.proofs.AffixTables.prefix_reach.Goals as goal
 
 pub returns-clause-rules : goal.returns-clause-rules
 returns-clause-rules c = λ rules holds place rule at on has.
-    reached Prefix c.args.self.now.prefixes.ends c.args.word.now rule.add c.reach.result c.reach.ensures.over
+    reached Prefix c.args.self.now.prefixes.ends c.args.word.now rule.add c.reach.result
+    c.reach.ensures.over
     (holds.prefixes.ends place rule at (ap (is_same_side Prefix) on ∙ own_side Prefix)) has

@@ -5,6 +5,8 @@ use Rattle.affix_tables.proofs.AffixTables.prefixes_of.Goals as goal
 
 pub returns : goal.returns
 returns c = λ rules holds.
-    prefixes-found rules c.args.self.now.prefixes c.args.word.now c.sort_unstable.new.self.items holds.prefixes
-    (subst (λ found. IsPermutation found c.sort_unstable.new.self.items) c.in_ok-fronts.ensures c.sort_unstable.ensures.permutation)
+    prefixes-found rules c.args.self.now.prefixes c.args.word.now c.sort_unstable.new.self.items
+    holds.prefixes
+    (subst (λ found. IsPermutation found c.sort_unstable.new.self.items) c.in_ok-fronts.ensures
+    c.sort_unstable.ensures.permutation)
     c.sort_unstable.ensures.sorted

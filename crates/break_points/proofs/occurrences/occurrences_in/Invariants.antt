@@ -9,5 +9,7 @@ use Rattle.break_points.proofs.occurrences.occurrences_in.Given as goal
 abbrev pub invariant-loop-place : goal.invariant-loop-place
 invariant-loop-place l = record {
   sound : All (IsOccurrence (map anchored_of l.patterns) l.word) l.occurrences.items;
-  whole : (occurrence : Occurrence) → occurrence.place < l.place → IsOccurrence (map anchored_of l.patterns) l.word occurrence → Contains l.occurrences.items occurrence;
+  whole : (occurrence : Occurrence) → occurrence.place < l.place
+      → IsOccurrence (map anchored_of l.patterns) l.word occurrence
+      → Contains l.occurrences.items occurrence;
 }

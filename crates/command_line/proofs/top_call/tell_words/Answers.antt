@@ -8,11 +8,17 @@ pub returns-clause-due : goal.returns-clause-due
 returns-clause-due g c = λ folder files reading untouched.
     ends-behind [] (λ failed. failed) (appends-none (g.K.Sink.written c.args.out.now)) (record {
       answer = refl;
-      caused = record { words = λ is. refl; files = λ is. absurd (cc); input = λ is. absurd (cc); alone = λ is. refl };
+      caused = record {
+        words = λ is. refl;
+        files = λ is. absurd (cc);
+        input = λ is. absurd (cc);
+        alone = λ is. refl;
+      };
       input = untouched;
       files = refl;
     }) c.put_end.ensures.puts
 
 pub returns-clause-complete : goal.returns-clause-complete
 returns-clause-complete g c = λ met same.
-    ends-behind [] (λ failed. omega (arith, failed, same)) (appends-none (g.K.Sink.written c.args.out.now)) tt c.put_end.ensures.puts
+    ends-behind [] (λ failed. omega (arith, failed, same))
+    (appends-none (g.K.Sink.written c.args.out.now)) tt c.put_end.ensures.puts

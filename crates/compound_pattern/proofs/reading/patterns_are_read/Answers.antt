@@ -1,5 +1,6 @@
 -- The laws are lemmas on the definition alone.
-use Rattle.compound_pattern.proofs.RuleLemmas.{pattern_of-read, pattern_of-bad_pattern, pattern_of-bad_flag}
+use Rattle.compound_pattern.proofs.RuleLemmas.{pattern_of-read, pattern_of-bad_pattern}
+use Rattle.compound_pattern.proofs.RuleLemmas.{pattern_of-bad_flag}
 use Rattle.compound_pattern.proofs.reading.patterns_are_read.Goals as goal
 
 pub returns-clause-read : goal.returns-clause-read

@@ -11,7 +11,8 @@ use Rattle.compound_pattern.proofs.reading.read_pattern.Given as goal
 abbrev pub invariant-loop-rest : goal.invariant-loop-rest
 invariant-loop-rest l =
     shadow (Utf8 l.rest)
-    × (told_after l.kind l.are_flags l.steps (items_of l.kind (chars l.rest)) ≡ pattern_of l.kind l.fn.text)
+    × (told_after l.kind l.are_flags l.steps (items_of l.kind (chars l.rest))
+    ≡ pattern_of l.kind l.fn.text)
     × All (λ step. IsOrdinary step.flag) l.steps
 
 abbrev pub decreases-loop-rest : goal.decreases-loop-rest

@@ -7,4 +7,5 @@ pub returns : goal.returns
 returns c = λ size.
     let l = c.loop-place in
     ended_all c.args.steps.now l.reached c.args.states.now l.place c.loop-place-test.false
-    ∙ l.invariant ∙ ended_tell c.patterns_match.ensures.one_by_one c.args.steps.now c.args.states.now size
+    ∙ l.invariant ∙ ended_tell c.patterns_match.ensures.one_by_one c.args.steps.now
+    c.args.states.now size

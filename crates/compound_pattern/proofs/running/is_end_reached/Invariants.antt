@@ -4,4 +4,5 @@ use Rattle.compound_pattern.proofs.StateLemmas.{ended}
 use Rattle.compound_pattern.proofs.running.is_end_reached.Given as goal
 
 abbrev pub invariant-loop-place : goal.invariant-loop-place
-invariant-loop-place l = ended (drop l.place l.steps) l.reached (drop l.place l.states) ≡ ended l.steps false l.states
+invariant-loop-place l =
+    ended (drop l.place l.steps) l.reached (drop l.place l.states) ≡ ended l.steps false l.states

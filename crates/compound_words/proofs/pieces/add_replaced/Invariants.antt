@@ -8,5 +8,6 @@ use Rattle.compound_words.proofs.pieces.add_replaced.Given as goal
 abbrev pub invariant-loop-row : goal.invariant-loop-row
 invariant-loop-row l = l.found.items
     ≡ l.fn.found.items ++ flat_map
-    (parts_replaced (asked_by l.search) l.piece.start.now.fronts.items l.piece.text.now l.piece.rests.now)
+    (parts_replaced (asked_by l.search) l.piece.start.now.fronts.items l.piece.text.now
+    l.piece.rests.now)
     (take l.row-index l.search.stems.now.affixes.joints)

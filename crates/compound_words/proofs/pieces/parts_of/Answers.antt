@@ -16,7 +16,8 @@ returns c =
     let a = asked_by c.args.search.now in
     let piece = c.args.piece.now in
     if_ok c.find_parts.result c.find_parts.ensures (λ found is.
-    subst (AreParts a piece.start.now.before.now piece.text.now piece.following.now piece.rests.now) (sym is)
+    subst (AreParts a piece.start.now.before.now piece.text.now piece.following.now piece.rests.now)
+    (sym is)
     (parts-are a piece.start.now.before.now piece.start.now.fronts.items piece.text.now
     piece.following.now piece.rests.now c.requires
     (c.derivations_are.ensures.members c.args.search.now.stems.now)))

@@ -9,4 +9,5 @@ loop-rest-preserved c =
     c.least-found.ensures
     ∙ fewest-turn
     (λ rest. count_of rest ByFlags)
-    c.args.rests.now c.loop-rest.rest-index c.rest-item.result c.loop-rest.found c.loop-rest-test.true c.rest-item.is c.loop-rest.invariant
+    c.args.rests.now c.loop-rest.rest-index c.rest-item.result c.loop-rest.found
+    c.loop-rest-test.true c.rest-item.is c.loop-rest.invariant

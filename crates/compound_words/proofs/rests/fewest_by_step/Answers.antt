@@ -10,4 +10,5 @@ loop-rest-preserved c =
     c.least-found.ensures ∙ ap (least c.loop-rest.found) c.by_step.ensures
     ∙ fewest-turn
     (λ rest. count_of rest (ByRule c.args.rule c.args.step))
-    c.args.rests.now c.loop-rest.rest-index c.rest-item.result c.loop-rest.found c.loop-rest-test.true c.rest-item.is c.loop-rest.invariant
+    c.args.rests.now c.loop-rest.rest-index c.rest-item.result c.loop-rest.found
+    c.loop-rest-test.true c.rest-item.is c.loop-rest.invariant

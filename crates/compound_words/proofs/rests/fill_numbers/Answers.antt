@@ -1,12 +1,14 @@
 -- The numbers are found from the last step to the first.
-use Rattle.std.proofs.Common.{◌≡◌, ◌∙◌, ◌+◌, ◌-◌, ◌<◌, refl, sym, ap, arith, Bool, [], None, cond, get_or, ◌&&◌, length, drop, option_and_then}
+use Rattle.std.proofs.Common.{◌≡◌, ◌∙◌, ◌+◌, ◌-◌, ◌<◌, refl, sym, ap, arith, Bool, [], None, cond}
+use Rattle.std.proofs.Common.{get_or, ◌&&◌, length, drop, option_and_then}
 use Rattle.std.proofs.lemmas.List.{length-set}
 use Rattle.spell_types.specs.declared.patterns.PatternStep.{PatternStep}
 use Rattle.spell_types.specs.declared.patterns.Times.TheVariants.{Once}
 use Rattle.spell_types.specs.Patterns.{matches, is_left_out, fits_step}
 use Rattle.compound_words.specs.Counting.{least, one_more, number_at}
 use Rattle.compound_words.specs.Rests.{matches_from, number_behind, number_by_steps, ByRule}
-use Rattle.compound_words.proofs.StepLemmas.{numbers-past, numbers-turn, nothing-past, nothing-turn, nothing-behind}
+use Rattle.compound_words.proofs.StepLemmas.{numbers-past, numbers-turn, nothing-past, nothing-turn}
+use Rattle.compound_words.proofs.StepLemmas.{nothing-behind}
 use Rattle.compound_words.proofs.rests.fill_numbers.Goals as goal
 
 pub loop-place-init : goal.loop-place-init
@@ -54,7 +56,8 @@ loop-place-preserved c =
           ∙ ap (λ n. least (cond left (number_at c.loop-place.numbers (place + 1)) None)
           (cond fits (one_more n) None))
           (c.by_step-number.ensures rules
-          (nothing-behind one rules c.args.rule steps place step d c.loop-place.matches_nothing within refl found nothing
+          (nothing-behind one rules c.args.rule steps place step d c.loop-place.matches_nothing
+          within refl found nothing
           ∙ ap (λ p. matches_from rules c.args.rule p []) (sym c.step_after.ensures))
           ∙ ap (λ p. number_behind rules c.args.behind.now (ByRule c.args.rule p))
           c.step_after.ensures));

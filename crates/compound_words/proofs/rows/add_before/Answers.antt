@@ -1,9 +1,11 @@
 -- Each part is looked at with the rests that it may stand before.
-use Rattle.std.proofs.Common.{◌≡◌, ◌∙◌, ◌++◌, ◌<◌, true, false, true≢false, sym, ap, subst, refl, List, [], ◌∷◌, length, map, arith}
+use Rattle.std.proofs.Common.{◌≡◌, ◌∙◌, ◌++◌, ◌<◌, true, false, true≢false, sym, ap, subst, refl}
+use Rattle.std.proofs.Common.{List, [], ◌∷◌, length, map, arith}
 use Rattle.spell_types.specs.declared.parts.Part.{Part}
 use Rattle.compound_words.specs.Counting.{fewest}
 use Rattle.compound_words.specs.Rests.{Piece, asked_by, count_of, patterns_of, rests_at}
-use Rattle.compound_words.proofs.AddLemmas.{AreLeft, left-all, left-none, left-turn, left-given, inner-before, once-grown}
+use Rattle.compound_words.proofs.AddLemmas.{AreLeft, left-all, left-none, left-turn, left-given}
+use Rattle.compound_words.proofs.AddLemmas.{inner-before, once-grown}
 use Rattle.compound_words.proofs.rows.add_before.Goals as goal
 
 pub loop-part-init : goal.loop-part-init
@@ -11,7 +13,12 @@ loop-part-init c =
     let at = c.args.piece.now in
     left-all (asked_by c.args.search.now) (patterns_of c.args.search.now) c.args.here
     (at.text.now ++ at.following.now)
-    (record { before = at.start.now.before.now; front = at.text.now; following = at.following.now; rests = at.rests.now })
+    (record {
+      before = at.start.now.before.now;
+      front = at.text.now;
+      following = at.following.now;
+      rests = at.rests.now;
+    })
     c.in_ok-parts.parts.items c.args.row.now c.in_ok-parts.ensures
 
 pub loop-part-preserved : goal.loop-part-preserved
@@ -21,17 +28,26 @@ loop-part-preserved c =
     let here = c.args.here in
     let at = c.args.piece.now in
     let piece : Piece =
-    record { before = at.start.now.before.now; front = at.text.now; following = at.following.now; rests = at.rests.now } in
+    record {
+      before = at.start.now.before.now;
+      front = at.text.now;
+      following = at.following.now;
+      rests = at.rests.now;
+    } in
     let text = piece.front ++ piece.following in
     let part = c.in-Some.part in
     let left =
     subst (λ parts. AreLeft a rules here text piece parts c.args.row.now c.loop-part.row)
     c.in-Some.ensures.items c.loop-part.invariant in
     let given = left-given a piece.before piece.front c.pop.new.self.items part left.given in
-    left-turn a rules here text piece c.pop.new.self.items part c.args.row.now c.loop-part.row c.add.new.row left
-    (once-grown c.patterns_match.ensures.one_by_one a rules here here text part _ c.loop-part.row c.add.new.row
-    (inner-before a rules here piece part _ at.rests.now given c.requires.front c.requires.row c.requires.some c.requires.fits refl
-    (λ way. ap (λ rests. fewest (map (λ rest. count_of rest way) rests)) (ap rests_at c.deref.ensures.value ∙ c.in_ok-followers.ensures)
+    left-turn a rules here text piece c.pop.new.self.items part c.args.row.now c.loop-part.row
+    c.add.new.row left
+    (once-grown c.patterns_match.ensures.one_by_one a rules here here text part _ c.loop-part.row
+    c.add.new.row
+    (inner-before a rules here piece part _ at.rests.now given c.requires.front c.requires.row
+    c.requires.some c.requires.fits refl
+    (λ way. ap (λ rests. fewest (map (λ rest. count_of rest way) rests))
+    (ap rests_at c.deref.ensures.value ∙ c.in_ok-followers.ensures)
     ∙ c.requires.enough.same a part way)) c.in_ok-add.ensures)
 
 -- none is left
@@ -45,7 +61,12 @@ returns-clause-has c =
     let rules = patterns_of c.args.search.now in
     let at = c.args.piece.now in
     let piece : Piece =
-    record { before = at.start.now.before.now; front = at.text.now; following = at.following.now; rests = at.rests.now } in
+    record {
+      before = at.start.now.before.now;
+      front = at.text.now;
+      following = at.following.now;
+      rests = at.rests.now;
+    } in
     left-none a rules c.args.here
     (piece.front ++ piece.following) piece c.args.row.now c.loop-part.row
     (subst (λ parts. AreLeft a rules c.args.here

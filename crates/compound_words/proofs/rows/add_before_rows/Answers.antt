@@ -21,12 +21,19 @@ loop-behind-preserved c =
     let item = c.behind-item.result in
     let place = c.loop-behind.behind-index in
     let front = take (item.place - c.args.from) (drop c.args.from c.args.word.now) in
-    rows-one-more c.patterns_match.ensures.one_by_one a rules c.args.here c.args.word.now c.args.from c.args.rows.now place item item c.args.row.now c.loop-behind.row c.add_before.new.row
+    rows-one-more c.patterns_match.ensures.one_by_one a rules c.args.here c.args.word.now
+    c.args.from c.args.rows.now place item item c.args.row.now c.loop-behind.row
+    c.add_before.new.row
     c.requires.within c.loop-behind-test.true c.behind-item.is c.requires.rows.right
     (subst (λ t. Grows a rules c.args.here (front ++ t) c.loop-behind.row c.add_before.new.row)
     (take-rest item.place c.args.word.now) c.in_ok-add_before.ensures.grows)
     (subst (λ before. HasFirsts a rules c.args.here (front ++ drop item.place c.args.word.now)
-    (record { before = before; front = front; following = drop item.place c.args.word.now; rests = item.rests })
+    (record {
+      before = before;
+      front = front;
+      following = drop item.place c.args.word.now;
+      rests = item.rests;
+    })
     c.add_before.new.row) c.requires.before
     (subst (λ rests. HasFirsts a rules c.args.here (front ++ drop item.place c.args.word.now)
     (record {
@@ -41,7 +48,8 @@ loop-behind-preserved c =
       front = front;
       following = t;
       rests = c.deref.result.now;
-    }) c.add_before.new.row) (take-rest item.place c.args.word.now) c.in_ok-add_before.ensures.has)))
+    }) c.add_before.new.row) (take-rest item.place c.args.word.now)
+    c.in_ok-add_before.ensures.has)))
     c.loop-behind.invariant
 
 pub returns-clause-all : goal.returns-clause-all
@@ -49,7 +57,8 @@ returns-clause-all c =
     rows-all c.patterns_match.ensures.one_by_one (asked_by c.args.search.now)
     (patterns_of c.args.search.now)
     c.args.here c.args.word.now c.args.from c.args.rows.now c.loop-behind.behind-index
-    c.args.row.now c.loop-behind.row c.requires.within c.loop-behind-test.false c.requires.rows c.loop-behind.invariant
+    c.args.row.now c.loop-behind.row c.requires.within c.loop-behind-test.false c.requires.rows
+    c.loop-behind.invariant
 
 pub add_before-requires-clause-row : goal.add_before-requires-clause-row
 add_before-requires-clause-row c =
@@ -60,9 +69,11 @@ add_before-requires-clause-row c =
     let from = c.args.from in
     let at : IsRowAt a rules word from item =
     subst (IsRowAt a rules word from) (sym c.behind-item.is)
-    (row-at a rules word from c.args.rows.now c.loop-behind.behind-index item c.loop-behind-test.true c.requires.rows.right) in
+    (row-at a rules word from c.args.rows.now c.loop-behind.behind-index item
+    c.loop-behind-test.true c.requires.rows.right) in
     subst (λ before. IsRow a rules (before ++ take (item.place - from) (drop from word))
-    (take (length word - item.place) (drop item.place word)) c.deref.result.now) (sym c.requires.before)
+    (take (length word - item.place) (drop item.place word)) c.deref.result.now)
+    (sym c.requires.before)
     (subst (λ rests. IsRow a rules (take from word ++ take (item.place - from) (drop from word))
     (take (length word - item.place) (drop item.place word)) rests) (sym c.deref.ensures)
     (subst (λ following. IsRow a rules

@@ -8,7 +8,8 @@ use Rattle.compound_words.proofs.rows.add_last.Given as goal
 abbrev pub invariant-loop-part : goal.invariant-loop-part
 invariant-loop-part l =
     AreLeft (asked_by l.search) (patterns_of l.search) Middle l.text
-    (record { before = l.fn.start.before.now; front = l.text; following = []; rests = [] }) l.parts.items l.fn.row l.row
+    (record { before = l.fn.start.before.now; front = l.text; following = []; rests = [] })
+    l.parts.items l.fn.row l.row
 
 abbrev pub decreases-loop-part : goal.decreases-loop-part
 decreases-loop-part l = length l.parts.items

@@ -21,7 +21,8 @@ loop-from-preserved-in-Continue-branch-3 c =
           c.loop-from.invariant.rows (omega (arith, c.loop-from-test.true))
           (omega (arith, c.loop-from-test.true, c.loop-from.invariant.within))
           c.in_ok-rests.ensures
-          (subst (λ rests. AreHeads rests c.in_ok-heads.heads) c.deref-then-not-is_empty.ensures c.in_ok-heads.ensures));
+          (subst (λ rests. AreHeads rests c.in_ok-heads.heads) c.deref-then-not-is_empty.ensures
+          c.in_ok-heads.ensures));
     }
 
 pub loop-from-preserved : goal.loop-from-preserved

@@ -14,4 +14,5 @@ returns-in-Ok c =
 pub returns-in-Err : goal.returns-in-Err
 returns-in-Err c =
     let line = c.args.line.now in
-    rw (false_from_ne_true (is_utf8 line) (λ is. c.in-Err.ensures.cases.0 (IsUtf8-from_is_utf8 line is))) refl
+    rw (false_from_ne_true (is_utf8 line)
+    (λ is. c.in-Err.ensures.cases.0 (IsUtf8-from_is_utf8 line is))) refl

@@ -7,4 +7,5 @@ use Rattle.console_lang.proofs.reply.push_marks.Given as goal
 
 abbrev pub invariant-loop-mark : goal.invariant-loop-mark
 invariant-loop-mark l =
-    string_bytes l.written ++ flat_map (mark_line l.number) (drop l.mark-index l.marks) ≡ string_bytes l.fn.written ++ flat_map (mark_line l.number) l.marks
+    string_bytes l.written ++ flat_map (mark_line l.number) (drop l.mark-index l.marks)
+    ≡ string_bytes l.fn.written ++ flat_map (mark_line l.number) l.marks

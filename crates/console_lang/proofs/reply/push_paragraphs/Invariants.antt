@@ -6,4 +6,5 @@ use Rattle.console_lang.proofs.reply.push_paragraphs.Given as goal
 
 abbrev pub invariant-loop-place : goal.invariant-loop-place
 invariant-loop-place l =
-    string_bytes l.written ++ paragraphs_from (l.place + 1) (drop l.place l.paragraphs) ≡ string_bytes l.fn.written ++ paragraphs_from 1 l.paragraphs
+    string_bytes l.written ++ paragraphs_from (l.place + 1) (drop l.place l.paragraphs)
+    ≡ string_bytes l.fn.written ++ paragraphs_from 1 l.paragraphs

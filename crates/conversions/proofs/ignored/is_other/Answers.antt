@@ -8,4 +8,5 @@ pub returns : goal.returns
 returns c =
     c.is_err.ensures.value
     ∙ searched-kept c.args.ignore.now c.args.c c.binary_search.result
-    (searched c.args.ignore.now c.args.c c.binary_search.result c.binary_search.ensures.position (λ i j upto within. c.requires i j 0 upto within))
+    (searched c.args.ignore.now c.args.c c.binary_search.result c.binary_search.ensures.position
+    (λ i j upto within. c.requires i j 0 upto within))

@@ -3,7 +3,8 @@ use Rattle.std.proofs.Common.{◌∙◌, sym, ap}
 use Rattle.spell_types.specs.Replacements.{stands_anchored, replaced_at}
 use Rattle.conversions.proofs.Variants.{place_added, place_passed_over}
 use Rattle.conversions.proofs.replacements.add_variants.Goals as goal
-use Rattle.conversions.proofs.replacements.add_variants.Goals.{then-stands_anchored+in_ok-variant_at+in_ok-push, else-stands_anchored}
+use Rattle.conversions.proofs.replacements.add_variants.Goals.{then-stands_anchored+in_ok-variant_at+in_ok-push}
+use Rattle.conversions.proofs.replacements.add_variants.Goals.{else-stands_anchored}
 
 pub loop-place-preserved : goal.loop-place-preserved
 loop-place-preserved c =
@@ -15,8 +16,12 @@ loop-place-preserved c =
     elim c.if-stands_anchored.branch [
       | then-stands_anchored+in_ok-variant_at+in_ok-push w ↦
           ap (λ v. v.items) w.found-is
-          ∙ place_added make test before found w.push.new.self.items place w.in_ok-variant_at.field-0 (sym w.if-stands_anchored.ensures) w.in_ok-variant_at.ensures
+          ∙ place_added make test before found w.push.new.self.items place
+          w.in_ok-variant_at.field-0 (sym w.if-stands_anchored.ensures)
+          w.in_ok-variant_at.ensures
           c.loop-place.invariant w.in_ok-push.ensures.items
       | else-stands_anchored w ↦
-          ap (λ v. v.items) w.found-is ∙ place_passed_over make test before found place (sym w.if-stands_anchored.ensures) c.loop-place.invariant
+          ap (λ v. v.items) w.found-is
+          ∙ place_passed_over make test before found place (sym w.if-stands_anchored.ensures)
+          c.loop-place.invariant
     ]

@@ -6,4 +6,6 @@ use Rattle.conversions.proofs.replacements.add_variants.Given as goal
 
 abbrev pub invariant-loop-place : goal.invariant-loop-place
 invariant-loop-place l =
-    l.found.items ≡ l.initial.found.items ++ map (replaced_at l.rep l.word) (filter (stands_anchored l.rep.from l.word) (range_with_len 0 l.place))
+    l.found.items ≡ l.initial.found.items
+    ++ map (replaced_at l.rep l.word)
+    (filter (stands_anchored l.rep.from l.word) (range_with_len 0 l.place))

@@ -4,7 +4,8 @@ use Rattle.std.specs.Option.{option_copied}
 use Rattle.lists.specs.TextOrder.{beginning}
 use Rattle.std.proofs.lemmas.List.{nil_from_length}
 use Rattle.conversions.specs.Patterns.{BestUpTo}
-use Rattle.conversions.proofs.Patterns.{all_begin, alike_more, none_yet, none_begins, first_best, none_best}
+use Rattle.conversions.proofs.Patterns.{all_begin, alike_more, none_yet, none_begins, first_best}
+use Rattle.conversions.proofs.Patterns.{none_best}
 use Rattle.conversions.proofs.table.best_pattern.Goals as goal
 use Rattle.conversions.proofs.table.best_pattern.Goals.{in-Some, in_default}
 
@@ -21,9 +22,12 @@ returns-then-is_empty c =
     let depth = c.loop-depth.depth in
     let within : depth < length text = omega arith in
     let now : c.going_on-alike.result.now ≡ beginning (take (depth + 1) text) patterns =
-    alike_more patterns c.loop-depth.alike.now c.going_on-alike.result.now text depth c.index-text-depth.result c.requires within c.index-text-depth.is c.loop-depth.invariant.alike c.going_on-alike.ensures in
+    alike_more patterns c.loop-depth.alike.now c.going_on-alike.result.now text depth
+    c.index-text-depth.result c.requires within c.index-text-depth.is
+    c.loop-depth.invariant.alike c.going_on-alike.ensures in
     none_begins patterns text depth (option_copied c.loop-depth.best) (omega arith)
-    (sym now ∙ nil_from_length c.going_on-alike.result.now (eqb-true (length c.going_on-alike.result.now) 0 (sym c.if-is_empty.ensures)))
+    (sym now ∙ nil_from_length c.going_on-alike.result.now
+    (eqb-true (length c.going_on-alike.result.now) 0 (sym c.if-is_empty.ensures)))
     c.loop-depth.invariant.best
 
 pub loop-depth-preserved : goal.loop-depth-preserved
@@ -34,16 +38,24 @@ loop-depth-preserved c =
     let within : depth < length text = omega arith in
     let up_to : depth + 1 ≤ length text = omega arith in
     let now : c.going_on-alike.result.now ≡ beginning (take (depth + 1) text) patterns =
-    alike_more patterns c.loop-depth.alike.now c.going_on-alike.result.now text depth c.index-text-depth.result c.requires within c.index-text-depth.is c.loop-depth.invariant.alike c.going_on-alike.ensures in
+    alike_more patterns c.loop-depth.alike.now c.going_on-alike.result.now text depth
+    c.index-text-depth.result c.requires within c.index-text-depth.is
+    c.loop-depth.invariant.alike c.going_on-alike.ensures in
     elim c.match-first.branch [
       | in-Some w ↦ record {
         alike = now;
-        best = subst (λ found. BestUpTo patterns text (depth + 1) (option_copied found)) (sym w.best-is)
-            (first_best patterns c.going_on-alike.result.now c.ending.result.now text depth w.in-Some.pattern.now c.requires up_to now c.ending.ensures w.in-Some.ensures.value);
+        best = subst (λ found. BestUpTo patterns text (depth + 1) (option_copied found))
+            (sym w.best-is)
+            (first_best patterns c.going_on-alike.result.now c.ending.result.now text depth
+            w.in-Some.pattern.now c.requires up_to now c.ending.ensures
+            w.in-Some.ensures.value);
       }
       | in_default w ↦ record {
         alike = now;
-        best = subst (λ found. BestUpTo patterns text (depth + 1) (option_copied found)) (sym w.best-is)
-            (none_best patterns c.going_on-alike.result.now c.ending.result.now text depth (option_copied c.loop-depth.best) c.requires up_to now c.ending.ensures w.in_default.ensures.value c.loop-depth.invariant.best);
+        best = subst (λ found. BestUpTo patterns text (depth + 1) (option_copied found))
+            (sym w.best-is)
+            (none_best patterns c.going_on-alike.result.now c.ending.result.now text depth
+            (option_copied c.loop-depth.best) c.requires up_to now c.ending.ensures
+            w.in_default.ensures.value c.loop-depth.invariant.best);
       }
     ]

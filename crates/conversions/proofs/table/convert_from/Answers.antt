@@ -6,4 +6,7 @@ use Rattle.conversions.proofs.table.convert_from.Goals as goal
 
 pub returns : goal.returns
 returns c =
-    all_converted c.args.table.now c.args.word.now c.loop-place.made (take c.args.start c.args.word.now ++ converted c.args.table.now (drop c.args.start c.args.word.now)) c.loop-place.place c.loop-place-test.false c.loop-place.invariant.whole
+    all_converted c.args.table.now c.args.word.now c.loop-place.made
+    (take c.args.start c.args.word.now
+    ++ converted c.args.table.now (drop c.args.start c.args.word.now)) c.loop-place.place
+    c.loop-place-test.false c.loop-place.invariant.whole

@@ -1,5 +1,6 @@
 -- The pattern of one row more; and sorting moves patterns.
-use Rattle.std.proofs.Common.{rules, ◌≡◌, ◌∙◌, ◌<◌, refl, sym, ap, subst, [], ◌∷◌, ◌++◌, map, length, Contains, Some, arith}
+use Rattle.std.proofs.Common.{rules, ◌≡◌, ◌∙◌, ◌<◌, refl, sym, ap, subst, [], ◌∷◌, ◌++◌, map}
+use Rattle.std.proofs.Common.{length, Contains, Some, arith}
 use Rattle.std.specs.Option.{option_map}
 use Rattle.std.proofs.lemmas.List.{map-append}
 use Rattle.std.proofs.lemmas.List.Elements.{All-push, All-same}
@@ -20,11 +21,17 @@ loop-place-preserved c =
     let within : place < length table = omega arith in
     let is : c.in_ok-pattern.pattern.items ≡ row.from = search rules in
     let right : IsPatternOf table pattern =
-    ap (option_map (λ (r : Conversion). r.from)) (slice_get_read table (length table) place row refl within c.index-table-place.is) ∙ ap (λ text. let some = Some text in some) (sym is) in
+    ap (option_map (λ (r : Conversion). r.from))
+    (slice_get_read table (length table) place row refl within c.index-table-place.is)
+    ∙ ap (λ text. let some = Some text in some) (sym is) in
     record {
-      right = All-same (IsPatternOf table) c.push.new.self.items (patterns ++ pattern ∷ []) c.in_ok-push.ensures.items (All-push (IsPatternOf table) patterns pattern c.loop-place.invariant.right right);
-      places = ap (map (λ (p : Pattern). p.1)) c.in_ok-push.ensures.items ∙ map-append (λ (p : Pattern). p.1) patterns (pattern ∷ [])
-          ∙ ap (λ places. places ++ place ∷ []) c.loop-place.invariant.places ∙ sym (range_more place);
+      right = All-same (IsPatternOf table) c.push.new.self.items (patterns ++ pattern ∷ [])
+          c.in_ok-push.ensures.items
+          (All-push (IsPatternOf table) patterns pattern c.loop-place.invariant.right right);
+      places = ap (map (λ (p : Pattern). p.1)) c.in_ok-push.ensures.items
+          ∙ map-append (λ (p : Pattern). p.1) patterns (pattern ∷ [])
+          ∙ ap (λ places. places ++ place ∷ []) c.loop-place.invariant.places
+          ∙ sym (range_more place);
     }
 
 pub returns : goal.returns
@@ -37,6 +44,9 @@ returns c =
       sorted = c.sort_unstable.ensures.sorted;
       right = All-permutation (IsPatternOf table) before after moved c.loop-place.invariant.right;
       whole = λ place within.
-          Contains-permutation (map (λ (p : Pattern). p.1) before) (map (λ (p : Pattern). p.1) after) place (IsPermutation-map (λ (p : Pattern). p.1) before after moved)
-          (subst (λ places. Contains places place) (sym c.loop-place.invariant.places) (contains-range c.loop-place.place place (omega (arith, within))));
+          Contains-permutation (map (λ (p : Pattern). p.1) before)
+          (map (λ (p : Pattern). p.1) after) place
+          (IsPermutation-map (λ (p : Pattern). p.1) before after moved)
+          (subst (λ places. Contains places place) (sym c.loop-place.invariant.places)
+          (contains-range c.loop-place.place place (omega (arith, within))));
     }

@@ -5,5 +5,6 @@ use Rattle.dic_reader.proofs.cutting.before_fields.Goals as goal
 
 pub loop-place-preserved : goal.loop-place-preserved
 loop-place-preserved c =
-    before_fields-more c.args.line.now c.as_bytes.result.now c.loop-place.place c.as_bytes.ensures.value c.loop-place-test.true
+    before_fields-more c.args.line.now c.as_bytes.result.now c.loop-place.place
+    c.as_bytes.ensures.value c.loop-place-test.true
     (sym c.if-ends_entry.ensures) c.loop-place.invariant

@@ -4,4 +4,5 @@ use Rattle.dic_reader.specs.Entries.{before_fields}
 use Rattle.dic_reader.proofs.cutting.before_fields.Given as goal
 
 abbrev pub invariant-loop-place : goal.invariant-loop-place
-invariant-loop-place l = before_fields l.line ≡ take l.place l.line ++ before_fields (drop l.place l.line)
+invariant-loop-place l =
+    before_fields l.line ≡ take l.place l.line ++ before_fields (drop l.place l.line)

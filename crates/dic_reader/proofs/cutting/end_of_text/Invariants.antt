@@ -7,7 +7,8 @@ use Rattle.dic_reader.proofs.cutting.end_of_text.Given as goal
 abbrev pub invariant-loop-end : goal.invariant-loop-end
 invariant-loop-end l = record {
   within : l.end ≤ length l.text;
-  spaces : l.end + suffix_len is_space l.text ≡ length l.text + suffix_len is_space (take l.end l.text);
+  spaces : l.end + suffix_len is_space l.text ≡ length l.text + suffix_len is_space
+      (take l.end l.text);
   begins : l.end < length l.text → slice_index l.text l.end ≡ 32;
 }
 

@@ -8,4 +8,5 @@ returns-then-has_long-clause-due c =
     inr (long-found c.args.paragraphs.now c.has_long.result c.has_long.ensures c.if-has_long.true)
 
 pub returns-clause-due : goal.returns-clause-due
-returns-clause-due c = long-none c.args.paragraphs.now c.has_long.result c.has_long.ensures c.if-has_long.false
+returns-clause-due c =
+    long-none c.args.paragraphs.now c.has_long.result c.has_long.ensures c.if-has_long.false

@@ -14,12 +14,15 @@ some-of (Some line) not_none = refl
 pub unwrap-requires : goal.unwrap-requires
 unwrap-requires c =
     some-of c.bad_line.result
-    (λ none. c.in-Err.ensures.cases.0 (text-bad c.args.document.now c.without_mark.result.now c.without_mark.ensures (sym c.bad_line.ensures ∙ none)))
+    (λ none. c.in-Err.ensures.cases.0
+    (text-bad c.args.document.now c.without_mark.result.now c.without_mark.ensures
+    (sym c.bad_line.ensures ∙ none)))
 
 pub returns-in-Ok : goal.returns-in-Ok
 returns-in-Ok c =
     let document = c.args.document.now in
     let bytes = c.without_mark.result.now in
     let cases = c.in-Ok.ensures.cases in
-    ap (λ bad. unless_bad bad (line_texts document)) (text-good document bytes c.without_mark.ensures cases.1)
+    ap (λ bad. unless_bad bad (line_texts document))
+    (text-good document bytes c.without_mark.ensures cases.1)
     ∙ ap Ok (sym (texts-are document bytes c.without_mark.ensures) ∙ ap texts_in (sym cases.0))

@@ -12,7 +12,8 @@ invariant-loop-place g l =
     let left = drop l.place l.paragraphs in
     record {
       same : g.K.Asker.lexicon l.asker ≡ lexicon;
-      text : string_bytes l.report.text ++ listed l.output (lines_from lexicon (l.place + 1) left) ≡ listed l.output (lines_from lexicon 1 l.paragraphs);
+      text : string_bytes l.report.text ++ listed l.output (lines_from lexicon (l.place + 1) left)
+          ≡ listed l.output (lines_from lexicon 1 l.paragraphs);
       marks : l.report.marks + marks_from lexicon left ≡ marks_from lexicon l.paragraphs;
       words : l.report.words + words_from lexicon left ≡ words_from lexicon l.paragraphs;
       few : l.report.words ≤ MOST_BYTES * l.place;

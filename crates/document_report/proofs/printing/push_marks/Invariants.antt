@@ -5,4 +5,5 @@ use Rattle.document_report.specs.Reports.{lines_of}
 use Rattle.document_report.proofs.printing.push_marks.Given as goal
 
 abbrev pub invariant-loop-mark : goal.invariant-loop-mark
-invariant-loop-mark l = string_bytes l.text ++ lines_of l.number (drop l.mark-index l.marks) ≡ string_bytes l.fn.text ++ lines_of l.number l.marks
+invariant-loop-mark l = string_bytes l.text ++ lines_of l.number (drop l.mark-index l.marks)
+    ≡ string_bytes l.fn.text ++ lines_of l.number l.marks

@@ -8,13 +8,15 @@ pub returns-clause-by : goal.returns-clause-by
 returns-clause-by c asked by front back = count-append (is_entry asked by) front back
 
 pub returns-clause-of : goal.returns-clause-of
-returns-clause-of c asked front back = count-append (λ entry. is_kind asked (kind_of entry.event)) front back
+returns-clause-of c asked front back =
+    count-append (λ entry. is_kind asked (kind_of entry.event)) front back
 
 pub returns-clause-front_by : goal.returns-clause-front_by
 returns-clause-front_by c asked by front back = count-front (is_entry asked by) front back
 
 pub returns-clause-front_of : goal.returns-clause-front_of
-returns-clause-front_of c asked front back = count-front (λ entry. is_kind asked (kind_of entry.event)) front back
+returns-clause-front_of c asked front back =
+    count-front (λ entry. is_kind asked (kind_of entry.event)) front back
 
 pub returns-clause-one_by : goal.returns-clause-one_by
 returns-clause-one_by c asked by entry = count-one (is_entry asked by) entry

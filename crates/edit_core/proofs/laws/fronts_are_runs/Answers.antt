@@ -16,10 +16,12 @@ pub returns-clause-longer : goal.returns-clause-longer
 returns-clause-longer c = run-longer
 
 pub returns-clause-next : goal.returns-clause-next
-returns-clause-next c opening entries entry is step = run-longer opening entries (entry ∷ []) is (step, tt)
+returns-clause-next c opening entries entry is step =
+    run-longer opening entries (entry ∷ []) is (step, tt)
 
 pub returns-clause-valid : goal.returns-clause-valid
-returns-clause-valid c run is = valid-run c.edits_are_decided.ensures.kept run.opening run.entries is.valid is.steps
+returns-clause-valid c run is =
+    valid-run c.edits_are_decided.ensures.kept run.opening run.entries is.valid is.steps
 
 pub returns-clause-point : goal.returns-clause-point
 returns-clause-point c = run-point

@@ -1,9 +1,11 @@
 -- By induction on the entries in front.
-use Rattle.edit_core.proofs.RunLaws.{last-append, last-one, point-run, steps-apart, steps-together, valid-run}
+use Rattle.edit_core.proofs.RunLaws.{last-append, last-one, point-run, steps-apart, steps-together}
+use Rattle.edit_core.proofs.RunLaws.{valid-run}
 use Rattle.edit_core.proofs.laws.runs_go_on.Goals as goal
 
 pub returns-clause-steps : goal.returns-clause-steps
-returns-clause-steps c board front back = (steps-apart board front back, steps-together board front back)
+returns-clause-steps c board front back =
+    (steps-apart board front back, steps-together board front back)
 
 pub returns-clause-last : goal.returns-clause-last
 returns-clause-last c = last-append

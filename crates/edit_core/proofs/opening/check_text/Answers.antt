@@ -8,4 +8,6 @@ on-ok (Ok a) p = p
 on-ok (Err e) p = tt
 
 pub returns-in-None-clause-whole : goal.returns-in-None-clause-whole
-returns-in-None-clause-whole c = on-ok c.check_length.result (no-break c.args.text.now (sym c.first_break.ensures ∙ c.in-None.is))
+returns-in-None-clause-whole c =
+    on-ok c.check_length.result
+    (no-break c.args.text.now (sym c.first_break.ensures ∙ c.in-None.is))

@@ -7,4 +7,5 @@ use Rattle.edit_core.proofs.opening.check_texts.Given as goal
 use Rattle.paragraph_text.specs.declared.limits.TheConstants.{MOST_BYTES}
 
 abbrev pub invariant-loop-place : goal.invariant-loop-place
-invariant-loop-place l = (fault_from 0 l.texts ≡ fault_from l.place (drop l.place l.texts)) × AllByRecursion (λ text. (length text ≤ MOST_BYTES) × HasNoBreak text) (take l.place l.texts)
+invariant-loop-place l = (fault_from 0 l.texts ≡ fault_from l.place (drop l.place l.texts))
+    × AllByRecursion (λ text. (length text ≤ MOST_BYTES) × HasNoBreak text) (take l.place l.texts)

@@ -6,9 +6,11 @@ use Rattle.flag_sets.proofs.first.next_character.Goals as goal
 
 pub returns-clause-encoded : goal.returns-clause-encoded
 returns-clause-encoded c =
-    sym c.chars-characters.ensures.rest ∙ c.in_ok-first.ensures.steps.0 ∙ ap (λ rest. encode c.in_ok-first.first ++ rest) (sym c.as_str.ensures)
+    sym c.chars-characters.ensures.rest ∙ c.in_ok-first.ensures.steps.0
+    ∙ ap (λ rest. encode c.in_ok-first.first ++ rest) (sym c.as_str.ensures)
 
 pub returns-clause-first : goal.returns-clause-first
 returns-clause-first c =
     chars_past_char c.args.text.now c.as_str.result.now c.in_ok-first.first c.utf8.text
-    (sym c.chars-characters.ensures.rest ∙ c.in_ok-first.ensures.steps.0 ∙ ap (λ rest. encode c.in_ok-first.first ++ rest) (sym c.as_str.ensures))
+    (sym c.chars-characters.ensures.rest ∙ c.in_ok-first.ensures.steps.0
+    ∙ ap (λ rest. encode c.in_ok-first.first ++ rest) (sym c.as_str.ensures))

@@ -10,11 +10,13 @@ use Rattle.flag_sets.proofs.slashes.with_text_before_slash.Goals as goal
 pub returns-clause-word : goal.returns-clause-word
 returns-clause-word c =
     sym (append-nil c.loop-character.longer)
-    ∙ ap (λ cs. c.loop-character.longer ++ cs) (sym (ap chars c.in_default.ensures.none ∙ chars-nil))
+    ∙ ap (λ cs. c.loop-character.longer ++ cs)
+    (sym (ap chars c.in_default.ensures.none ∙ chars-nil))
     ∙ c.loop-character.invariant.1
 
 pub returns-clause-behind : goal.returns-clause-behind
 returns-clause-behind c =
     nothing-before c.loop-character.rest.now c.strip_prefix.result c.in_default.ensures.none
-    (strip_prefix_char 47 c.loop-character.rest.now c.strip_prefix.result c.strip_prefix.ensures.cases (lit< tt))
+    (strip_prefix_char 47 c.loop-character.rest.now c.strip_prefix.result
+    c.strip_prefix.ensures.cases (lit< tt))
     ∙ c.loop-character.invariant.2

@@ -1,4 +1,5 @@
--- What was added, with what the rest adds, is what the text adds; both have the same behind the slash.
+-- What was added, with what the rest adds, is what the text adds; both have the same behind the
+-- slash.
 use Rattle.std.proofs.Common.{◌≡◌, ◌++◌, length}
 use denote.Text.{Utf8}
 use denote.Shadow.{shadow}

@@ -1,5 +1,6 @@
 -- One character or one pair more is lowered, until none is left.
-use Rattle.std.proofs.Common.{◌≡◌, ◌∙◌, ◌-◌, ◌<◌, [], ◌∷◌, ◌++◌, map, drop, length, sym, ap, ap₂, arith}
+use Rattle.std.proofs.Common.{◌≡◌, ◌∙◌, ◌-◌, ◌<◌, [], ◌∷◌, ◌++◌, map, drop, length, sym, ap, ap₂}
+use Rattle.std.proofs.Common.{arith}
 use Rattle.std.specs.List.{flat_map}
 use Rattle.spell_types.specs.Cases.{low, sharp_lowered}
 use Rattle.letter_case.specs.Found.{behind_each, with_pair}
@@ -25,7 +26,8 @@ loop-rest-preserved c =
     ∙ ap (λ x. map (λ front. front ++ x ∷ []) c.loop-rest.made.items)
     c.low-else-is_pair_next.ensures)
     c.behind-rest-else-is_pair_next.ensures
-    ∙ single-step c.loop-rest.made.items c.loop-rest.left c.loop-rest.rest.now c.index-rest-0.result _
+    ∙ single-step c.loop-rest.made.items c.loop-rest.left c.loop-rest.rest.now c.index-rest-0.result
+    _
     (some-left c.loop-rest.rest.now (sym c.is_empty.ensures ∙ c.loop-rest-test.true))
     c.index-rest-0.is
     (sym c.is_pair_next.ensures ∙ c.if-is_pair_next.false)

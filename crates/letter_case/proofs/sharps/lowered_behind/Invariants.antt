@@ -1,4 +1,5 @@
--- The fronts that are made so far, with each way to lower the rest behind them, are those of the whole word.
+-- The fronts that are made so far, with each way to lower the rest behind them, are those of the
+-- whole word.
 use Rattle.std.proofs.Common.{◌≡◌, length}
 use Rattle.spell_types.specs.Cases.{sharp_lowered}
 use Rattle.letter_case.specs.Found.{behind_each}

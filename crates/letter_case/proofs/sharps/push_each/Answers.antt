@@ -1,5 +1,6 @@
 -- One text more has the character.
-use Rattle.std.proofs.Common.{◌≡◌, ◌∙◌, ℕ, ◌+◌, ◌<◌, ◌≤◌, List, [], ◌∷◌, ◌++◌, length, map, set, take, drop, ap, arith, length-append, length-drop, length-take}
+use Rattle.std.proofs.Common.{◌≡◌, ◌∙◌, ℕ, ◌+◌, ◌<◌, ◌≤◌, List, [], ◌∷◌, ◌++◌, length, map, set}
+use Rattle.std.proofs.Common.{take, drop, ap, arith, length-append, length-drop, length-take}
 use Rattle.std.proofs.lemmas.List.{length-map, length-set}
 use Rattle.std.proofs.lemmas.List.Edits.{map_over_more}
 use Rattle.letter_case.proofs.sharps.push_each.Goals as goal
@@ -21,7 +22,12 @@ as-many f xs ys place is =
 pub loop-place-preserved : goal.loop-place-preserved
 loop-place-preserved c = record {
   within =
-      omega (arith, c.loop-place-test.true, length-set c.loop-place.texts.items c.loop-place.place c.push.new.self);
+      omega (
+        arith,
+        c.loop-place-test.true,
+        length-set c.loop-place.texts.items c.loop-place.place
+            c.push.new.self,
+      );
   texts =
       ap (λ text. set c.loop-place.texts.items c.loop-place.place text) c.in_ok-push.ensures.ok
       ∙ map_over_more
@@ -32,7 +38,8 @@ loop-place-preserved c = record {
         c.loop-place-test.true,
         as-many
             (λ text. text ++ c.args.c ∷ [])
-            c.args.texts.now.items c.loop-place.texts.items c.loop-place.place c.loop-place.invariant.texts,
+            c.args.texts.now.items c.loop-place.texts.items c.loop-place.place
+            c.loop-place.invariant.texts,
       ))
       c.loop-place.invariant.texts c.index_mut.ensures.value;
 }

@@ -11,5 +11,11 @@ returns g c =
     let later = c.all_but_first.result.now in
     let changed = c.args.changed.items in
     c.in_ok-push_shared-2.ensures
-    ∙ ap (λ xs. xs ++ items_of later) (c.in_ok-push_items.ensures ∙ ap (λ xs. xs ++ changed) (c.in_ok-push_shared.ensures ∙ ap (λ xs. xs ++ items_of c.split_at.result.0.now) c.in_ok-made.ensures ∙ ap items_of c.split_at.ensures.front))
-    ∙ ap (λ xs. items_of (take index chunks) ++ changed ++ items_of xs) (c.all_but_first.ensures ∙ ap (drop 1) c.split_at.ensures.back ∙ drop-drop 1 index chunks)
+    ∙ ap (λ xs. xs ++ items_of later)
+    (c.in_ok-push_items.ensures
+    ∙ ap (λ xs. xs ++ changed)
+    (c.in_ok-push_shared.ensures
+    ∙ ap (λ xs. xs ++ items_of c.split_at.result.0.now) c.in_ok-made.ensures
+    ∙ ap items_of c.split_at.ensures.front))
+    ∙ ap (λ xs. items_of (take index chunks) ++ changed ++ items_of xs)
+    (c.all_but_first.ensures ∙ ap (drop 1) c.split_at.ensures.back ∙ drop-drop 1 index chunks)

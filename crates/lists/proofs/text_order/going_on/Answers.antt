@@ -9,7 +9,8 @@ use Rattle.lists.proofs.text_order.going_on.Goals as goal
 pub returns : goal.returns
 returns g c = λ all front sorted depth is.
     let next = λ (d : ℕ) (row : Row g.row.V.Denot). nat_eq (next_in d row) (c.args.c + 1) in
-    c.with_next.ensures (subst (λ d. IsNonDecreasingBy (next_in {V = g.row.V.Denot} d) c.args.rows.now) depth
+    c.with_next.ensures
+    (subst (λ d. IsNonDecreasingBy (next_in {V = g.row.V.Denot} d) c.args.rows.now) depth
     (subst (IsNonDecreasingBy (next_in (length front))) (sym is) (rises front all sorted)))
     ∙ ap (λ d. filter (next d) c.args.rows.now) (sym depth)
     ∙ ap (filter (next (length front))) is

@@ -9,4 +9,8 @@ returns-in_err-load-clause-found g c =
     c.in_err-load.field-0.0 c.from_residual.ensures.1
 
 pub returns-clause-found : goal.returns-clause-found
-returns-clause-found g c = (Some c.load.new.into.items, loaded c.args.limit c.load.new.into.items c.in_ok-load.ensures.bounded)
+returns-clause-found g c = (
+  Some c.load.new.into.items,
+  loaded c.args.limit c.load.new.into.items
+      c.in_ok-load.ensures.bounded,
+)

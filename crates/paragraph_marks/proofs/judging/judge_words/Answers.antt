@@ -13,7 +13,8 @@ loop-count-preserved g c =
     let judged = c.in-Some.judged in
     let next : IsNext lexicon l.left characters judged =
     subst (λ lexicon. IsNext lexicon l.left characters judged) l.invariant.same
-    (subst (λ judged. IfSome judged (IsNext (g.K.Asker.lexicon l.asker) l.left characters)) c.in-Some.is c.in_ok-judged.ensures.next) in
+    (subst (λ judged. IfSome judged (IsNext (g.K.Asker.lexicon l.asker) l.left characters))
+    c.in-Some.is c.in_ok-judged.ensures.next) in
     let word = found_word characters judged.found in
     let all = words_after lexicon.affixes.wordchars l.left in
     let rest = words_after lexicon.affixes.wordchars judged.found.rest in
@@ -23,9 +24,11 @@ loop-count-preserved g c =
     let later = next.less.later in
     record {
       left = left-step l.count word rest all _ some next.words l.invariant.left;
-      marks = marks-step lexicon l.count word rest all judged.is_known l.marks.items c.add_mark.new.marks.items _ some next.words next.known
+      marks = marks-step lexicon l.count word rest all judged.is_known l.marks.items
+          c.add_mark.new.marks.items _ some next.words next.known
           (rw (← c.deref.ensures.value) c.in_ok-add_mark.ensures) l.invariant.marks;
-      counted = count-step c.args.words l.count word rest all _ some within next.words l.invariant.counted;
+      counted = count-step c.args.words l.count word rest all _ some within next.words
+          l.invariant.counted;
       within = omega arith;
       few = omega arith;
       same = c.in_ok-judged.ensures.same ∙ l.invariant.same;

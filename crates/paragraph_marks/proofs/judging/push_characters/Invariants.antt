@@ -4,4 +4,5 @@ use Rattle.std.specs.String.{string_bytes}
 use Rattle.paragraph_marks.proofs.judging.push_characters.Given as goal
 
 abbrev pub invariant-loop-c : goal.invariant-loop-c
-invariant-loop-c l = string_bytes l.text ++ encode_utf8_all (drop l.c-index l.characters) ≡ string_bytes l.fn.text ++ encode_utf8_all l.characters
+invariant-loop-c l = string_bytes l.text ++ encode_utf8_all (drop l.c-index l.characters)
+    ≡ string_bytes l.fn.text ++ encode_utf8_all l.characters

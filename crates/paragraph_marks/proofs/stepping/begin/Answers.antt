@@ -17,11 +17,15 @@ returns-then-has_word-clause-is g c =
     let text = c.args.text.now in
     let rest = c.of-rest.result in
     let of = c.of-rest.ensures in
-    let whole : IsWhole wordchars text rest = record { words = of.words wordchars; text_is = of.text; at_is = of.at } in
+    let whole : IsWhole wordchars text rest =
+    record { words = of.words wordchars; text_is = of.text; at_is = of.at } in
     let some : has_some (words_after wordchars rest) ≡ true =
-    ap (λ wordchars. has_some (words_after wordchars rest)) (sym c.wordchars.ensures) ∙ sym c.has_word.ensures ∙ c.if-has_word.true in
+    ap (λ wordchars. has_some (words_after wordchars rest)) (sym c.wordchars.ensures)
+    ∙ sym c.has_word.ensures ∙ c.if-has_word.true in
     begins lexicon text rest _ whole c.new.ensures.items refl refl
-    (marks-among-words lexicon (chars text) (c.words_stand_in_their_text.ensures wordchars (chars text)) (c.marks_are_local.ensures.alone wordchars (chars text)))
+    (marks-among-words lexicon (chars text)
+    (c.words_stand_in_their_text.ensures wordchars (chars text))
+    (c.marks_are_local.ensures.alone wordchars (chars text)))
     some c.utf8.text c.requires
 
 pub returns-then-has_word-clause-left : goal.returns-then-has_word-clause-left
@@ -29,7 +33,8 @@ unfolding left_of
 returns-then-has_word-clause-left g c =
     let wordchars = (g.J.Judge.lexicon c.args.judge.now).affixes.wordchars in
     let of = c.of-rest.ensures in
-    whole-words wordchars c.args.text.now c.of-rest.result (record { words = of.words wordchars; text_is = of.text; at_is = of.at })
+    whole-words wordchars c.args.text.now c.of-rest.result
+    (record { words = of.words wordchars; text_is = of.text; at_is = of.at })
 
 pub returns-clause-is : goal.returns-clause-is
 unfolding IsProgress
@@ -40,6 +45,10 @@ returns-clause-is g c =
     let rest = c.of-rest.result in
     let none : words_of wordchars (chars text) ≡ [] =
     sym (c.of-rest.ensures.words wordchars)
-    ∙ no-words (words_after wordchars rest) (ap (λ wordchars. has_some (words_after wordchars rest)) (sym c.wordchars.ensures) ∙ sym c.has_word.ensures ∙ c.if-has_word.false) in
+    ∙ no-words (words_after wordchars rest)
+    (ap (λ wordchars. has_some (words_after wordchars rest)) (sym c.wordchars.ensures)
+    ∙ sym c.has_word.ensures ∙ c.if-has_word.false) in
     c.in_ok-new.ensures.ok ∙ c.new-2.ensures ∙ sym (ap (marks_among lexicon) none)
-    ∙ marks-among-words lexicon (chars text) (c.words_stand_in_their_text.ensures wordchars (chars text)) (c.marks_are_local.ensures.alone wordchars (chars text))
+    ∙ marks-among-words lexicon (chars text)
+    (c.words_stand_in_their_text.ensures wordchars (chars text))
+    (c.marks_are_local.ensures.alone wordchars (chars text))

@@ -13,9 +13,11 @@ returns-in-None c =
 pub returns-in-None-get : goal.returns-in-None-get
 returns-in-None-get c =
     let p : Paragraph → Bool = λ paragraph. paragraph.id == c.args.named.id in
-    found-some p c.args.paragraphs.now c.in-Some.place (sym c.requires ∙ c.in-Some.is) ∙ sym c.get.ensures ∙ ap option_copied c.in-None-get.is
+    found-some p c.args.paragraphs.now c.in-Some.place (sym c.requires ∙ c.in-Some.is)
+    ∙ sym c.get.ensures ∙ ap option_copied c.in-None-get.is
 
 pub returns-in-Some-get : goal.returns-in-Some-get
 returns-in-Some-get c =
-    found-at c.args.paragraphs.now c.args.named.id c.in-Some.place c.in-Some-get.para.now (sym c.requires ∙ c.in-Some.is)
+    found-at c.args.paragraphs.now c.args.named.id c.in-Some.place c.in-Some-get.para.now
+    (sym c.requires ∙ c.in-Some.is)
     (sym c.get.ensures ∙ ap option_copied c.in-Some-get.is)

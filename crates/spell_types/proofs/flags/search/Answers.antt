@@ -4,4 +4,5 @@ use Rattle.spell_types.proofs.flags.search.Goals as goal
 
 pub returns-clause-missing : goal.returns-clause-missing
 returns-clause-missing c =
-    searched_missing c.args.flag c.args.flags.now c.binary_search.result c.binary_search.ensures.position c.requires
+    searched_missing c.args.flag c.args.flags.now c.binary_search.result
+    c.binary_search.ensures.position c.requires

@@ -1,6 +1,8 @@
 -- Each law is a lemma.
 use Rattle.std.proofs.Common.{[]}
-use Rattle.spell_types.proofs.FlagLemmas.{put_all-IsRising, rising-nil, put_all-Contains, Contains-put_all, has-Contains, Contains-has, put-has, put_all-has}
+use Rattle.spell_types.proofs.FlagLemmas.{put_all-IsRising, rising-nil, put_all-Contains}
+use Rattle.spell_types.proofs.FlagLemmas.{Contains-put_all, has-Contains, Contains-has, put-has}
+use Rattle.spell_types.proofs.FlagLemmas.{put_all-has}
 use Rattle.spell_types.proofs.flags.sets_have_their_flags.Goals as goal
 
 pub returns-clause-rising : goal.returns-clause-rising

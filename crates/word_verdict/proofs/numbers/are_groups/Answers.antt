@@ -9,5 +9,6 @@ pub returns : goal.returns
 unfolding is_number
 returns c =
     all_from_yields_List is_group _ _ _ c.all.ensures.ran
-    (YieldsList-from_slice_split _ is_separator c.args.word.now c.split.ensures.rest c.split.ensures.done c.split.ensures.closure (λ x b q k. search (rules, tests)))
+    (YieldsList-from_slice_split _ is_separator c.args.word.now c.split.ensures.rest
+    c.split.ensures.done c.split.ensures.closure (λ x b q k. search (rules, tests)))
     (λ x b q k. search (rules, tests))

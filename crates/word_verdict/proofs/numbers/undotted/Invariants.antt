@@ -6,7 +6,8 @@ use Rattle.word_verdict.proofs.numbers.undotted.Given as goal
 
 abbrev pub invariant-loop-end : goal.invariant-loop-end
 invariant-loop-end l =
-    (l.end ≤ length l.word) × (length l.word - l.end + suffix_len is_dot (take l.end l.word) ≡ suffix_len is_dot l.word)
+    (l.end ≤ length l.word)
+    × (length l.word - l.end + suffix_len is_dot (take l.end l.word) ≡ suffix_len is_dot l.word)
 
 abbrev pub decreases-loop-end : goal.decreases-loop-end
 decreases-loop-end l = l.end

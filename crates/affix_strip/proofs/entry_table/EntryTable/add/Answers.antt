@@ -11,12 +11,16 @@ pub returns : goal.returns
 returns c = λ entries count holds.
     let entry = c.args.entry.now in
     let before = c.args.self.now in
-    let is : c.fold-hash.result ≡ hash_of entry.word = c.fold-hash.ensures ∙ ap (folded START) c.as_slice.ensures in
-    entries-more entries entry before record { last = c.insert-2.new.self; earlier = c.push.new.self; hashes = c.insert.new.self } c.in_ok-earlier.earlier holds
+    let is : c.fold-hash.result ≡ hash_of entry.word =
+    c.fold-hash.ensures ∙ ap (folded START) c.as_slice.ensures in
+    entries-more entries entry before
+    record { last = c.insert-2.new.self; earlier = c.push.new.self; hashes = c.insert.new.self }
+    c.in_ok-earlier.earlier holds
     (λ hash.
     c.in_ok-earlier.ensures.updates.0 hash
     ∙ ap (λ h. cond (nat_eq h hash) (Some c.args.place) (get nat_eq before.last hash)) is
-    ∙ ap (λ place. cond (nat_eq (hash_of entry.word) hash) (Some place) (get nat_eq before.last hash)) (sym count))
+    ∙ ap (λ place. cond (nat_eq (hash_of entry.word) hash) (Some place)
+    (get nat_eq before.last hash)) (sym count))
     (c.in_ok-earlier.ensures.old ∙ ap (get nat_eq before.last) is)
     c.in_ok-push.ensures.items
     (ap (may_have c.insert.new.self) (sym is) ∙ c.insert.ensures.there)

@@ -11,7 +11,9 @@ pub returns : goal.returns
 returns c = λ entries holds none.
     let word = c.args.front.text.now ++ c.args.back.now in
     let is : c.fold.result ≡ hash_of word =
-    c.fold.ensures ∙ ap (λ hash. folded hash c.args.back.now) c.requires ∙ sym (folded-append START c.args.front.text.now c.args.back.now) in
+    c.fold.ensures ∙ ap (λ hash. folded hash c.args.back.now) c.requires
+    ∙ sym (folded-append START c.args.front.text.now c.args.back.now) in
     no-places entries word
     (sym (holds.last (hash_of word))
-    ∙ holds.hashes (hash_of word) (ap (may_have c.args.self.now.hashes) (sym is) ∙ sym c.may_have.ensures ∙ none))
+    ∙ holds.hashes (hash_of word)
+    (ap (may_have c.args.self.now.hashes) (sym is) ∙ sym c.may_have.ensures ∙ none))

@@ -1,5 +1,6 @@
 -- One entry more is in the table.
-use Rattle.std.proofs.Common.{rules, ◌∙◌, sym, ap, subst, ◌<◌, [], ◌∷◌, ◌++◌, take, length, length-take-le, arith}
+use Rattle.std.proofs.Common.{rules, ◌∙◌, sym, ap, subst, ◌<◌, [], ◌∷◌, ◌++◌, take, length}
+use Rattle.std.proofs.Common.{length-take-le, arith}
 use Rattle.std.proofs.lemmas.List.{take_more}
 use Rattle.affix_strip.specs.EntryTable.{HasEntries}
 use Rattle.affix_strip.proofs.entry_table.EntryTable.new.Goals as goal
@@ -11,5 +12,7 @@ loop-place-preserved c =
     let entry = c.index-entries-place.result in
     let within : place < length entries = search rules in
     subst (λ es. HasEntries es c.add.new.self)
-    (sym (take_more entries place entry within ∙ ap (λ last. take place entries ++ last ∷ []) (sym c.index-entries-place.is)))
-    (c.in_ok-add.ensures (take place entries) (length-take-le place entries (omega (arith, within))) c.loop-place.invariant)
+    (sym (take_more entries place entry within
+    ∙ ap (λ last. take place entries ++ last ∷ []) (sym c.index-entries-place.is)))
+    (c.in_ok-add.ensures (take place entries) (length-take-le place entries (omega (arith, within)))
+    c.loop-place.invariant)

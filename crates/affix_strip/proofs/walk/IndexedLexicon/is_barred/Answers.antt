@@ -6,9 +6,11 @@ use Rattle.affix_strip.proofs.walk.IndexedLexicon.is_barred.Goals as goal
 
 pub returns-in-Nowhere : goal.returns-in-Nowhere
 returns-in-Nowhere c =
-    none-forbidden c.args.self.now.lexicon c.args.word.now (subst (IsBarring c.args.self.now.lexicon) c.in-Nowhere.is c.requires.barring)
+    none-forbidden c.args.self.now.lexicon c.args.word.now
+    (subst (IsBarring c.args.self.now.lexicon) c.in-Nowhere.is c.requires.barring)
 
 pub returns-in-AtEntries : goal.returns-in-AtEntries
 returns-in-AtEntries c =
     if_answered c.visit_bare.result c.visit_bare.ensures (λ b shown.
-    barred-bare c.args.self.now.lexicon c.args.word.now _ b (subst (IsBarring c.args.self.now.lexicon) c.in-AtEntries.is c.requires.barring) shown)
+    barred-bare c.args.self.now.lexicon c.args.word.now _ b
+    (subst (IsBarring c.args.self.now.lexicon) c.in-AtEntries.is c.requires.barring) shown)

@@ -5,10 +5,14 @@ use Rattle.affix_strip.proofs.FoundLemmas.{bare-inside, inside-passing, behind-p
 use Rattle.affix_strip.proofs.walk.IndexedLexicon.visit_behind.Goals as goal
 
 pub returns-then-is_empty : goal.returns-then-is_empty
-returns-then-is_empty g c = shows-none (no-prefixes c.args.self.now.lexicon c.args.prefixes.now c.args.rest.now (search rules))
+returns-then-is_empty g c =
+    shows-none (no-prefixes c.args.self.now.lexicon c.args.prefixes.now c.args.rest.now
+    (search rules))
 
 pub returns-then-branch : goal.returns-then-branch
-returns-then-branch g c = shows-end (bare-inside c.args.self.now.lexicon c.args.prefixes.now c.args.rest.now) c.in_ok-visit_bare.ensures c.if-branch.true
+returns-then-branch g c =
+    shows-end (bare-inside c.args.self.now.lexicon c.args.prefixes.now c.args.rest.now)
+    c.in_ok-visit_bare.ensures c.if-branch.true
 
 pub returns-then-branch-2 : goal.returns-then-branch-2
 returns-then-branch-2 g c =
@@ -16,8 +20,13 @@ returns-then-branch-2 g c =
     let text = c.args.rest.now in
     let prefixes = c.args.prefixes.now in
     let endings = c.as_slice-endings.result.now in
-    shows-end (λ d inside. (behind-passing c.undoing_leads_back.ensures lexicon prefixes text endings (search rules) d).0 (inl inside))
-    (shows-then (inside-passing c.undoing_leads_back.ensures lexicon prefixes text endings (search rules)) c.in_ok-visit_bare.ensures c.if-branch.false c.in_ok-visit_firsts.ensures) c.if-branch-2.true
+    shows-end (λ d inside.
+    (behind-passing c.undoing_leads_back.ensures lexicon prefixes text endings (search rules)
+    d).0 (inl inside))
+    (shows-then
+    (inside-passing c.undoing_leads_back.ensures lexicon prefixes text endings (search rules))
+    c.in_ok-visit_bare.ensures c.if-branch.false c.in_ok-visit_firsts.ensures)
+    c.if-branch-2.true
 
 pub returns : goal.returns
 returns g c =
@@ -25,6 +34,9 @@ returns g c =
     let text = c.args.rest.now in
     let prefixes = c.args.prefixes.now in
     let endings = c.as_slice-endings.result.now in
-    answer-then _ c.visit_outers.result (behind-passing c.undoing_leads_back.ensures lexicon prefixes text endings (search rules))
-    (shows-then (inside-passing c.undoing_leads_back.ensures lexicon prefixes text endings (search rules)) c.in_ok-visit_bare.ensures c.if-branch.false c.in_ok-visit_firsts.ensures)
+    answer-then _ c.visit_outers.result
+    (behind-passing c.undoing_leads_back.ensures lexicon prefixes text endings (search rules))
+    (shows-then
+    (inside-passing c.undoing_leads_back.ensures lexicon prefixes text endings (search rules))
+    c.in_ok-visit_bare.ensures c.if-branch.false c.in_ok-visit_firsts.ensures)
     c.if-branch-2.false c.visit_outers.ensures

@@ -7,4 +7,7 @@ use Rattle.affix_strip.proofs.walk.IndexedLexicon.visit_firsts.Given as goal
 
 abbrev pub invariant-loop-ending : goal.invariant-loop-ending
 invariant-loop-ending g l =
-    Shows (AtSome (Peels l.self.lexicon Suffix (λ d. d.first) (Outside l.prefixes l.seconds) (stem_of l.self.lexicon)) (take l.ending-index l.endings)) (g.V.Visitor.sees l.initial.visitor) (g.V.Visitor.sees l.visitor) false
+    Shows (AtSome
+    (Peels l.self.lexicon Suffix (λ d. d.first) (Outside l.prefixes l.seconds)
+    (stem_of l.self.lexicon)) (take l.ending-index l.endings))
+    (g.V.Visitor.sees l.initial.visitor) (g.V.Visitor.sees l.visitor) false

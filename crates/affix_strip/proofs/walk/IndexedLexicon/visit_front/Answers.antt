@@ -6,5 +6,7 @@ use Rattle.affix_strip.proofs.walk.IndexedLexicon.visit_front.Goals as goal
 
 pub returns : goal.returns
 returns g c =
-    answer-same _ _ c.visit_behind.result (front-passing c.args.self.now.lexicon c.as_slice.result.now c.args.front.now c.in_ok-rest.rest.now c.places.result.now (search rules) c.places.ensures (search rules))
+    answer-same _ _ c.visit_behind.result
+    (front-passing c.args.self.now.lexicon c.as_slice.result.now c.args.front.now
+    c.in_ok-rest.rest.now c.places.result.now (search rules) c.places.ensures (search rules))
     c.visit_behind.ensures

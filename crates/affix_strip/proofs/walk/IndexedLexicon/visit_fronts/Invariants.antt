@@ -7,4 +7,6 @@ use Rattle.affix_strip.proofs.walk.IndexedLexicon.visit_fronts.Given as goal
 
 abbrev pub invariant-loop-front : goal.invariant-loop-front
 invariant-loop-front g l =
-    Shows (AtSome (Peels l.self.lexicon Prefix (λ d. d.prefix) Any (with_suffixes l.self.lexicon)) (take l.front-index l.fronts)) (g.V.Visitor.sees l.initial.visitor) (g.V.Visitor.sees l.visitor) false
+    Shows (AtSome (Peels l.self.lexicon Prefix (λ d. d.prefix) Any (with_suffixes l.self.lexicon))
+    (take l.front-index l.fronts)) (g.V.Visitor.sees l.initial.visitor)
+    (g.V.Visitor.sees l.visitor) false

@@ -5,10 +5,13 @@ use Rattle.affix_strip.proofs.FoundLemmas.{firsts-passing, no-seconds}
 use Rattle.affix_strip.proofs.walk.IndexedLexicon.visit_inside.Goals as goal
 
 pub returns-then-is_empty : goal.returns-then-is_empty
-returns-then-is_empty g c = shows-none (no-seconds c.args.self.now.lexicon c.args.prefixes.now c.args.seconds.now c.args.inner.now (search rules))
+returns-then-is_empty g c =
+    shows-none (no-seconds c.args.self.now.lexicon c.args.prefixes.now c.args.seconds.now
+    c.args.inner.now (search rules))
 
 pub returns : goal.returns
 returns g c =
     answer-same _ _ c.visit_firsts.result
-    (firsts-passing c.undoing_leads_back.ensures c.args.self.now.lexicon c.args.prefixes.now c.args.seconds.now c.args.inner.now c.as_slice.result.now (search rules))
+    (firsts-passing c.undoing_leads_back.ensures c.args.self.now.lexicon c.args.prefixes.now
+    c.args.seconds.now c.args.inner.now c.as_slice.result.now (search rules))
     c.visit_firsts.ensures

@@ -5,9 +5,14 @@ use Rattle.affix_strip.proofs.FoundLemmas.{no-outer, outer-passing}
 use Rattle.affix_strip.proofs.walk.IndexedLexicon.visit_outer.Goals as goal
 
 pub returns-then-not-one_may_be_outer : goal.returns-then-not-one_may_be_outer
-returns-then-not-one_may_be_outer g c = shows-none (no-outer c.args.self.now c.args.prefixes.now c.args.ending.now c.requires (search rules))
+returns-then-not-one_may_be_outer g c =
+    shows-none (no-outer c.args.self.now c.args.prefixes.now c.args.ending.now c.requires
+    (search rules))
 
 pub returns : goal.returns
 returns g c =
-    answer-same _ _ c.visit_inside.result (outer-passing c.args.self.now c.args.prefixes.now c.as_slice.result.now c.args.ending.now c.in_ok-inner.inner.now c.places-2.result.now (search rules) c.places-2.ensures c.requires (search rules))
+    answer-same _ _ c.visit_inside.result
+    (outer-passing c.args.self.now c.args.prefixes.now c.as_slice.result.now c.args.ending.now
+    c.in_ok-inner.inner.now c.places-2.result.now (search rules) c.places-2.ensures c.requires
+    (search rules))
     c.visit_inside.ensures

@@ -7,4 +7,7 @@ use Rattle.affix_strip.proofs.walk.IndexedLexicon.visit_outers.Given as goal
 
 abbrev pub invariant-loop-ending : goal.invariant-loop-ending
 invariant-loop-ending g l =
-    Shows (AtSome (Peels l.self.lexicon Suffix (λ d. d.second) (λ d. Contains l.prefixes d.prefix) (with_first l.self.lexicon)) (take l.ending-index l.endings)) (g.V.Visitor.sees l.initial.visitor) (g.V.Visitor.sees l.visitor) false
+    Shows (AtSome
+    (Peels l.self.lexicon Suffix (λ d. d.second) (λ d. Contains l.prefixes d.prefix)
+    (with_first l.self.lexicon)) (take l.ending-index l.endings))
+    (g.V.Visitor.sees l.initial.visitor) (g.V.Visitor.sees l.visitor) false

@@ -7,10 +7,13 @@ use Rattle.affix_strip.proofs.walk.IndexedLexicon.visit_rule.Goals as goal
 
 pub returns-then-not-may_undo : goal.returns-then-not-may_undo
 returns-then-not-may_undo g c =
-    let fails : may_undo_at c.args.self.now.lexicon.affixes Suffix c.args.rest.now c.args.first ≡ false = search rules in
+    let fails : may_undo_at c.args.self.now.lexicon.affixes Suffix c.args.rest.now c.args.first
+    ≡ false = search rules in
     shows-none (λ d from. true≢false (sym from.0 ∙ fails))
 
 pub returns : goal.returns
 returns g c =
-    let may : may_undo_at c.args.self.now.lexicon.affixes Suffix c.args.rest.now c.args.first ≡ true = search rules in
-    answer-same _ _ c.visit_prefixes.result (λ d. (λ from. (may, from), λ from. from.1)) c.visit_prefixes.ensures
+    let may : may_undo_at c.args.self.now.lexicon.affixes Suffix c.args.rest.now c.args.first
+    ≡ true = search rules in
+    answer-same _ _ c.visit_prefixes.result (λ d. (λ from. (may, from), λ from. from.1))
+    c.visit_prefixes.ensures

@@ -6,4 +6,6 @@ use Rattle.affix_strip.proofs.walk.IndexedLexicon.visit_rules.Given as goal
 
 abbrev pub invariant-loop-first : goal.invariant-loop-first
 invariant-loop-first g l =
-    Shows (AtSome (RuleFrom l.self.lexicon l.prefixes l.seconds l.rest l.entries) (take l.first-index l.firsts)) (g.V.Visitor.sees l.initial.visitor) (g.V.Visitor.sees l.visitor) false
+    Shows (AtSome (RuleFrom l.self.lexicon l.prefixes l.seconds l.rest l.entries)
+    (take l.first-index l.firsts)) (g.V.Visitor.sees l.initial.visitor)
+    (g.V.Visitor.sees l.visitor) false

@@ -19,7 +19,8 @@ no-load : (fault : DocumentFault) → document_failure fault ≡ Load Failed →
 no-load ReportWanting is = absurd (cc)
 no-load _ is = absurd (cc)
 
-same-error : {E : Type 0} (one other : E) (result : Result Report E) → result ≡ Err one → result ≡ Err other → one ≡ other
+same-error : {E : Type 0} (one other : E) (result : Result Report E) → result ≡ Err one
+    → result ≡ Err other → one ≡ other
 same-error one other result is also = cc
 
 pub returns-in-Ok-clause-due : goal.returns-in-Ok-clause-due
@@ -34,4 +35,6 @@ returns-in-Err-clause-due c =
     (fails-told ReportMayCome MayCome document_failure report-comes c.in-Err.ensures.due)
 
 pub returns-in-Err-clause-failed : goal.returns-in-Err-clause-failed
-returns-in-Err-clause-failed c = λ is. no-load c.in-Err.fault (sym c.from.ensures ∙ same-error c.from.result (Load Failed) (Err c.from.result) refl is)
+returns-in-Err-clause-failed c =
+    λ is. no-load c.in-Err.fault
+    (sym c.from.ensures ∙ same-error c.from.result (Load Failed) (Err c.from.result) refl is)

@@ -7,5 +7,7 @@ use Rattle.console_board.proofs.console.Console.answer.Goals as goal
 
 pub returns-in-Ok-clause-answered : goal.returns-in-Ok-clause-answered
 returns-in-Ok-clause-answered g c =
-    answered-taken (c.events_are_decided.ensures c.args.self.now.board (event_of g.J.Judge.lexicon c.args.event) c.board_is_valid.ensures c.requires.fit)
+    answered-taken
+    (c.events_are_decided.ensures c.args.self.now.board
+    (event_of g.J.Judge.lexicon c.args.event) c.board_is_valid.ensures c.requires.fit)
     c.in-Ok.ensures.stepped (ap (λ told. Done told.text) c.versions.ensures.versions)

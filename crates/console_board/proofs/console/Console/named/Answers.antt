@@ -9,7 +9,8 @@ returns-in-Some-para-clause-some g c =
     let place-is : c.args.place ≡ c.in-Some.index + 1 = omega (arith, c.in-Some.ensures) in
     record {
       paragraph = shows.paragraph;
-      at = paragraph-made c.args.self.now.board c.args.place c.in-Some.index shows.paragraph place-is shows.at;
+      at = paragraph-made c.args.self.now.board c.args.place c.in-Some.index shows.paragraph
+          place-is shows.at;
       id_is = shows.id;
       rev_is = shows.rev;
       size_is = ap length (c.as_str.ensures.text ∙ c.deref.ensures ∙ shows.text);
@@ -20,5 +21,6 @@ returns-in-Some-para-clause-whole g c =
     let board = c.args.self.now.board in
     let shows = c.in-Some-para.ensures.some in
     let place-is : c.args.place ≡ c.in-Some.index + 1 = omega (arith, c.in-Some.ensures) in
-    whole-at board c.args.place shows.paragraph (paragraph-made board c.args.place c.in-Some.index shows.paragraph place-is shows.at)
+    whole-at board c.args.place shows.paragraph
+    (paragraph-made board c.args.place c.in-Some.index shows.paragraph place-is shows.at)
     (rw (c.as_str.ensures.text ∙ c.deref.ensures ∙ shows.text) at c.as_str.utf8)

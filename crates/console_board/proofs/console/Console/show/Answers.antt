@@ -6,7 +6,8 @@ use Rattle.console_board.proofs.console.Console.show.Goals as goal
 pub returns-clause-look : goal.returns-clause-look
 returns-clause-look g c =
     let board = c.args.self.now.board in
-    let few : length board.paragraphs ≤ c.loop-place.place = omega (arith, ap (λ p. p.paragraphs) c.versions-versions.ensures.versions) in
+    let few : length board.paragraphs ≤ c.loop-place.place =
+    omega (arith, ap (λ p. p.paragraphs) c.versions-versions.ensures.versions) in
     cc (
       ap (λ p. p.text) c.versions-versions.ensures.versions,
       ap (λ p. p.dict) c.versions-versions.ensures.versions,

@@ -7,5 +7,6 @@ use Rattle.console_board.proofs.console.settling.check_all.Goals as goal
 pub loop-checking-smaller : goal.loop-checking-smaller
 loop-checking-smaller g c =
     fewer-left 4294967295 c.loop-checking.checking.left c.in-Err.going.left (omega arith)
-    (ap (λ going. going.left) c.in-Err.ensures.same ∙ ap (λ checking. checking.left) c.in_ok-step.ensures.left)
+    (ap (λ going. going.left) c.in-Err.ensures.same
+    ∙ ap (λ checking. checking.left) c.in_ok-step.ensures.left)
     (ap (λ going. has_some going.left) c.in-Err.ensures.same ∙ c.in-Err.ensures.some)

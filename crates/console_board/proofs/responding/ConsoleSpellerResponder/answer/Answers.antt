@@ -7,14 +7,17 @@ use Rattle.input_lines.specs.Answers.{AnswersLine}
 use Rattle.console_board.specs.Boards.{console_of}
 use Rattle.console_board.specs.Starts.{replied-none}
 use Rattle.console_board.specs.Transcripts.{line_says, quits}
-use Rattle.console_board.proofs.LineLemmas.{asked-line, idle-replied, line-replied, nothing-replied, one-left, one-taken, other-goes-on, replied-more, whole-text}
+use Rattle.console_board.proofs.LineLemmas.{asked-line, idle-replied, line-replied, nothing-replied}
+use Rattle.console_board.proofs.LineLemmas.{one-left, one-taken, other-goes-on, replied-more}
+use Rattle.console_board.proofs.LineLemmas.{whole-text}
 use Rattle.console_board.proofs.responding.ConsoleSpellerResponder.answer.Goals as goal
 
 pub reply-requires : goal.reply-requires
 reply-requires g c =
     let says = c.in-Ok-Some.ensures ∙ ap Ok c.in-Ok-Some.field-0-is in record {
       asked = c.if-is_quit.ensures.other;
-      whole = whole-text c.commands_have_their_lines.ensures.lines c.args.line.now c.requires.whole says;
+      whole = whole-text c.commands_have_their_lines.ensures.lines c.args.line.now c.requires.whole
+          says;
       room = one-left c.args.self.now.board c.requires.room;
     }
 
@@ -33,7 +36,8 @@ unfolding AnswersLine
 returns-in_ok-reply-in-Ok-Some g c =
     let says = c.in-Ok-Some.ensures ∙ ap Ok c.in-Ok-Some.field-0-is in
     let replied = c.in_ok-reply-in-Ok-Some.ensures in
-    let done = line-replied (asked-line c.args.line.now says) replied.same replied.replied in record {
+    let done = line-replied (asked-line c.args.line.now says) replied.same replied.replied in
+    record {
       answers = (
         ap quits says ∙ other-goes-on c.in-Ok-Some.command c.if-is_quit.ensures.other,
         (_, replied.replied.text_is, λ _ _ _ _ led. replied-more done led),
@@ -44,8 +48,15 @@ returns-in_ok-reply-in-Ok-Some g c =
 pub returns-in-Ok-None-clause-answers : goal.returns-in-Ok-None-clause-answers
 unfolding AnswersLine
 returns-in-Ok-None-clause-answers g c =
-    let says = c.in-Ok-None.ensures ∙ ap Ok c.in-Ok-None.field-0-is in
-    (ap quits says, ([], sym (append-nil _), λ _ _ _ _ led. replied-more (idle-replied [] says (refl, refl) refl) led))
+    let says = c.in-Ok-None.ensures ∙ ap Ok c.in-Ok-None.field-0-is in (
+      ap quits says,
+      (
+        [],
+        sym (append-nil _),
+        λ _ _ _ _ led.
+            replied-more (idle-replied [] says (refl, refl) refl) led,
+      ),
+    )
 
 pub returns-then-is_quit-clause-answers : goal.returns-then-is_quit-clause-answers
 unfolding AnswersLine
@@ -56,14 +67,20 @@ returns-then-is_quit-clause-answers g c =
       λ _ _ _ _ led. replied-more (replied-none _ _ _) led,
     )
 
-pub returns-in_err-push_reply-in-Err-BadCommand-clause-answers : goal.returns-in_err-push_reply-in-Err-BadCommand-clause-answers
+pub returns-in_err-push_reply-in-Err-BadCommand-clause-answers :
+    goal.returns-in_err-push_reply-in-Err-BadCommand-clause-answers
 unfolding AnswersLine
 returns-in_err-push_reply-in-Err-BadCommand-clause-answers g c =
     let residual = c.from_residual-in_err-push_reply-in-Err-BadCommand in
     let exit = err_from_is_err_and residual.result residual.ensures.1 in
-    rw exit.1 (c.in_err-push_reply-in-Err-BadCommand.ensures.kept, λ _ _ _ _ led. replied-more (replied-none _ _ _) led)
+    rw exit.1 (
+      c.in_err-push_reply-in-Err-BadCommand.ensures.kept,
+      λ _ _ _ _ led.
+          replied-more (replied-none _ _ _) led,
+    )
 
-pub returns-in_ok-push_reply-in-Err-BadCommand-clause-answers : goal.returns-in_ok-push_reply-in-Err-BadCommand-clause-answers
+pub returns-in_ok-push_reply-in-Err-BadCommand-clause-answers :
+    goal.returns-in_ok-push_reply-in-Err-BadCommand-clause-answers
 unfolding AnswersLine
 returns-in_ok-push_reply-in-Err-BadCommand-clause-answers g c =
     let line = c.args.line.now in
@@ -74,10 +91,14 @@ returns-in_ok-push_reply-in-Err-BadCommand-clause-answers g c =
       (
         _,
         added,
-        λ _ _ _ _ led. replied-more (idle-replied (NoCommand ∷ []) says (_, refl, (_, (refl, refl), (refl, refl))) refl) led,
+        λ _ _ _ _ led.
+            replied-more
+            (idle-replied (NoCommand ∷ []) says (_, refl, (_, (refl, refl), (refl, refl))) refl)
+            led,
       ),
     )
 
 pub returns-in-Err-NoMemory-clause-answers : goal.returns-in-Err-NoMemory-clause-answers
 unfolding AnswersLine
-returns-in-Err-NoMemory-clause-answers g c = (refl, λ _ _ _ _ led. replied-more (replied-none _ _ _) led)
+returns-in-Err-NoMemory-clause-answers g c =
+    (refl, λ _ _ _ _ led. replied-more (replied-none _ _ _) led)

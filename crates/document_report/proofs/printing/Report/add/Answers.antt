@@ -12,10 +12,14 @@ returns-clause-text g c =
     let lexicon = g.K.Asker.lexicon c.args.asker.now in
     let before = string_bytes c.args.self.now.text in
     c.in_ok-push_listed.ensures
-    ∙ ap (λ marks. before ++ listed c.args.output (lines_of c.args.number marks)) (c.as_slice.ensures ∙ c.in_ok-counted.ensures.marks)
-    ∙ ap (λ lines. before ++ listed c.args.output lines) (lines-of-marks lexicon c.args.number (chars c.args.paragraph.now))
+    ∙ ap (λ marks. before ++ listed c.args.output (lines_of c.args.number marks))
+    (c.as_slice.ensures ∙ c.in_ok-counted.ensures.marks)
+    ∙ ap (λ lines. before ++ listed c.args.output lines)
+    (lines-of-marks lexicon c.args.number (chars c.args.paragraph.now))
 
 pub returns-clause-marks : goal.returns-clause-marks
 returns-clause-marks g c =
     let lexicon = g.K.Asker.lexicon c.args.asker.now in
-    ap (λ n. c.args.self.now.marks + n) (c.len.ensures ∙ ap length c.in_ok-counted.ensures.marks ∙ count-of-marks lexicon (chars c.args.paragraph.now))
+    ap (λ n. c.args.self.now.marks + n)
+    (c.len.ensures ∙ ap length c.in_ok-counted.ensures.marks
+    ∙ count-of-marks lexicon (chars c.args.paragraph.now))

@@ -11,11 +11,17 @@ invariant_of-result g c =
     let inside = c.self.inside in
     let lexicon_of = g.J.Judge.lexicon in
     let applied = c.in_ok-paragraphs.ensures in
-    subst (λ paragraphs. IsKept lexicon_of (inside.point + 1) (inside.text + 1) inside.dict (arc_value c.in_ok-try_clone.field-0) paragraphs c.in_ok-kept_beside.field-0 c.next_id_after.result) (sym c.paragraphs.view_is)
-    (subst (IsKept lexicon_of (inside.point + 1) (inside.text + 1) inside.dict (arc_value c.in_ok-try_clone.field-0) c.in_ok-paragraphs.paragraphs c.in_ok-kept_beside.field-0) (sym c.next_id_after.ensures)
-    (kept-edited lexicon_of inside.point inside.text inside.dict (arc_value inside.judge) (arc_value c.in_ok-try_clone.field-0) inside.paragraphs c.in_ok-paragraphs.paragraphs
+    subst (λ paragraphs. IsKept lexicon_of (inside.point + 1) (inside.text + 1) inside.dict
+    (arc_value c.in_ok-try_clone.field-0) paragraphs c.in_ok-kept_beside.field-0
+    c.next_id_after.result) (sym c.paragraphs.view_is)
+    (subst (IsKept lexicon_of (inside.point + 1) (inside.text + 1) inside.dict
+    (arc_value c.in_ok-try_clone.field-0) c.in_ok-paragraphs.paragraphs
+    c.in_ok-kept_beside.field-0) (sym c.next_id_after.ensures)
+    (kept-edited lexicon_of inside.point inside.text inside.dict (arc_value inside.judge)
+    (arc_value c.in_ok-try_clone.field-0) inside.paragraphs c.in_ok-paragraphs.paragraphs
     inside.states c.in_ok-kept_beside.field-0 inside.next_id c.args.edit.now c.self.invariant
-    (subst (λ (board : Seen). board.point < 2 ^ 62) (sym c.self.view_is) c.requires) c.in_ok-try_clone.ensures applied.applied
+    (subst (λ (board : Seen). board.point < 2 ^ 62) (sym c.self.view_is) c.requires)
+    c.in_ok-try_clone.ensures applied.applied
     (applied.kept c.self.invariant.0.paragraphs) c.in_ok-kept_beside.ensures))
 
 pub returns-clause-made : goal.returns-clause-made
@@ -23,7 +29,15 @@ returns-clause-made g c =
     let inside = c.self.inside in
     let lexicon_of = g.J.Judge.lexicon in
     let applied = c.in_ok-paragraphs.ensures in
-    subst (λ paragraphs. Edits c.args.self.now c.args.edit.now (seen lexicon_of (inside.point + 1) (inside.text + 1) inside.dict (arc_value c.in_ok-try_clone.field-0) paragraphs c.in_ok-kept_beside.field-0 c.next_id_after.result)) (sym c.paragraphs.view_is)
-    (subst (λ next. Edits c.args.self.now c.args.edit.now (seen lexicon_of (inside.point + 1) (inside.text + 1) inside.dict (arc_value c.in_ok-try_clone.field-0) c.in_ok-paragraphs.paragraphs c.in_ok-kept_beside.field-0 next)) (sym c.next_id_after.ensures)
-    (seen-edited lexicon_of inside.point inside.text inside.dict (arc_value inside.judge) (arc_value c.in_ok-try_clone.field-0) inside.paragraphs c.in_ok-paragraphs.paragraphs
-    inside.states c.in_ok-kept_beside.field-0 inside.next_id c.args.edit.now c.args.self.now c.self.view_is c.in_ok-try_clone.ensures applied.applied c.in_ok-kept_beside.ensures))
+    subst (λ paragraphs. Edits c.args.self.now c.args.edit.now
+    (seen lexicon_of (inside.point + 1) (inside.text + 1) inside.dict
+    (arc_value c.in_ok-try_clone.field-0) paragraphs c.in_ok-kept_beside.field-0
+    c.next_id_after.result)) (sym c.paragraphs.view_is)
+    (subst (λ next. Edits c.args.self.now c.args.edit.now
+    (seen lexicon_of (inside.point + 1) (inside.text + 1) inside.dict
+    (arc_value c.in_ok-try_clone.field-0) c.in_ok-paragraphs.paragraphs
+    c.in_ok-kept_beside.field-0 next)) (sym c.next_id_after.ensures)
+    (seen-edited lexicon_of inside.point inside.text inside.dict (arc_value inside.judge)
+    (arc_value c.in_ok-try_clone.field-0) inside.paragraphs c.in_ok-paragraphs.paragraphs
+    inside.states c.in_ok-kept_beside.field-0 inside.next_id c.args.edit.now c.args.self.now
+    c.self.view_is c.in_ok-try_clone.ensures applied.applied c.in_ok-kept_beside.ensures))

@@ -1,5 +1,6 @@
 -- The first state that waits is that of the first paragraph that waits.
-use Rattle.std.proofs.Common.{◌≡◌, ◌∙◌, sym, ap, ℕ, List, Option, None, Some, position, slice_get, IfNone, IfSome}
+use Rattle.std.proofs.Common.{◌≡◌, ◌∙◌, sym, ap, ℕ, List, Option, None, Some, position, slice_get}
+use Rattle.std.proofs.Common.{IfNone, IfSome}
 use Rattle.std.specs.List.{AllByRecursion}
 use Rattle.edit_core.specs.Runs.{is_waiting}
 use Rattle.edit_core.specs.Seen.{standing_of}
@@ -24,7 +25,9 @@ returns-clause-first g c =
     ∙ ap (λ board. position is_waiting board.standings) c.self.view_is
 
 pub returns-clause-waits : goal.returns-clause-waits
-returns-clause-waits g c = if-some c.args.self.now.standings c.first_waiting_among.result (returns-clause-first g c)
+returns-clause-waits g c =
+    if-some c.args.self.now.standings c.first_waiting_among.result (returns-clause-first g c)
 
 pub returns-clause-none : goal.returns-clause-none
-returns-clause-none g c = if-none c.args.self.now.standings c.first_waiting_among.result (returns-clause-first g c)
+returns-clause-none g c =
+    if-none c.args.self.now.standings c.first_waiting_among.result (returns-clause-first g c)

@@ -14,28 +14,42 @@ use Rattle.edit_core.proofs.board.Board.found.Goals as goal
 pub returns-in-None-clause-none : goal.returns-in-None-clause-none
 returns-in-None-clause-none g c =
     let inside = c.self.inside in
-    let board : Seen = seen g.J.Judge.lexicon inside.point inside.text inside.dict (arc_value inside.judge) inside.paragraphs inside.states inside.next_id in
-    ap (found c.args.id) (sym c.self.view_is) ∙ found-none board c.args.id (sym c.place_near.ensures ∙ c.in-None.is)
+    let board : Seen =
+    seen g.J.Judge.lexicon inside.point inside.text inside.dict (arc_value inside.judge)
+    inside.paragraphs inside.states inside.next_id in
+    ap (found c.args.id) (sym c.self.view_is)
+    ∙ found-none board c.args.id (sym c.place_near.ensures ∙ c.in-None.is)
 
 pub returns-in-None-get-clause-none : goal.returns-in-None-get-clause-none
 returns-in-None-get-clause-none g c =
     let inside = c.self.inside in
-    let there = stands-at inside.paragraphs c.args.id c.in-Some.place (sym c.place_near.ensures ∙ c.in-Some.is) in
-    absurd (none-some there.0 (sym (sym c.get.ensures ∙ ap option_copied c.in-None-get.is) ∙ there.1.at))
+    let there =
+    stands-at inside.paragraphs c.args.id c.in-Some.place
+    (sym c.place_near.ensures ∙ c.in-Some.is) in
+    absurd (none-some there.0 (sym (sym c.get.ensures ∙ ap option_copied c.in-None-get.is)
+    ∙ there.1.at))
 
 pub returns-in-None-get-2-clause-none : goal.returns-in-None-get-2-clause-none
 returns-in-None-get-2-clause-none g c =
     let inside = c.self.inside in
-    let board : Seen = seen g.J.Judge.lexicon inside.point inside.text inside.dict (arc_value inside.judge) inside.paragraphs inside.states inside.next_id in
-    let there = some-at board c.args.id c.in-Some.place c.self.invariant.0.standings (sym c.place_near.ensures ∙ c.in-Some.is) in
+    let board : Seen =
+    seen g.J.Judge.lexicon inside.point inside.text inside.dict (arc_value inside.judge)
+    inside.paragraphs inside.states inside.next_id in
+    let there =
+    some-at board c.args.id c.in-Some.place c.self.invariant.0.standings
+    (sym c.place_near.ensures ∙ c.in-Some.is) in
     let nothing : slice_get board.standings c.in-Some.place ≡ None =
-    slice_get-map standing_of inside.states c.in-Some.place ∙ ap (option_map standing_of) (sym c.get-in-Some-get.ensures ∙ ap option_copied c.in-None-get-2.is) in
+    slice_get-map standing_of inside.states c.in-Some.place
+    ∙ ap (option_map standing_of)
+    (sym c.get-in-Some-get.ensures ∙ ap option_copied c.in-None-get-2.is) in
     absurd (none-some there.1 (sym nothing ∙ there.2.standing_is))
 
 pub returns-in-Some-get-2-clause-found : goal.returns-in-Some-get-2-clause-found
 returns-in-Some-get-2-clause-found g c =
     let inside = c.self.inside in
-    let board : Seen = seen g.J.Judge.lexicon inside.point inside.text inside.dict (arc_value inside.judge) inside.paragraphs inside.states inside.next_id in
+    let board : Seen =
+    seen g.J.Judge.lexicon inside.point inside.text inside.dict (arc_value inside.judge)
+    inside.paragraphs inside.states inside.next_id in
     let id = c.args.id in
     let place = c.in-Some.place in
     let paragraph = c.in-Some-get.para.now in
@@ -44,7 +58,8 @@ returns-in-Some-get-2-clause-found g c =
       place_is = sym c.place_near.ensures ∙ c.in-Some.is;
       paragraph_is = sym c.get.ensures ∙ ap option_copied c.in-Some-get.is;
       standing_is = slice_get-map standing_of inside.states place
-          ∙ ap (option_map standing_of) (sym c.get-in-Some-get.ensures ∙ ap option_copied c.in-Some-get-2.is)
+          ∙ ap (option_map standing_of)
+          (sym c.get-in-Some-get.ensures ∙ ap option_copied c.in-Some-get-2.is)
           ∙ ap (λ s. Some s) (sym c.standing.ensures);
     } in
     subst (λ (board : Seen). IsFoundAt board id place c.para.inside.rev stands) c.self.view_is (

@@ -8,12 +8,16 @@ use Rattle.edit_core.proofs.board.Board.loaded.Goals as goal
 pub invariant_of-result : goal.invariant_of-result
 invariant_of-result g c =
     let inside = c.self.inside in
-    kept-loaded g.J.Judge.lexicon inside.point inside.text inside.dict (arc_value inside.judge) (arc_value c.args.judge) inside.paragraphs c.in_ok-copy.field-0
-    inside.states c.in_ok-reloaded_states.field-0 inside.next_id c.self.invariant (subst (λ (board : Seen). board.point < 2 ^ 62) (sym c.self.view_is) c.requires)
+    kept-loaded g.J.Judge.lexicon inside.point inside.text inside.dict (arc_value inside.judge)
+    (arc_value c.args.judge) inside.paragraphs c.in_ok-copy.field-0
+    inside.states c.in_ok-reloaded_states.field-0 inside.next_id c.self.invariant
+    (subst (λ (board : Seen). board.point < 2 ^ 62) (sym c.self.view_is) c.requires)
     c.in_ok-copy.ensures c.in_ok-reloaded_states.ensures
 
 pub returns : goal.returns
 returns g c =
     let inside = c.self.inside in
-    seen-loaded g.J.Judge.lexicon inside.point inside.text inside.dict (arc_value inside.judge) (arc_value c.args.judge) inside.paragraphs c.in_ok-copy.field-0
-    inside.states c.in_ok-reloaded_states.field-0 inside.next_id c.args.self.now c.self.view_is c.in_ok-copy.ensures c.in_ok-reloaded_states.ensures
+    seen-loaded g.J.Judge.lexicon inside.point inside.text inside.dict (arc_value inside.judge)
+    (arc_value c.args.judge) inside.paragraphs c.in_ok-copy.field-0
+    inside.states c.in_ok-reloaded_states.field-0 inside.next_id c.args.self.now c.self.view_is
+    c.in_ok-copy.ensures c.in_ok-reloaded_states.ensures

@@ -13,12 +13,20 @@ invariant_of-result g c =
     let texts = c.args.texts.items in
     let passed = c.in_ok-check_texts.ensures in
     let here = c.deref.ensures.value in
-    kept-opening g.J.Judge.lexicon (arc_value c.args.judge) texts c.in_ok-from_texts.field-0 c.in_ok-states.states c.len-count.result
+    kept-opening g.J.Judge.lexicon (arc_value c.args.judge) texts c.in_ok-from_texts.field-0
+    c.in_ok-states.states c.len-count.result
     (subst (λ ts. length ts ≤ MOST_PARAGRAPHS) here passed.few)
-    (c.openings_are_valid.ensures texts (subst (λ ts. length ts ≤ MOST_PARAGRAPHS) here passed.few) (subst (λ ts. AllByRecursion (λ text. (length text ≤ MOST_BYTES) × HasNoBreak text) ts) here passed.each))
-    c.in_ok-from_texts.ensures (c.in_ok-states.ensures ∙ ap (map (λ _. Waiting)) c.deref-2.ensures.value) (c.len-count.ensures ∙ c.args.texts.ok.0)
+    (c.openings_are_valid.ensures texts (subst (λ ts. length ts ≤ MOST_PARAGRAPHS) here passed.few)
+    (subst (λ ts. AllByRecursion (λ text. (length text ≤ MOST_BYTES) × HasNoBreak text) ts) here
+    passed.each))
+    c.in_ok-from_texts.ensures
+    (c.in_ok-states.ensures ∙ ap (map (λ _. Waiting)) c.deref-2.ensures.value)
+    (c.len-count.ensures ∙ c.args.texts.ok.0)
 
 pub returns-clause-opened : goal.returns-clause-opened
 returns-clause-opened g c =
-    seen-opening g.J.Judge.lexicon (arc_value c.args.judge) c.args.texts.items c.in_ok-from_texts.field-0 c.in_ok-states.states c.len-count.result
-    c.in_ok-from_texts.ensures (c.in_ok-states.ensures ∙ ap (map (λ _. Waiting)) c.deref-2.ensures.value) (c.len-count.ensures ∙ c.args.texts.ok.0)
+    seen-opening g.J.Judge.lexicon (arc_value c.args.judge) c.args.texts.items
+    c.in_ok-from_texts.field-0 c.in_ok-states.states c.len-count.result
+    c.in_ok-from_texts.ensures
+    (c.in_ok-states.ensures ∙ ap (map (λ _. Waiting)) c.deref-2.ensures.value)
+    (c.len-count.ensures ∙ c.args.texts.ok.0)

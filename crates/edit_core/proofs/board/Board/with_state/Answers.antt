@@ -10,15 +10,21 @@ pub invariant_of-result : goal.invariant_of-result
 invariant_of-result g c =
     let inside = c.self.inside in
     let lexicon_of = g.J.Judge.lexicon in
-    kept-moved lexicon_of inside.point inside.text inside.dict (arc_value inside.judge) (arc_value c.in_ok-try_clone.field-0) inside.paragraphs c.in_ok-copy.field-0
+    kept-moved lexicon_of inside.point inside.text inside.dict (arc_value inside.judge)
+    (arc_value c.in_ok-try_clone.field-0) inside.paragraphs c.in_ok-copy.field-0
     inside.states c.in_ok-replaced.field-0 inside.next_id c.args.place c.args.state c.self.invariant
-    (subst (λ (board : Seen). board.point < 2 ^ 62) (sym c.self.view_is) c.requires.goes_on) c.in_ok-try_clone.ensures c.in_ok-copy.ensures c.in_ok-replaced.ensures
-    (subst (λ (board : Seen). (paragraph : Paragraph) → slice_get board.paragraphs c.args.place ≡ Some paragraph → IsTheirs lexicon_of board.lexicon paragraph c.args.state) (sym c.self.view_is) c.requires.theirs)
+    (subst (λ (board : Seen). board.point < 2 ^ 62) (sym c.self.view_is) c.requires.goes_on)
+    c.in_ok-try_clone.ensures c.in_ok-copy.ensures c.in_ok-replaced.ensures
+    (subst (λ (board : Seen). (paragraph : Paragraph) → slice_get board.paragraphs c.args.place
+    ≡ Some paragraph → IsTheirs lexicon_of board.lexicon paragraph c.args.state)
+    (sym c.self.view_is) c.requires.theirs)
 
 pub returns : goal.returns
 returns g c =
     let inside = c.self.inside in
     let lexicon_of = g.J.Judge.lexicon in
-    seen-moved lexicon_of inside.point inside.text inside.dict (arc_value inside.judge) (arc_value c.in_ok-try_clone.field-0) inside.paragraphs c.in_ok-copy.field-0
-    inside.states c.in_ok-replaced.field-0 inside.next_id c.args.place c.args.state c.args.self.now c.self.view_is
+    seen-moved lexicon_of inside.point inside.text inside.dict (arc_value inside.judge)
+    (arc_value c.in_ok-try_clone.field-0) inside.paragraphs c.in_ok-copy.field-0
+    inside.states c.in_ok-replaced.field-0 inside.next_id c.args.place c.args.state c.args.self.now
+    c.self.view_is
     c.in_ok-try_clone.ensures c.in_ok-copy.ensures c.in_ok-replaced.ensures

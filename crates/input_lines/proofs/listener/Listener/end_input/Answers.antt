@@ -7,7 +7,8 @@ pub end_line-requires-clause-whole : goal.end_line-requires-clause-whole
 end_line-requires-clause-whole g c = rw append-nil c.requires.no_more
 
 pub returns-then-is_empty : goal.returns-then-is_empty
-returns-then-is_empty g c = record { ends = λ first before now heard few under. ends-silent under few (cc) }
+returns-then-is_empty g c =
+    record { ends = λ first before now heard few under. ends-silent under few (cc) }
 
 pub returns-in-Ok : goal.returns-in-Ok
 returns-in-Ok g c =

@@ -14,12 +14,15 @@ answer_line-requires-clause-whole g c =
 pub returns-then-is_empty-clause-turns : goal.returns-then-is_empty-clause-turns
 returns-then-is_empty-clause-turns g c =
     let none : c.args.self.now.pending.items ≡ [] =
-    sym c.as_slice.ensures.value ∙ nil_from_length c.as_slice.result.now (eqb-true _ 0 (sym c.if-is_empty.ensures)) in
-    let line : c.piece_text.result.now ≡ piece_text c.args.self.now.is_first (c.args.self.now.pending.items ++ c.args.bytes.now) =
+    sym c.as_slice.ensures.value
+    ∙ nil_from_length c.as_slice.result.now (eqb-true _ 0 (sym c.if-is_empty.ensures)) in
+    let line : c.piece_text.result.now ≡ piece_text c.args.self.now.is_first
+    (c.args.self.now.pending.items ++ c.args.bytes.now) =
     rw (none, ← c.replace-is_first.ensures.value) c.piece_text.ensures in
     rw line at c.answer_line.ensures.turns
 
 pub answer_line-requires-2-clause-whole : goal.answer_line-requires-2-clause-whole
 answer_line-requires-2-clause-whole g c =
     rw (c.piece_text-line.ensures, c.deref.ensures.value, c.in_ok-extend_from_slice.ensures.items)
-    (piece-no-break c.replace-is_first.result (c.args.self.now.pending.items ++ c.args.bytes.now) c.requires.whole)
+    (piece-no-break c.replace-is_first.result (c.args.self.now.pending.items ++ c.args.bytes.now)
+    c.requires.whole)

@@ -7,7 +7,9 @@ use Rattle.input_lines.proofs.listener.Listener.hear.Goals as goal
 pub returns-in_err-put_all-clause-hears : goal.returns-in_err-put_all-clause-hears
 returns-in_err-put_all-clause-hears g c =
     let p = err_from_is_err_and c.from_residual.result c.from_residual.ensures.1 in
-    rw (p.1, p.2) (hears-cut [] (sym (append-nil _)) c.hear_lines-heard.ensures.hears c.in_err-put_all.ensures.puts)
+    rw (p.1, p.2)
+    (hears-cut [] (sym (append-nil _)) c.hear_lines-heard.ensures.hears
+    c.in_err-put_all.ensures.puts)
 
 pub returns-clause-hears : goal.returns-clause-hears
 returns-clause-hears g c =

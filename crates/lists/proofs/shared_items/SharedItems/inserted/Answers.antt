@@ -10,7 +10,12 @@ returns g c =
     let index = c.find_gap-index.result.0 in
     let at = c.find_gap-index.result.1 in
     let copies = c.in_ok-changed.changed.items in
-    let whole : items_of chunks ≡ c.args.self.now = ap items_of c.as_slice-chunks.ensures.value ∙ c.self.view_is in
-    ok_is c.with_chunk.result (items_of (take index chunks) ++ c.insert.new.self.items ++ items_of (drop (index + 1) chunks)) _
-    (inserted_list c.args.self.now chunks index c.args.place at c.args.item copies c.insert.new.self.items whole c.find_gap-index.ensures.before c.find_gap-index.ensures.within c.in_ok-changed.ensures.0 c.in_ok-insert.ensures.items)
+    let whole : items_of chunks ≡ c.args.self.now =
+    ap items_of c.as_slice-chunks.ensures.value ∙ c.self.view_is in
+    ok_is c.with_chunk.result
+    (items_of (take index chunks) ++ c.insert.new.self.items
+    ++ items_of (drop (index + 1) chunks)) _
+    (inserted_list c.args.self.now chunks index c.args.place at c.args.item copies
+    c.insert.new.self.items whole c.find_gap-index.ensures.before
+    c.find_gap-index.ensures.within c.in_ok-changed.ensures.0 c.in_ok-insert.ensures.items)
     c.with_chunk.ensures

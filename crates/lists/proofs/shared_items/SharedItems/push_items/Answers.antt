@@ -12,6 +12,9 @@ returns g c =
     let later = c.in_ok-new-3.field-0 in
     let first : c.push_chunk-2.new.self ≡ old ++ early = c.in_ok-push_chunk.ensures in
     let all : early ++ later ≡ items =
-    ap₂ (λ xs ys. xs ++ ys) (c.in_ok-new-2.ensures ∙ c.in_ok-later.ensures.items) (c.in_ok-new-3.ensures ∙ c.in_ok-later.ensures.tail) ∙ take-append-drop 32 items in
-    on_ok_is c.push_chunk-3.result c.push_chunk-3.new.self (c.push_chunk-2.new.self ++ later) (old ++ items)
-    (ap (λ xs. xs ++ later) first ∙ append_assoc old early later ∙ ap (λ xs. old ++ xs) all) c.push_chunk-3.ensures
+    ap₂ (λ xs ys. xs ++ ys) (c.in_ok-new-2.ensures ∙ c.in_ok-later.ensures.items)
+    (c.in_ok-new-3.ensures ∙ c.in_ok-later.ensures.tail) ∙ take-append-drop 32 items in
+    on_ok_is c.push_chunk-3.result c.push_chunk-3.new.self (c.push_chunk-2.new.self ++ later)
+    (old ++ items)
+    (ap (λ xs. xs ++ later) first ∙ append_assoc old early later ∙ ap (λ xs. old ++ xs) all)
+    c.push_chunk-3.ensures

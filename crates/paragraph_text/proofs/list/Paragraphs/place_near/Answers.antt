@@ -9,6 +9,8 @@ pub returns-in-Some : goal.returns-in-Some
 returns-in-Some c =
     let rows = c.args.self.now in
     let found = c.in-Some.para.now in
-    let at : slice_get rows c.args.near ≡ Some found = sym c.get.ensures ∙ ap option_copied c.in-Some.is in
+    let at : slice_get rows c.args.near ≡ Some found =
+    sym c.get.ensures ∙ ap option_copied c.in-Some.is in
     let named : found.id ≡ c.args.id = sym (ap (λ p. p.id) c.para.view_is) ∙ c.if-para-id.true in
-    sym (subst (λ id. place_of id rows ≡ Some c.args.near) named (own-placed rows c.args.near found c.requires at))
+    sym (subst (λ id. place_of id rows ≡ Some c.args.near) named
+    (own-placed rows c.args.near found c.requires at))

@@ -17,4 +17,5 @@ returns-clause-does c =
 
 pub returns-clause-room : goal.returns-clause-room
 returns-clause-room c =
-    c.runs_are_short.ensures.step c.args.self.now.board c.in_ok-next.next (ALoad c.in_ok-judge.judge.value) c.board_is_valid.ensures c.in_ok-next.ensures
+    c.runs_are_short.ensures.step c.args.self.now.board c.in_ok-next.next
+    (ALoad c.in_ok-judge.judge.value) c.board_is_valid.ensures c.in_ok-next.ensures
