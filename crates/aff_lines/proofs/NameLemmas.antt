@@ -1,11 +1,11 @@
 -- The table of directives: each has one row, and no name stands twice.
-use Rattle.std.proofs.Common.{◌≡◌, ◌≢◌, ◌↔◌, ℕ, zero, suc, ◌+◌, ◌<◌, ◌&&◌, ◌||◌, not, Bool, true}
+use Rattle.std.proofs.Common.{◌≡◌, ◌≢◌, ◌↔◌, ℕ, suc, ◌+◌, ◌<◌, ◌&&◌, ◌||◌, not, Bool, true}
 use Rattle.std.proofs.Common.{false, cond, List, [], ◌∷◌, length, map, Option, Some, None, refl}
-use Rattle.std.proofs.Common.{sym, ap, ◌∙◌, subst, get_or, arith, rules}
+use Rattle.std.proofs.Common.{sym, ap, ◌∙◌, get_or, arith, rules}
 use Rattle.std.specs.List.{All, AllPairs, Contains, filter, find, list_all, range_with_len}
 use Rattle.std.specs.Option.{option_map, option_to_list}
 use Rattle.std.specs.Str.{bytes_eq}
-use Rattle.std.proofs.lemmas.Bool.{and_parts, cond_both}
+use Rattle.std.proofs.lemmas.Bool.{and_parts}
 use Rattle.std.proofs.lemmas.Bool.Decides.{Decides-by_and}
 use Rattle.std.proofs.lemmas.List.{get_or-map}
 use Rattle.std.proofs.lemmas.List.Elements.{All-contains, All-contains_itself, All-filter}
@@ -16,6 +16,7 @@ use Rattle.std.proofs.lemmas.Slice.Eq.{bytes_eq-Decides}
 use denote.Enum.Bare.{tag_one, same_true, true_same}
 use denote.Enum.Declared.{tag_of, variants}
 use denote.Enum.Enum.{tag_below}
+use Rattle.lists.specs.Laws.{contains-filter}
 use Rattle.aff_lines.specs.contracts.names.Directive.{the_type}
 use Rattle.aff_lines.specs.contracts.names.Pass.{the_type as the_passes}
 use Rattle.aff_lines.specs.declared.names.Described.{Described}
@@ -65,21 +66,6 @@ listed-once i j d before within same =
     let equal : i ≡ j = sym (place-at i d first) ∙ ap place_of same ∙ place-at j d within in
     omega (arith, before, equal)
 
--- an element that passes a test is still there where those that pass are picked
-contains-filter : {X : Type 0} (test : X → Bool) (xs : List X) (x : X) (place : ℕ)
-    → place < length xs → get_or xs place x ≡ x → test x ≡ true
-    → Contains (filter test xs) x
-contains-filter test [] x place within is passes = absurd (omega (arith, within))
-contains-filter test (y ∷ ys) x zero within is passes =
-    let own : test y ≡ true = ap test is ∙ passes in
-    subst (λ (b : Bool). Contains (cond b (y ∷ filter test ys) (filter test ys)) x) (sym own)
-    (0, omega arith, is)
-contains-filter test (y ∷ ys) x (suc place) within is passes =
-    let rest = contains-filter test ys x place (omega (arith, within)) is passes in
-    cond_both (test y) (y ∷ filter test ys) (filter test ys)
-    (λ (picked : List _). Contains picked x) (λ _. (suc rest.0, omega (arith, rest.1), rest.2))
-    (λ _. rest)
-
 pub rows-of-pass : (pass : Pass) (row : Description) → Contains (directives_in pass) row
     ↔ (Contains all_directives row × (row.pass ≡ pass))
 unfolding directives_in
@@ -92,7 +78,7 @@ rows-of-pass pass row = (
         (All-contains (λ d. is_of pass d ≡ true) (filter (is_of pass) all_directives) row
         (filter_passes (is_of pass) all_directives) among),
   ),
-  λ is. contains-filter (is_of pass) all_directives row is.0.0 is.0.1 is.0.2
+  λ is. contains-filter (is_of pass) all_directives row is.0
       (true_same the_passes row.pass pass is.1),
 )
 

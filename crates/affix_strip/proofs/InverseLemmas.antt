@@ -6,7 +6,6 @@ use Rattle.std.proofs.lemmas.Slice.Eq.{bytes_eq-Decides}
 use Rattle.spell_types.specs.declared.Affixes.{Affixes}
 use Rattle.spell_types.specs.declared.rules.Rule.{Rule}
 use Rattle.spell_types.specs.declared.rules.Side.{Side}
-use Rattle.spell_types.specs.declared.rules.Side.TheVariants.{Prefix, Suffix}
 use Rattle.spell_types.specs.Attaching.{attached}
 use Rattle.spell_types.specs.Derivations.{is_same_side, rule_on, affix_on, is_right, with_affix}
 use Rattle.spell_types.specs.Licences.{is_word}

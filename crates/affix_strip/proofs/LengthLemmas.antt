@@ -14,7 +14,7 @@ use Rattle.spell_types.specs.declared.rules.Side.{Side}
 use Rattle.spell_types.specs.declared.rules.Side.TheVariants.{Prefix, Suffix}
 use Rattle.spell_types.specs.Attaching.{attached, attached_on, takes_prefix, takes_suffix}
 use Rattle.spell_types.specs.Derivations.{Named, affix_on, form_of, formed, is_in_order}
-use Rattle.spell_types.specs.Derivations.{is_same_side, named_with, rule_on, with_affix}
+use Rattle.spell_types.specs.Derivations.{is_same_side, named_with, with_affix}
 use Rattle.affix_strip.specs.Lengths.{AreAddedWithin, AreWordsWithin, IsLongest}
 
 -- ---- one affix
@@ -81,19 +81,18 @@ named-within rules most side (Some place) within = at (slice_get rules place) re
     at (Some rule) is = by rule (within place rule is) (is_same_side side rule.side)
 
 -- ---- a form
-formed-within : (full_strip : Bool) (n : Named) (word most : ℕ) (text : List ℕ)
-    → length n.entry.word ≤ word
+formed-within : (full_strip : Bool) (n : Named) (most : ℕ) {text : List ℕ}
     → IfSome n.first (λ rule. length rule.add ≤ most)
     → IfSome n.second (λ rule. length rule.add ≤ most)
     → IfSome n.prefix (λ rule. length rule.add ≤ most)
-    → formed full_strip n ≡ Some text → length text ≤ word + 3 * most
-formed-within full_strip n word most text long first second prefix is =
+    → formed full_strip n ≡ Some text → length text ≤ length n.entry.word + 3 * most
+formed-within full_strip n most {text} first second prefix is =
     one (with_affix full_strip n.first n.entry.word) refl is
   where
-    two : (stem : List ℕ) → length stem ≤ word + most → (found : Option (List ℕ))
+    two : (stem : List ℕ) → length stem ≤ length n.entry.word + most → (found : Option (List ℕ))
         → with_affix full_strip n.second stem ≡ found
         → option_and_then (with_affix full_strip n.prefix) found ≡ Some text
-        → length text ≤ word + 3 * most
+        → length text ≤ length n.entry.word + 3 * most
     two stem short None at is = absurd cc
     two stem short (Some longer) at is =
         omega (
@@ -106,11 +105,11 @@ formed-within full_strip n word most text long first second prefix is =
     one : (found : Option (List ℕ)) → with_affix full_strip n.first n.entry.word ≡ found
         → option_and_then (with_affix full_strip n.prefix)
         (option_and_then (with_affix full_strip n.second) found) ≡ Some text
-        → length text ≤ word + 3 * most
+        → length text ≤ length n.entry.word + 3 * most
     one None at is = absurd cc
     one (Some stem) at is =
         two stem (omega
-        (arith, long, affix-within full_strip n.first most n.entry.word stem first at))
+        (arith, affix-within full_strip n.first most n.entry.word stem first at))
         (with_affix full_strip n.second stem) refl is
 
 form-within : (lexicon : Lexicon) (word most : ℕ) → AreWordsWithin lexicon.entries word
@@ -129,11 +128,14 @@ form-within lexicon word most words added d text is =
         (if ordered then option_map (named_with rules d) found else None) ≡ Some text
         → length text ≤ word + 3 * most
     at true (Some entry) there is =
-        formed-within lexicon.affixes.options.full_strip (named_with rules d entry) word most text
-        (words d.entry entry there)
-        (named-within rules most Suffix d.first added)
-        (named-within rules most Suffix d.second added)
-        (named-within rules most Prefix d.prefix added) is
+        omega (
+          arith,
+          words d.entry entry there,
+          formed-within lexicon.affixes.options.full_strip (named_with rules d entry) most
+              (named-within rules most Suffix d.first added)
+              (named-within rules most Suffix d.second added)
+              (named-within rules most Prefix d.prefix added) is,
+        )
     at true None there is = absurd cc
     at false found there is = absurd cc
 

@@ -1,21 +1,19 @@
 -- Which derivations are found: those that are licensed and whose form is the word.
 use Rattle.std.proofs.Common.{◌≡◌, ◌↔◌, refl, ℕ, ◌<◌, Bool, true, false, ◌&&◌, List, length, map}
 use Rattle.std.proofs.Common.{slice_get, Contains, Option, None, Some, is_none, is_some}
-use Rattle.std.proofs.Common.{option_and_then, ◌||◌, if◌then◌else◌}
+use Rattle.std.proofs.Common.{◌||◌, if◌then◌else◌}
 use Rattle.std.specs.List.{flat_map, range_with_len}
 use Rattle.std.specs.Option.{option_map}
 use Rattle.std.proofs.lemmas.Bool.{and_parts, and_from}
 use Rattle.std.proofs.lemmas.List.Elements.{All-contains, filter_passes}
 use Rattle.std.proofs.lemmas.Option.{slice_get_within}
-use Rattle.lists.specs.Laws.{contains-head, contains-tail, contains-map, contains-flat_map}
+use Rattle.lists.specs.Laws.{contains-map, contains-flat_map}
 use Rattle.lists.specs.Laws.{contains-filter, contains-range}
 use Rattle.spell_types.specs.declared.Entry.{Entry}
 use Rattle.spell_types.specs.declared.Lexicon.{Lexicon}
 use Rattle.spell_types.specs.declared.derivations.Derivation.{Derivation}
-use Rattle.spell_types.specs.declared.rules.Rule.{Rule}
-use Rattle.spell_types.specs.declared.rules.Side.{Side}
 use Rattle.spell_types.specs.declared.rules.Side.TheVariants.{Prefix, Suffix}
-use Rattle.spell_types.specs.Derivations.{is_same_side, is_right, is_in_order, named_with, form_of}
+use Rattle.spell_types.specs.Derivations.{is_right, is_in_order, named_with, form_of}
 use Rattle.spell_types.specs.Derivations.{choices, derivation_of, all_from, all_derivations}
 use Rattle.spell_types.specs.Laws.{contains-choice, right-within}
 use Rattle.spell_types.specs.Licences.{holds_of, is_allowed, is_licensed, has_form}

@@ -1,10 +1,11 @@
 -- The tables of a dictionary: one rule more; and which places they give.
 use Rattle.std.proofs.Common.{◌≡◌, ◌∙◌, ◌⊎◌, inl, inr, refl, sym, ap, subst, ℕ, zero, suc, ◌+◌, ◌<◌}
-use Rattle.std.proofs.Common.{Bool, true, false, cond, ◌||◌, true≢false, List, [], ◌∷◌, ◌++◌}
+use Rattle.std.proofs.Common.{Bool, true, false, cond, ◌||◌, List, [], ◌∷◌, ◌++◌}
 use Rattle.std.proofs.Common.{length, take, get_or, nat_eq, slice_get, None, Some, if◌then◌else◌}
 use Rattle.std.proofs.Common.{eq-eqb, map, Result, Ok, Err, IfOk, Vec, Global}
 use Rattle.std.proofs.lemmas.List.{take_more}
 use Rattle.std.proofs.lemmas.Option.{option_and_then_some, cond_some}
+use Rattle.std.proofs.lemmas.Bool.{or_left, or_right}
 use Rattle.spell_types.specs.declared.flags.Flag.{Flag}
 use Rattle.spell_types.specs.declared.rules.Rule.{Rule}
 use Rattle.spell_types.specs.declared.rules.Side.{Side}
@@ -48,25 +49,17 @@ carried-more tells rules rule before now holds is = record {
       (by flag (get-more rules rule place other at) side carries);
 }
   where
-    or-right : (a b : Bool) → b ≡ true → (a || b) ≡ true
-    or-right true b same = refl
-    or-right false b same = same
-
-    or-left : (a b : Bool) → a ≡ true → (a || b) ≡ true
-    or-left true b same = refl
-    or-left false b same = absurd (true≢false (sym same))
-
     kept : (flag : Flag) (b : Bool) → has before (Some flag) ≡ true
         → has (cond b (put_all before rule.carried) before) (Some flag) ≡ true
     kept flag true had = tells before rule.carried flag
-        ∙ or-right (has rule.carried (Some flag)) (has before (Some flag)) had
+        ∙ or_right (has rule.carried (Some flag)) (has before (Some flag)) had
     kept flag false had = had
 
     added : (flag : Flag) (side : Side) → side ≡ Suffix → has rule.carried (Some flag) ≡ true
         → has (cond (is_same_side Suffix side) (put_all before rule.carried) before) (Some flag)
         ≡ true
     added flag Suffix on carries = tells before rule.carried flag
-        ∙ or-left (has rule.carried (Some flag)) (has before (Some flag)) carries
+        ∙ or_left (has rule.carried (Some flag)) (has before (Some flag)) carries
     added flag Prefix on carries = absurd (cc)
 
     by : {place : ℕ} {other : Rule} (flag : Flag) → (slice_get rules place ≡ Some other)

@@ -1,18 +1,17 @@
 -- The texts of patterns that stand at a place, one character after another.
-use Rattle.std.proofs.Common.{◌≡◌, ◌∙◌, ◌⊎◌, inl, inr, refl, sym, ap, subst, ℕ, zero, suc, ◌+◌, ◌<◌}
-use Rattle.std.proofs.Common.{◌≤◌, Bool, true, List, [], ◌∷◌, ◌++◌, length, map, take, drop, get_or}
+use Rattle.std.proofs.Common.{◌≡◌, ◌∙◌, ◌⊎◌, inl, inr, sym, ap, subst, ℕ, zero, suc, ◌+◌, ◌<◌}
+use Rattle.std.proofs.Common.{◌≤◌, Bool, List, [], ◌∷◌, ◌++◌, length, map, take, drop, get_or}
 use Rattle.std.proofs.Common.{nat_eq, length-drop, arith}
 use Rattle.std.specs.Cmp.Lexicographic.{pointwise}
-use Rattle.std.specs.List.{All, Contains, filter, starts_with}
+use Rattle.std.specs.List.{All, Contains, starts_with}
 use Rattle.std.proofs.lemmas.Bool.{cases_lt}
-use Rattle.std.proofs.lemmas.List.{length-take-le, take-take, take_more}
-use Rattle.std.proofs.lemmas.List.Elements.{filter_passes, All-filter, All-contains}
-use Rattle.std.proofs.lemmas.List.Elements.{All-contains_itself, All-append, All-map, All-same}
+use Rattle.std.proofs.lemmas.List.{length-take-le, take-take}
+use Rattle.std.proofs.lemmas.List.Elements.{All-append, All-map, All-same}
 use Rattle.std.proofs.lemmas.List.Elements.{Contains-get_or, Contains-append_left}
 use Rattle.std.proofs.lemmas.List.Elements.{Contains-append_right}
 use Rattle.std.proofs.lemmas.Slice.Eq.{bytes_eq-Decides}
 use Rattle.lists.specs.Laws.{contains-head, contains-tail, contains-filter, contains-map}
-use Rattle.lists.specs.Laws.{filter-holds, filter-among}
+use Rattle.lists.specs.Laws.{contains-none, filter-holds, filter-among}
 use Rattle.spell_types.specs.declared.breaks.Anchored.{Anchored}
 use Rattle.lists.specs.TextOrder.{AreInOrder, beginning, having}
 use Rattle.break_points.specs.declared.occurrences.Occurrence.{Occurrence}
@@ -20,9 +19,6 @@ use Rattle.break_points.specs.Patterns.{Pattern, anchored_of}
 use Rattle.break_points.specs.Occurrences.{occurrence_of, IsOccurrence}
 
 -- ---- what stays among others
-none-among : (found : List Pattern) (p : Pattern) → found ≡ [] → Contains found p → ⊥
-none-among found p none (k, within, at) = omega (arith, within, ap length none)
-
 -- what was made of some item
 pub made-of : {X Y : Type 0} (f : X → Y) (xs : List X) (y : Y) → Contains (map f xs) y
     → (x : X) × Contains xs x × (f x ≡ y)
@@ -36,24 +32,6 @@ made-of {X} {Y} f (x ∷ xs) y (k, within, at) = by (made-of f xs y) k within at
     by later (suc k) within at = let low =
         later (k, omega (arith, within), at) in
         (low.0, contains-tail x low.0 xs low.1, low.2)
-
--- ---- the patterns that begin as the text does
-pub all_begin : (patterns : List Pattern) (text : List ℕ)
-    → patterns ≡ beginning (take 0 text) patterns
-all_begin [] text = refl
-all_begin (p ∷ patterns) text = ap (λ ps. p ∷ ps) (all_begin patterns text)
-
-pub alike_more : (patterns alike now : List Pattern) (text : List ℕ) (depth c : ℕ)
-    → AreInOrder patterns → depth < length text → c ≡ get_or text depth c
-    → alike ≡ beginning (take depth text) patterns
-    → ((all : List Pattern) (front : List ℕ) → AreInOrder all → length front ≡ depth
-    → alike ≡ beginning front all → now ≡ beginning (front ++ c ∷ []) all)
-    → now ≡ beginning (take (depth + 1) text) patterns
-alike_more patterns alike now text depth c sorted within is so_far goes_on =
-    goes_on patterns (take depth text) sorted (length-take-le depth text (omega (arith, within)))
-    so_far
-    ∙ ap (λ front. beginning front patterns)
-    (ap (λ x. take depth text ++ x ∷ []) is ∙ sym (take_more text depth c within))
 
 -- ---- occurrences of one length
 abbrev pub same_text : List ℕ → Pattern → Bool
@@ -152,7 +130,7 @@ none_longer patterns word occurrence n within none is =
         let front : take (length (take n rest)) p.0.items ≡ take n rest =
         ap (λ k. take k p.0.items) (length-take-le n rest within) ∙ ap (take n) items
         ∙ take-take n occurrence.len rest long in
-        absurd (none-among (beginning (take n rest) patterns) p none
+        absurd (contains-none (beginning (take n rest) patterns) p none
         (contains-filter (λ (q : Pattern). starts_with nat_eq q.0.items (take n rest)) patterns p
         among
         ((bytes_eq-Decides (take n rest) (take (length (take n rest)) p.0.items)).1 (sym front))))

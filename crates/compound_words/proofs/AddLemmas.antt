@@ -28,7 +28,7 @@ use Rattle.compound_words.specs.Rests.{IsRow, IsMade, IsAdded, IsAddedOnce, Know
 use Rattle.compound_words.specs.Rests.{HasFirsts, IsFrontOf, Piece, rests_at, may_precede}
 use Rattle.compound_words.specs.Rests.{number_before, number_behind, number_at_end, number_with}
 use Rattle.compound_words.specs.Pieces.{AreParts, EndsBefore, IsGivenAs, is_cut_by, may_begin}
-use Rattle.compound_words.proofs.PieceLemmas.{joined-begins}
+use Rattle.compound_words.proofs.NeighbourLemmas.{joined-begins}
 use Rattle.compound_words.proofs.CountLemmas.{fewest-same, fewest-list}
 use Rattle.compound_words.proofs.RestLemmas.{IsBefore, given-some, count-within, none-written}
 use Rattle.compound_words.proofs.RestLemmas.{behind-first, rest-tail, rest-joint, rest-cons}
@@ -133,16 +133,17 @@ added-grown law a rules here place text part behind before now is added =
             (number-right law a rules here place text part behind is way))
 
 pub once-grown : MatchesOneByOne
-    → (a : Asked) (rules : List (List PatternStep)) (here place : Place)
-    (text : List ℕ) (part : Part) (behind : Behind) (before now : List FirstPart)
+    → (a : Asked) (rules : List (List PatternStep)) {here place : Place}
+    {text : List ℕ} {part : Part} {behind : Behind} {before now : List FirstPart}
     → IsBefore a rules here place text part behind
     → IsAddedOnce a rules place part behind before now
     → IsGrown a rules here text part before now
-once-grown law a rules here place text part behind before now is (Known has same) = record {
-  grows = subst (Grows a rules here text before) (sym same) (grows-same a rules here text before);
-  has = λ more way rest so. subst (HasPart part) (sym same) has;
-}
-once-grown law a rules here place text part behind before now is (New added) =
+once-grown law a rules {here} {place} {text} {part} {behind} {before} {now} is (Known has same) =
+    record {
+      grows = subst (Grows a rules here text before) (sym same) (grows-same a rules here text before);
+      has = λ more way rest so. subst (HasPart part) (sym same) has;
+    }
+once-grown law a rules {here} {place} {text} {part} {behind} {before} {now} is (New added) =
     added-grown law a rules here place text part behind before now is added
 
 -- ---- the parts that are left to look at
@@ -170,11 +171,11 @@ pub left-given : (a : Asked) (before front : List ℕ) (parts : List Part) (part
 left-given a before front parts part given = each-last (IsGivenAs a before front) parts part given
 
 -- one is looked at
-pub left-turn : (a : Asked) (rules : List (List PatternStep)) (here : Place) (text : List ℕ)
-    (piece : Piece) (parts : List Part) (part : Part) (before middle now : List FirstPart)
+pub left-turn : {a : Asked} {rules : List (List PatternStep)} {here : Place} {text : List ℕ}
+    {piece : Piece} (parts : List Part) (part : Part) {before middle now : List FirstPart}
     → AreLeft a rules here text piece (parts ++ part ∷ []) before middle
     → IsGrown a rules here text part middle now → AreLeft a rules here text piece parts before now
-left-turn a rules here text piece parts part before middle now left grown = record {
+left-turn {a} {rules} {here} {text} {piece} parts part {before} {middle} {now} left grown = record {
   given = each-front (IsGivenAs a piece.before piece.front) parts (part ∷ []) left.given;
   grows = grows-twice a rules here text before middle now left.grows grown.grows;
   has =
@@ -239,11 +240,11 @@ last-barred a rules text part row before given barred = record {
     none [] rest is = true≢false (sym rest.ends ∙ barred)
     none (next ∷ more) rest is = absurd (cc)
 
-pub last-before : (a : Asked) (rules : List (List PatternStep)) (text : List ℕ) (part : Part)
+pub last-before : (a : Asked) (rules : List (List PatternStep)) {text : List ℕ} {part : Part}
     (behind : Behind) (before : List ℕ) → IsGivenAs a before text part → may_end a part ≡ true
     → behind.is_end ≡ true
     → IsBefore a rules Middle Last text part behind
-last-before a rules text part behind before given ends end = record {
+last-before a rules {text} {part} behind before given ends end = record {
   stands = λ stands more rest. by stands more (alone a before text part more given rest);
   fewest =
       λ way. subst (IsFewest (Follows a text (holds a rules Middle way) part)) (sym (number way))
@@ -381,8 +382,8 @@ one-kept P Q test so (x ∷ xs) (inr one) = by (test x) (one-kept P Q test so xs
     by true later = inr later
     by false later = later
 
-pub inner-before : (a : Asked) (rules : List (List PatternStep)) (here : Place) (piece : Piece)
-    (part : Part) (behind : Behind) (rests : List FirstPart)
+pub inner-before : {a : Asked} {rules : List (List PatternStep)} {here : Place} (piece : Piece)
+    {part : Part} {behind : Behind} {rests : List FirstPart}
     → IsGivenAs a piece.before piece.front part
     → IsFrontOf here piece.before
     → IsRow a rules (piece.before ++ piece.front) piece.following rests → 0 < length piece.following
@@ -391,7 +392,7 @@ pub inner-before : (a : Asked) (rules : List (List PatternStep)) (here : Place) 
     → ((way : Way) → fewest (map (λ rest. count_of rest way) (rests_at behind.rests.now))
     ≡ number_before a part way rests)
     → IsBefore a rules here here (piece.front ++ piece.following) part behind
-inner-before a rules here piece part behind rests given first row some fits end are = record {
+inner-before {a} {rules} {here} piece {part} {behind} {rests} given first row some fits end are = record {
   stands =
       λ stands more rest. by stands more (behind-first a text front part more given.writes rest);
   fewest =

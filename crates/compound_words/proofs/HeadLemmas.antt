@@ -2,12 +2,13 @@
 use Rattle.std.proofs.Common.{◌≡◌, ◌∙◌, refl, sym, ap, subst, ℕ, zero, suc, ◌+◌, ◌<◌, Bool, true}
 use Rattle.std.proofs.Common.{false, true≢false, cond, ◌⊎◌, inl, inr, List, [], ◌∷◌, ◌++◌, length}
 use Rattle.std.proofs.Common.{map, filter, take, get_or, slice_get, Option, None, Some, arith}
-use Rattle.std.proofs.Common.{append-nil}
+use Rattle.std.proofs.Common.{append-nil, append_assoc}
 use Rattle.std.specs.List.{list_any}
 use Rattle.std.specs.Borrow.{Bor}
 use Rattle.std.specs.Option.{option_map, option_to_list, is_some}
 use Rattle.std.proofs.lemmas.Bool.Decides.{nat_tests}
 use Rattle.std.proofs.lemmas.List.{take_more}
+use Rattle.std.proofs.lemmas.List.Elements.{filter-append}
 use Rattle.std.proofs.lemmas.Option.{slice_get-get_or}
 use Rattle.spell_types.specs.declared.parts.Part.{Part}
 use Rattle.spell_types.specs.Compounds.{Asked, are_joined}
@@ -99,12 +100,8 @@ picked-append : (rests : List FirstPart) (places more : List ℕ)
 picked-append rests [] more = refl
 picked-append rests (place ∷ places) more =
     ap (λ l. option_to_list (slice_get rests place) ++ l) (picked-append rests places more)
-    ∙ sym (append-assoc (option_to_list (slice_get rests place)) (picked rests places)
+    ∙ sym (append_assoc (option_to_list (slice_get rests place)) (picked rests places)
     (picked rests more))
-  where
-    append-assoc : (xs ys zs : List FirstPart) → (xs ++ ys) ++ zs ≡ xs ++ (ys ++ zs)
-    append-assoc [] ys zs = refl
-    append-assoc (x ∷ xs) ys zs = ap (λ l. x ∷ l) (append-assoc xs ys zs)
 
 -- the numbers are those of the rests before a place
 abbrev pub AreHeadsTo : List FirstPart → List ℕ → ℕ → Type 0
@@ -201,25 +198,9 @@ pub followers-turn : (a : Asked) (part : Part) (rests : List FirstPart) (places 
 followers-turn a part rests places index found within so_far =
     ap (λ l. l ++ filter (may_precede a part)
     (option_to_list (slice_get rests (get_or places index 0)))) so_far
-    ∙ sym (filter-append (picked rests (take index places))
+    ∙ sym (filter-append (may_precede a part) (picked rests (take index places))
     (option_to_list (slice_get rests (get_or places index 0))))
     ∙ ap (filter (may_precede a part)) (sym (picked-turn rests places index within))
-  where
-    filter-append : (xs ys : List FirstPart)
-        → filter (may_precede a part) (xs ++ ys)
-        ≡ filter (may_precede a part) xs ++ filter (may_precede a part) ys
-    filter-append [] ys = refl
-    filter-append (x ∷ xs) ys =
-        ap (λ l. cond (may_precede a part x) (x ∷ l) l) (filter-append xs ys)
-        ∙ by (may_precede a part x)
-      where
-        by : (b : Bool)
-            → cond b (x ∷ (filter (may_precede a part) xs ++ filter (may_precede a part) ys))
-            (filter (may_precede a part) xs ++ filter (may_precede a part) ys)
-            ≡ cond b (x ∷ filter (may_precede a part) xs) (filter (may_precede a part) xs)
-            ++ filter (may_precede a part) ys
-        by true = refl
-        by false = refl
 
 -- the rest that is looked at
 pub looked-at : (rests : List FirstPart) (place : ℕ) (got : Option (Bor FirstPart))

@@ -1,5 +1,7 @@
 pub mod CountLemmas
 pub mod PieceLemmas
+pub mod FrontLemmas
+pub mod NeighbourLemmas
 pub mod StepLemmas
 pub mod NumberLemmas
 pub mod RestLemmas

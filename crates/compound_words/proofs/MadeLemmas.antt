@@ -1,6 +1,6 @@
 -- Words that parts make up.
-use Rattle.std.proofs.Common.{◌≡◌, ◌∙◌, ◌↔◌, refl, sym, ap, subst, ℕ, zero, suc, ◌≤◌, nat_le}
-use Rattle.std.proofs.Common.{nat_lt, Bool, true, false, true≢false, ◌&&◌, ◌==◌, ◌||◌, ◌⊎◌, inl}
+use Rattle.std.proofs.Common.{◌≡◌, ◌∙◌, ◌↔◌, refl, sym, ap, subst, ℕ, suc, ◌≤◌, nat_le}
+use Rattle.std.proofs.Common.{nat_lt, Bool, true, false, true≢false, ◌==◌, ◌||◌, ◌⊎◌, inl}
 use Rattle.std.proofs.Common.{inr, List, [], ◌∷◌, length, drop, slice_get, Option, None, Some}
 use Rattle.std.proofs.Common.{option_and_then, IsTrue, arith}
 use Rattle.std.specs.List.{AllByRecursion, list_any}

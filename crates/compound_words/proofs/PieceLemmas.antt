@@ -1,22 +1,20 @@
 -- The parts that write a piece of a word.
 use Rattle.std.proofs.Common.{◌≡◌, ◌∙◌, ◌↔◌, refl, sym, ap, subst, ℕ, zero, suc, ◌+◌, ◌-◌, ◌==◌}
-use Rattle.std.proofs.Common.{◌<◌, ◌≤◌, Bool, true, false, cond, ◌&&◌, ◌||◌, ◌⊎◌, inl, inr, List}
-use Rattle.std.proofs.Common.{[], ◌∷◌, ◌++◌, length, map, filter, take, drop, get_or, not, nat_eq}
-use Rattle.std.proofs.Common.{nat_lt, Contains, Any, Option, None, Some, append-nil, append_assoc}
+use Rattle.std.proofs.Common.{◌<◌, ◌≤◌, Bool, true, false, cond, ◌&&◌, inl, inr, List}
+use Rattle.std.proofs.Common.{[], ◌∷◌, ◌++◌, length, map, filter, take, drop, nat_eq}
+use Rattle.std.proofs.Common.{Contains, Option, None, Some, append-nil, append_assoc}
 use Rattle.std.proofs.Common.{length-append, length-drop, length-take, not-suc-le-zero}
-use Rattle.std.proofs.Common.{le_of_suc-le-suc, if◌then◌else◌, true≢false, arith}
+use Rattle.std.proofs.Common.{le_of_suc-le-suc, if◌then◌else◌, arith}
 use Rattle.std.specs.List.{AllByRecursion, flat_map, list_any, starts_with, ends_with}
 use Rattle.std.specs.Option.{option_map_or}
-use Rattle.std.proofs.lemmas.Bool.{and_parts, and_from, or_cases, or_left, or_right, lt-ltb}
+use Rattle.std.proofs.lemmas.Bool.{and_parts}
 use Rattle.std.proofs.lemmas.Bool.{ltb-true}
 use Rattle.std.proofs.lemmas.Bool.Decides.{Decides-eqb, nat_tests}
-use Rattle.std.proofs.lemmas.List.{take_all, take_more, take-append-drop, take-append-le}
+use Rattle.std.proofs.lemmas.List.{take-append-drop, take-append-le}
 use Rattle.std.proofs.lemmas.List.Elements.{Contains-append_left, Contains-append_right}
-use Rattle.std.proofs.lemmas.List.Folds.{Any-from_list_any}
-use Rattle.std.proofs.lemmas.Slice.Eq.{bytes_eq-Decides, starts_is, ends_is}
-use Rattle.spell_types.specs.Cases.{is_among, is_same_word}
-use Rattle.std.proofs.Math.Seq.{drop-append_seam, take-append_seam}
-use Rattle.lists.specs.Laws.{any-contains, contains-filter, contains-flat_map, contains-head}
+use Rattle.std.proofs.lemmas.Slice.Eq.{starts_is, ends_is}
+use Rattle.std.proofs.Math.Seq.{drop-append_seam}
+use Rattle.lists.specs.Laws.{contains-filter, contains-flat_map, contains-head}
 use Rattle.lists.specs.Laws.{contains-map, contains-tail, each-append, each-flat_map, each-weaker}
 use Rattle.lists.specs.Laws.{take-joined}
 use Rattle.affix_strip.specs.Found.{derivations_of}
@@ -25,27 +23,21 @@ use Rattle.spell_types.specs.declared.derivations.Derivation.{Derivation}
 use Rattle.spell_types.specs.declared.joints.JointPattern.{JointPattern}
 use Rattle.spell_types.specs.declared.joints.WrittenJoint.{WrittenJoint}
 use Rattle.spell_types.specs.declared.parts.Part.{Part}
-use Rattle.spell_types.specs.CompoundLaws.{given-keeps, joined-written}
-use Rattle.spell_types.specs.Compounds.{Asked, AreJoined, IsGiven, are_joined, do_meet}
-use Rattle.spell_types.specs.Compounds.{is_right_in_case, kept, keeps_some, may_be_part, may_end}
-use Rattle.spell_types.specs.Compounds.{part_with, stretch, written}
+use Rattle.spell_types.specs.CompoundLaws.{given-keeps}
+use Rattle.spell_types.specs.Compounds.{Asked, IsGiven}
+use Rattle.spell_types.specs.Compounds.{is_right_in_case, kept, keeps_some, may_be_part}
+use Rattle.spell_types.specs.Compounds.{part_with, stretch}
 use Rattle.spell_types.specs.Derivations.{Named, named, form_of}
-use Rattle.spell_types.specs.EntriesOf.{is_entry_word}
-use Rattle.spell_types.specs.JointLaws.{nat-own, nat-same, same-joint}
-use Rattle.spell_types.specs.Joints.{IsWrittenJoint, Plain, Simplified, Replaced, ends_as}
-use Rattle.spell_types.specs.Joints.{fits_joint, has_entry_as_given, has_fitting, is_case, is_dup}
-use Rattle.spell_types.specs.Joints.{is_joint_of, is_same_joint, is_simplified, is_triple}
-use Rattle.spell_types.specs.Joints.{is_tripled, plain_joint, replaced_joint, simplified_joint}
+use Rattle.spell_types.specs.Joints.{plain_joint, replaced_joint, simplified_joint}
 use Rattle.spell_types.specs.Licences.{holds_of, is_allowed, meets_signs, meets_need}
 use Rattle.spell_types.specs.Licences.{meets_circumfix, is_sound, is_licensed}
 use Rattle.spell_types.specs.Parts.{is_long_enough}
 use Rattle.compound_words.specs.declared.rests.FirstPart.{FirstPart}
 use Rattle.compound_words.specs.Counting.{OneOf}
 use Rattle.compound_words.specs.Pieces.{AreFronts, AreParts, EndsBefore, Whole, Short, Cut}
-use Rattle.compound_words.specs.Pieces.{IsGivenAs, cuts, end_of, has_put, is_cut_by, may_begin}
+use Rattle.compound_words.specs.Pieces.{IsGivenAs, cuts, end_of, may_begin}
 use Rattle.compound_words.specs.Pieces.{parts_kept, parts_of, parts_put, parts_replaced}
-use Rattle.compound_words.specs.Pieces.{parts_short, parts_with, with_front}
-use Rattle.compound_words.specs.Rests.{AreRest, HasPart}
+use Rattle.compound_words.specs.Pieces.{parts_short, parts_with}
 
 sound-licensed : (lexicon : Lexicon) (d : Derivation) → is_sound lexicon d ≡ true
     → is_licensed lexicon d ≡ true
@@ -82,14 +74,14 @@ one-of (y ∷ xs) x (zero, within, at) = inl at
 one-of (y ∷ xs) x (suc k, within, at) = inr (one-of xs x (k, le_of_suc-le-suc within, at))
 
 -- ---- ends of texts
-ends-split : (text end : List ℕ) → ends_with nat_eq text end ≡ true
+pub ends-split : (text end : List ℕ) → ends_with nat_eq text end ≡ true
     → text ≡ take (length text - length end) text ++ end
 ends-split text end ends = (ends_is Decides-eqb text end _ refl).0 ends
 
-ends-from : (text front end : List ℕ) → text ≡ front ++ end → ends_with nat_eq text end ≡ true
+pub ends-from : (text front end : List ℕ) → text ≡ front ++ end → ends_with nat_eq text end ≡ true
 ends-from text front end is = (ends_is Decides-eqb text end _ refl).1 front is
 
-starts-split : (text front : List ℕ) → starts_with nat_eq text front ≡ true
+pub starts-split : (text front : List ℕ) → starts_with nat_eq text front ≡ true
     → text ≡ front ++ drop (length front) text
 starts-split text front starts = (starts_is Decides-eqb text front _ refl).0 starts
 
@@ -97,7 +89,7 @@ starts-from : (text front rest : List ℕ) → text ≡ front ++ rest
     → starts_with nat_eq text front ≡ true
 starts-from text front rest is = (starts_is Decides-eqb text front _ refl).1 rest is
 
-ends-nothing : (text : List ℕ) → ends_with nat_eq text [] ≡ true
+pub ends-nothing : (text : List ℕ) → ends_with nat_eq text [] ≡ true
 ends-nothing text = ends-from text text [] (sym (append-nil text))
 
 -- ---- what a part keeps
@@ -112,7 +104,7 @@ kept-is front own end joint d off =
     ∙ ap (drop (length front)) (take-joined (front ++ own) end)
     ∙ drop-append_seam front own
 
-kept-some : (part : Part) → keeps_some part ≡ true → 0 < length (kept part)
+pub kept-some : (part : Part) → keeps_some part ≡ true → 0 < length (kept part)
 kept-some part keeps =
     omega (
       arith,
@@ -495,395 +487,3 @@ parts-are a before fronts text following rests are members = record {
   all = λ part is ends. one-of (parts_of a fronts text following rests) part
       (all-among a members before fronts are text following rests part is ends);
 }
-
--- ---- the fronts of a place
--- what the rows so far may have taken off the front of a part, and nothing
-pub record AreFrontsSoFar (before : List ℕ) (rows : List JointPattern) (index : ℕ)
-    (fronts : List (List ℕ)) : Type 0 where
-  pub right : (front : List ℕ) → Contains fronts front
-      → (front ≡ [])
-      ⊎ ((row : JointPattern)
-      × (Contains rows row × ((has_put before row ≡ true) × (row.begin ≡ front))))
-  pub nothing : Contains fronts []
-  pub all : (row : JointPattern) → Contains (take index rows) row → has_put before row ≡ true
-      → Contains fronts row.begin
-
-front-among : (text : List ℕ) (fronts : List (List ℕ)) → is_among fronts text ≡ true
-    → Contains fronts text
-front-among text [] is = absurd (true≢false (sym is))
-front-among text (front ∷ fronts) is =
-    by (or_cases (is_same_word front text) (is_among fronts text) is) (front-among text fronts)
-  where
-    by : (is_same_word front text ≡ true) ⊎ (is_among fronts text ≡ true)
-        → (is_among fronts text ≡ true → Contains fronts text) → Contains (front ∷ fronts) text
-    by (inl same) later =
-        subst (Contains (front ∷ fronts)) ((bytes_eq-Decides front text).0 same)
-        (contains-head front fronts)
-    by (inr among) later = contains-tail front text fronts (later among)
-
--- at first nothing is taken off
-pub fronts-none : (before : List ℕ) (rows : List JointPattern) (fronts : List (List ℕ))
-    → fronts ≡ [] ∷ [] → AreFrontsSoFar before rows 0 fronts
-fronts-none before rows fronts same = record {
-  right = λ front among. inl (only front (subst (λ f. Contains f front) same among));
-  nothing = subst (λ f. Contains f []) (sym same) (contains-head [] []);
-  all = λ row among put. absurd (never row (subst (λ r. Contains r row) (none rows) among));
-}
-  where
-    none : (rs : List JointPattern) → take 0 rs ≡ []
-    none [] = refl
-    none (r ∷ rs) = refl
-
-    never : (row : JointPattern) → Contains {X = JointPattern} [] row → ⊥
-    never row (k, within, at) = not-suc-le-zero within
-
-    only : (front : List ℕ) → Contains ([] ∷ []) front → front ≡ []
-    only front (zero, within, at) = sym at
-    only front (suc k, within, at) = absurd (not-suc-le-zero (le_of_suc-le-suc within))
-
--- one row more
-module _ (before : List ℕ) (rows : List JointPattern) (index : ℕ) (row : JointPattern)
-    (within : index < length rows) (is : row ≡ get_or rows index row) where
-  one-more-row : (other : JointPattern) → Contains (take (index + 1) rows) other
-      → Contains (take index rows) other ⊎ (row ≡ other)
-  one-more-row other among =
-      last (take index rows) (subst (λ r. Contains r other)
-      (take_more rows index row within ∙ ap (λ r. take index rows ++ r ∷ []) (sym is)) among)
-    where
-      last : (xs : List JointPattern) → Contains (xs ++ row ∷ []) other → Contains xs other
-          ⊎ (row ≡ other)
-      last [] (zero, inside, at) = inr at
-      last [] (suc k, inside, at) = absurd (not-suc-le-zero (le_of_suc-le-suc inside))
-      last (x ∷ xs) (zero, inside, at) = inl (subst (Contains (x ∷ xs)) at (contains-head x xs))
-      last (x ∷ xs) (suc k, inside, at) = later (last xs (k, le_of_suc-le-suc inside, at))
-        where
-          later : Contains xs other ⊎ (row ≡ other) → Contains (x ∷ xs) other ⊎ (row ≡ other)
-          later (inl among) = inl (contains-tail x other xs among)
-          later (inr same) = inr same
-
-  fronts-kept : (fronts : List (List ℕ))
-      → (has_put before row && not (is_among fronts row.begin)) ≡ false
-      → AreFrontsSoFar before rows index fronts
-      → AreFrontsSoFar before rows (index + 1) fronts
-  fronts-kept fronts old so_far = record {
-    right = so_far.right;
-    nothing = so_far.nothing;
-    all = λ other among put. by other put (one-more-row other among);
-  }
-    where
-      there : (put known : Bool) → has_put before row ≡ put → is_among fronts row.begin ≡ known
-          → (put && not known) ≡ false → has_put before row ≡ true → Contains fronts row.begin
-      there true true put known old has = front-among row.begin fronts known
-      there true false put known old has = absurd (true≢false old)
-      there false known put is_known old has = absurd (true≢false (sym has ∙ put))
-
-      by : (other : JointPattern) → has_put before other ≡ true
-          → Contains (take index rows) other ⊎ (row ≡ other) → Contains fronts other.begin
-      by other put (inl among) = so_far.all other among put
-      by other put (inr same) =
-          subst (λ r. Contains fronts r.begin) same
-          (there (has_put before row) (is_among fronts row.begin) refl refl old
-          (ap (has_put before) same ∙ put))
-
-  fronts-more : (fronts : List (List ℕ)) → has_put before row ≡ true
-      → AreFrontsSoFar before rows index fronts
-      → AreFrontsSoFar before rows (index + 1) (fronts ++ row.begin ∷ [])
-  fronts-more fronts put so_far = record {
-    right = λ front among. right front (parted fronts front among);
-    nothing = Contains-append_left fronts (row.begin ∷ []) [] so_far.nothing;
-    all = λ other among has. by other has (one-more-row other among);
-  }
-    where
-      parted : (xs : List (List ℕ)) (front : List ℕ) → Contains (xs ++ row.begin ∷ []) front
-          → Contains xs front ⊎ (row.begin ≡ front)
-      parted [] front (zero, inside, at) = inr at
-      parted [] front (suc k, inside, at) = absurd (not-suc-le-zero (le_of_suc-le-suc inside))
-      parted (x ∷ xs) front (zero, inside, at) =
-          inl (subst (Contains (x ∷ xs)) at (contains-head x xs))
-      parted (x ∷ xs) front (suc k, inside, at) =
-          later (parted xs front (k, le_of_suc-le-suc inside, at))
-        where
-          later : Contains xs front ⊎ (row.begin ≡ front) → Contains (x ∷ xs) front
-              ⊎ (row.begin ≡ front)
-          later (inl among) = inl (contains-tail x front xs among)
-          later (inr same) = inr same
-
-      among-rows : Contains rows row
-      among-rows = (index, within, sym is)
-
-      right : (front : List ℕ) → Contains fronts front ⊎ (row.begin ≡ front)
-          → (front ≡ [])
-          ⊎ ((r : JointPattern)
-          × (Contains rows r × ((has_put before r ≡ true) × (r.begin ≡ front))))
-      right front (inl among) = so_far.right front among
-      right front (inr same) = inr (row, (among-rows, (put, same)))
-
-      by : (other : JointPattern) → has_put before other ≡ true
-          → Contains (take index rows) other ⊎ (row ≡ other)
-          → Contains (fronts ++ row.begin ∷ []) other.begin
-      by other has (inl among) =
-          Contains-append_left fronts (row.begin ∷ []) other.begin (so_far.all other among has)
-      by other has (inr same) =
-          subst (λ r. Contains (fronts ++ row.begin ∷ []) r.begin) same
-          (Contains-append_right fronts (row.begin ∷ []) row.begin (contains-head row.begin []))
-
-  pub fronts-turn : (fronts : List (List ℕ)) → AreFrontsSoFar before rows index fronts
-      → AreFrontsSoFar before rows (index + 1) (with_front before row fronts)
-  fronts-turn fronts so_far = by (has_put before row && not (is_among fronts row.begin)) refl
-    where
-      by : (new : Bool) → (has_put before row && not (is_among fronts row.begin)) ≡ new
-          → AreFrontsSoFar before rows (index + 1)
-          (if new then fronts ++ row.begin ∷ [] else fronts)
-      by true is =
-          fronts-more fronts (and_parts (has_put before row) (not (is_among fronts row.begin)) is).0
-          so_far
-      by false is = fronts-kept fronts is so_far
-
-pub fronts-whole : (lexicon : Lexicon) (before : List ℕ) (index : ℕ) (fronts : List (List ℕ))
-    → length lexicon.affixes.joints ≤ index
-    → AreFrontsSoFar before lexicon.affixes.joints index fronts
-    → AreFronts lexicon before fronts
-fronts-whole lexicon before index fronts past so_far = record {
-  right = λ front among part long starts. right front part long starts (so_far.right front among);
-  all = λ part begins.
-      all part (or_cases (part.off_begin == 0) (list_any (is_cut_by before part) rows) begins);
-}
-  where
-    rows : List JointPattern
-    rows = lexicon.affixes.joints
-
-    right : (front : List ℕ) (part : Part) → part.off_begin ≡ length front
-        → starts_with nat_eq part.text front ≡ true
-        → (front ≡ [])
-        ⊎ ((row : JointPattern)
-        × (Contains rows row × ((has_put before row ≡ true) × (row.begin ≡ front))))
-        → may_begin lexicon before part ≡ true
-    right front part long starts (inl none) =
-        or_left (part.off_begin == 0) (list_any (is_cut_by before part) rows)
-        (ap (λ n. n == 0) (long ∙ ap length none) ∙ nat-own 0)
-    right front part long starts (inr (row, (among, (put, same)))) =
-        or_right (part.off_begin == 0) (list_any (is_cut_by before part) rows)
-        (any-contains (is_cut_by before part) rows row among
-        (and_from (has_put before row)
-        ((length row.begin == part.off_begin) && starts_with nat_eq part.text row.begin) put
-        (and_from (length row.begin == part.off_begin) (starts_with nat_eq part.text row.begin)
-        (ap (λ n. length row.begin == n) (long ∙ ap length (sym same)) ∙ nat-own (length row.begin))
-        (ap (starts_with nat_eq part.text) same ∙ starts))))
-
-    take-none : (xs : List ℕ) → take 0 xs ≡ []
-    take-none [] = refl
-    take-none (x ∷ xs) = refl
-
-    by-row : (part : Part) → Any (λ row. is_cut_by before part row ≡ true) rows
-        → (front : List ℕ) × (Contains fronts front × ((part.off_begin ≡ length front)
-        × (take part.off_begin part.text ≡ front)))
-    by-row part (k, row, within, at, cut) =
-        let halves = and_parts (has_put before row)
-        ((length row.begin == part.off_begin) && starts_with nat_eq part.text row.begin) cut in
-        let rest = and_parts (length row.begin == part.off_begin)
-        (starts_with nat_eq part.text row.begin) halves.1 in
-        let long : part.off_begin ≡ length row.begin =
-        sym (nat-same (length row.begin) part.off_begin rest.0) in (
-          row.begin,
-          (
-            so_far.all row
-                (subst (λ those. Contains those row) (sym (take_all index rows past))
-                (k, within, at)) halves.0,
-            (
-              long,
-              ap (λ n. take n part.text) long
-                  ∙ ap (take (length row.begin)) (starts-split part.text row.begin rest.1)
-                  ∙ take-append_seam row.begin (drop (length row.begin) part.text),
-            ),
-          ),
-        )
-
-    all : (part : Part) → ((part.off_begin == 0) ≡ true)
-        ⊎ (list_any (is_cut_by before part) rows ≡ true)
-        → (front : List ℕ) × (Contains fronts front × ((part.off_begin ≡ length front)
-        × (take part.off_begin part.text ≡ front)))
-    all part (inl none) =
-        let off : part.off_begin ≡ 0 = nat-same part.off_begin 0 none in
-        ([], (so_far.nothing, (off, ap (λ n. take n part.text) off ∙ take-none part.text)))
-    all part (inr cut) = by-row part (Any-from_list_any (is_cut_by before part) rows cut)
-
--- ---- neighbours
--- nothing is taken off the end of the last part
-pub last-whole : (a : Asked) (part : Part) → may_end a part ≡ true → part.joint ≡ plain_joint
-last-whole a part ends =
-    same-joint part.joint plain_joint (and_parts (is_same_joint part.joint plain_joint) _ ends).0
-
--- what a row that fits two parts says of them
-fits-sides : (lexicon : Lexicon) (x : List ℕ) (d : Derivation) (y : List ℕ) (e : Derivation)
-    (row : JointPattern) → fits_joint lexicon x d y e row ≡ true
-    → (ends_with nat_eq x (end_of row) ≡ true) × (starts_with nat_eq y row.begin ≡ true)
-unfolding fits_joint
-fits-sides lexicon x d y e row fits =
-    let halves =
-    and_parts (ends_as row lexicon x d)
-    (starts_with nat_eq y row.begin &&
-    (has_entry_as_given row.end_flag lexicon d && has_entry_as_given row.begin_flag lexicon e))
-    fits in (
-      by row.unmodified halves.0,
-      (and_parts (starts_with nat_eq y row.begin)
-          (has_entry_as_given row.end_flag lexicon d && has_entry_as_given row.begin_flag lexicon e)
-          halves.1).0,
-    )
-  where
-    by : (whole : Bool) → (if whole then is_entry_word lexicon x d else ends_with nat_eq x row.end)
-        ≡ true → ends_with nat_eq x (if whole then [] else row.end) ≡ true
-    by true is = ends-nothing x
-    by false is = is
-
--- behind a part its neighbour may begin
-pub joined-begins : (a : Asked) (before front : List ℕ) (part next : Part)
-    → IsGivenAs a before front part → are_joined a part next ≡ true
-    → may_begin a.lexicon (before ++ front) next ≡ true
-joined-begins a before front part next is joined = by joint.joint
-  where
-    joint : AreJoined a part next
-    joint = joined-written a part next joined
-
-    -- it begins whole where the joint takes nothing off it
-    whole : next.off_begin ≡ 0 → may_begin a.lexicon (before ++ front) next ≡ true
-    whole none =
-        or_left (next.off_begin == 0)
-        (list_any (is_cut_by (before ++ front) next) a.lexicon.affixes.joints)
-        (ap (λ n. n == 0) none ∙ nat-own 0)
-
-    put-there : (row : JointPattern) (put : List ℕ) → row.replacement ≡ Some put
-        → part.joint ≡ replaced_joint row put → has_put (before ++ front) row ≡ true
-    put-there row put some same =
-        ap (λ found. option_map_or
-        (λ p. nat_lt (length p) (length (before ++ front)) && ends_with nat_eq (before ++ front) p)
-        found false) some
-        ∙ and_from (nat_lt (length put) (length (before ++ front)))
-        (ends_with nat_eq (before ++ front) put)
-        (lt-ltb (length put) (length (before ++ front))
-        (omega (
-          arith,
-          ap length written_is,
-          length-append
-              (before ++ kept part) put,
-          length-append before (kept part),
-          kept-some part
-              (given-keeps a part is.given),
-        )))
-        (ends-from (before ++ front) (before ++ kept part) put written_is)
-      where
-        written_is : before ++ front ≡ (before ++ kept part) ++ put
-        written_is =
-            ap (λ t. before ++ t) (sym is.writes ∙ ap (λ j. kept part ++ j.put) same)
-            ∙ sym (append_assoc before (kept part) put)
-
-    by : IsWrittenJoint a.lexicon part.text part.d next.text next.d part.joint
-        → may_begin a.lexicon (before ++ front) next ≡ true
-    by (Plain same is) = whole (joint.off ∙ ap (λ j. j.off_begin) same)
-    by (Simplified same is) = whole (joint.off ∙ ap (λ j. j.off_begin) same)
-    by (Replaced row put among some same fits allowed) =
-        let off : next.off_begin ≡ length row.begin = joint.off ∙ ap (λ j. j.off_begin) same in
-        or_right (next.off_begin == 0)
-        (list_any (is_cut_by (before ++ front) next) a.lexicon.affixes.joints)
-        (any-contains (is_cut_by (before ++ front) next) a.lexicon.affixes.joints row among
-        (and_from (has_put (before ++ front) row)
-        ((length row.begin == next.off_begin) && starts_with nat_eq next.text row.begin)
-        (put-there row put some same)
-        (and_from (length row.begin == next.off_begin) (starts_with nat_eq next.text row.begin)
-        (ap (λ n. length row.begin == n) off ∙ nat-own (length row.begin))
-        (fits-sides a.lexicon part.text part.d next.text next.d row fits).1)))
-
--- a text that begins with a character
-record BeginsWith (c : ℕ) (text : List ℕ) : Type 0 where
-  more : List ℕ
-  is : text ≡ c ∷ more
-
--- what parts write begins with the first character of a first part that is whole at its front
-first-written : (next : Part) (more : List Part) (c : ℕ) (text : List ℕ) → next.text ≡ c ∷ text
-    → next.off_begin ≡ 0 → keeps_some next ≡ true → BeginsWith c (written (next ∷ more))
-first-written next more c text is off keeps =
-    begins (length next.text - next.joint.off_end)
-    (omega (arith, ltb-true (next.off_begin + next.joint.off_end) (length next.text) keeps))
-  where
-    begins : (n : ℕ) → 0 < n
-        → BeginsWith c ((drop next.off_begin (take n next.text) ++ next.joint.put) ++ written more)
-    begins zero none = absurd (omega (arith, none))
-    begins (suc n) some = record {
-      more = (take n text ++ next.joint.put) ++ written more;
-      is =
-          ap (λ t. (t ++ next.joint.put) ++ written more)
-          (ap (λ o. drop o (take (suc n) next.text)) off ∙ ap (λ t. drop 0 (take (suc n) t)) is);
-    }
-
--- three in a row: the left part ends with the first character of the right one
-tripled-end : (x y : List ℕ) → is_tripled x y ≡ true → (c : ℕ) (more : List ℕ) → y ≡ c ∷ more
-    → ends_with nat_eq x (c ∷ []) ≡ true
-tripled-end x y tripled c more is =
-    by (or_cases (ends_with nat_eq x (c ∷ c ∷ []))
-    (ends_with nat_eq x (c ∷ []) && starts_with nat_eq more (c ∷ []))
-    (subst (λ t. is_tripled x t ≡ true) is tripled))
-  where
-    by : (ends_with nat_eq x (c ∷ c ∷ []) ≡ true)
-        ⊎ ((ends_with nat_eq x (c ∷ []) && starts_with nat_eq more (c ∷ [])) ≡ true)
-        → ends_with nat_eq x (c ∷ []) ≡ true
-    by (inl two) =
-        let front = take (length x - 2) x in
-        ends-from x (front ++ c ∷ []) (c ∷ [])
-        (ends-split x (c ∷ c ∷ []) two ∙ sym (append_assoc front (c ∷ []) (c ∷ [])))
-    by (inr one) =
-        (and_parts (ends_with nat_eq x (c ∷ [])) (starts_with nat_eq more (c ∷ [])) one).0
-
-simplified-points : (lexicon : Lexicon) (x : List ℕ) (d : Derivation) (y : List ℕ) (e : Derivation)
-    → is_simplified lexicon x d y e ≡ true
-    → (lexicon.affixes.options.simplified ≡ true) × (is_tripled x y ≡ true)
-unfolding is_simplified
-simplified-points lexicon x d y e is =
-    let one = and_parts lexicon.affixes.options.simplified _ is in
-    let two = and_parts (is_triple lexicon.affixes.options x y) _ one.1 in
-    (one.0, (and_parts lexicon.affixes.options.check_triple (is_tripled x y) two.0).1)
-
--- the row takes off the front of one of the rests what it names there
-cut-among : (row : JointPattern) (next : Part) (rests : List FirstPart) → HasPart next rests
-    → (length row.begin == next.off_begin) ≡ true → starts_with nat_eq next.text row.begin ≡ true
-    → list_any (cuts row) rests ≡ true
-cut-among row next [] has long starts = absurd has
-cut-among row next (rest ∷ rests) (inl same) long starts =
-    or_left (cuts row rest) (list_any (cuts row) rests)
-    (and_from (length row.begin == rest.part.off_begin)
-    (starts_with nat_eq rest.part.text row.begin)
-    (ap (λ p. length row.begin == p.off_begin) same ∙ long)
-    (ap (λ p. starts_with nat_eq p.text row.begin) same ∙ starts))
-cut-among row next (rest ∷ rests) (inr has) long starts =
-    or_right (cuts row rest) (list_any (cuts row) rests) (cut-among row next rests has long starts)
-
--- a part ends as what follows it asks
-pub joined-ends : (a : Asked) (text following : List ℕ) (rests : List FirstPart) (part next : Part)
-    (more : List Part) → AreRest a text (part ∷ next ∷ more) → written (next ∷ more) ≡ following
-    → HasPart next rests → EndsBefore a.lexicon following rests part
-joined-ends a text following rests part next more rest behind has = by joint.joint
-  where
-    joint : AreJoined a part next
-    joint = joined-written a part next
-        (and_parts (are_joined a part next) (do_meet a (next ∷ more)) rest.meet).0
-
-    short : (y : List ℕ) → next.text ≡ y → is_tripled part.text y ≡ true
-        → a.lexicon.affixes.options.simplified ≡ true → part.joint ≡ simplified_joint
-        → EndsBefore a.lexicon following rests part
-    short [] is tripled simplified same = absurd (true≢false (sym tripled))
-    short (c ∷ y) is tripled simplified same =
-        let begins = first-written next more c y is (joint.off ∙ ap (λ j. j.off_begin) same)
-        (given-keeps a next rest.given.1.0) in
-        Short c begins.more simplified same (sym behind ∙ begins.is)
-        (tripled-end part.text (c ∷ y) tripled c y refl)
-
-    by : IsWrittenJoint a.lexicon part.text part.d next.text next.d part.joint
-        → EndsBefore a.lexicon following rests part
-    by (Plain same is) = Whole same
-    by (Simplified same is) =
-        let points = simplified-points a.lexicon part.text part.d next.text next.d is in
-        short next.text refl points.1 points.0 same
-    by (Replaced row put among some same fits allowed) =
-        let sides = fits-sides a.lexicon part.text part.d next.text next.d row fits in
-        let off : next.off_begin ≡ length row.begin = joint.off ∙ ap (λ j. j.off_begin) same in
-        Cut row put among some same sides.0
-        (cut-among row next rests has
-        (ap (λ n. length row.begin == n) off ∙ nat-own (length row.begin)) sides.1)

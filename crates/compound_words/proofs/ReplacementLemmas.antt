@@ -1,17 +1,16 @@
 -- Words that pairs make, and which of them stand alone.
 use Rattle.std.proofs.Common.{◌≡◌, ◌∙◌, refl, sym, ap, ap₂, ℕ, zero, suc, ◌+◌, ◌<◌, Bool, true}
-use Rattle.std.proofs.Common.{false, cond, ◌&&◌, ◌||◌, not, List, [], ◌∷◌, map, get_or, length}
+use Rattle.std.proofs.Common.{false, cond, ◌&&◌, ◌||◌, List, [], ◌∷◌, map, get_or, length}
 use Rattle.std.proofs.Common.{not-suc-le-zero, le_of_suc-le-suc}
 use Rattle.std.specs.List.{filter, flat_map, list_any, range_with_len}
 use Rattle.std.proofs.lemmas.List.Folds.{list_any_at, list_any-append}
-use Rattle.std.proofs.lemmas.Slice.Eq.{bytes_eq-Decides}
 use Rattle.lists.specs.Laws.{contains-range, range_more}
 use Rattle.spell_types.specs.declared.Lexicon.{Lexicon}
 use Rattle.spell_types.specs.declared.derivations.Derivation.{Derivation}
 use Rattle.spell_types.specs.declared.licences.Case.TheVariants.{Same}
 use Rattle.spell_types.specs.Bases.{is_alone_in_case}
 use Rattle.spell_types.specs.Derivations.{all_derivations}
-use Rattle.spell_types.specs.Licences.{has_entry_with, has_form, is_alone, is_derived}
+use Rattle.spell_types.specs.Licences.{has_form, is_alone, is_derived}
 
 -- ---- words that stand alone
 -- a word is written as it is spelled

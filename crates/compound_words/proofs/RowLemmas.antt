@@ -1,5 +1,5 @@
 -- The rows of a word.
-use Rattle.std.proofs.Common.{◌≡◌, ◌∙◌, refl, sym, ap, subst, ℕ, zero, suc, ◌+◌, ◌-◌, ◌^◌, ◌<◌, ◌≤◌}
+use Rattle.std.proofs.Common.{◌≡◌, ◌∙◌, refl, sym, ap, subst, ℕ, zero, suc, ◌+◌, ◌-◌, ◌<◌, ◌≤◌}
 use Rattle.std.proofs.Common.{Bool, true, false, true≢false, cond, ◌&&◌, ◌==◌, slice_get, ◌⊎◌, inl}
 use Rattle.std.proofs.Common.{inr, List, [], ◌∷◌, ◌++◌, length, take, drop, get_or, Option, None}
 use Rattle.std.proofs.Common.{Some, arith, append-nil, length-drop}
@@ -27,7 +27,7 @@ use Rattle.compound_words.specs.Rests.{Way, ByFlags, ByRule, matches_from, is_en
 use Rattle.compound_words.specs.Rests.{holds, AreRest, IsRight, HasPart, IsRow, IsRowAt, AreRows}
 use Rattle.compound_words.specs.Rests.{AreHeads, Grows, HasFirsts, HasInner, Piece}
 use Rattle.compound_words.specs.Pieces.{EndsBefore, Whole, may_begin}
-use Rattle.compound_words.proofs.PieceLemmas.{joined-begins, joined-ends, last-whole}
+use Rattle.compound_words.proofs.NeighbourLemmas.{joined-begins, joined-ends, last-whole}
 use Rattle.lists.specs.Laws.{each-append, each-weaker}
 use Rattle.compound_words.proofs.LeadLemmas.{matches-nothing, drop-one}
 use Rattle.compound_words.proofs.AddLemmas.{one-left, one-right, one-cases, grows-twice}
@@ -212,11 +212,11 @@ rows-none a rules word from rows rests are is none = record {
         (subst (λ p. AreRest a (drop p word) (part ∷ more)) here rest) so))
 
 -- there are some
-pub rows-more : (a : Asked) (rules : List (List PatternStep)) (word : List ℕ) (from : ℕ)
-    (rows : List Row) (row : Row) → row.place ≡ from → AreRows a rules word from rows → 0 < from
+pub rows-more : {a : Asked} {rules : List (List PatternStep)} {word : List ℕ} {from : ℕ}
+    {rows : List Row} (row : Row) → row.place ≡ from → AreRows a rules word from rows → 0 < from
     → from < length word → IsRow a rules (take from word) (drop from word) row.rests
     → AreHeads row.rests row.heads → AreRows a rules word (from - 1) (rows ++ row ∷ [])
-rows-more a rules word from rows row at are some inside is enough = record {
+rows-more {a} {rules} {word} {from} {rows} row at are some inside is enough = record {
   right =
       each-append (IsRowAt a rules word (from - 1)) rows
       (row ∷ [])
@@ -284,6 +284,13 @@ piece-whole word from place after =
     (sym (drop-twice from (place - from) word ∙ ap (λ n. drop n word) (omega (arith, after))))
     ∙ take-append-drop (place - from) (drop from word)
 
+-- parts make up the word from a place on
+record AreFrom (a : Asked) (rules : List (List PatternStep)) (here : Place) (way : Way)
+    (word : List ℕ) (from : ℕ) (part : Part) (more : List Part) : Type 0 where
+  begins : may_begin a.lexicon (take from word) part ≡ true
+  rest : AreRest a (drop from word) (part ∷ more)
+  so : holds a rules here way (part ∷ more) ≡ true
+
 -- what is known of the parts behind a first one
 record IsNext (a : Asked) (rules : List (List PatternStep)) (word : List ℕ) (place : ℕ)
     (next : Part) (more : List Part) : Type 0 where
@@ -292,15 +299,13 @@ record IsNext (a : Asked) (rules : List (List PatternStep)) (word : List ℕ) (p
   rest : AreRest a (drop place word) (next ∷ more)
   so : holds a rules Middle way (next ∷ more) ≡ true
 
-next-at : MatchesOneByOne → (a : Asked) (rules : List (List PatternStep)) (here : Place)
-    (word : List ℕ) (from : ℕ) (part next : Part) (more : List Part) (way : Way)
-    → from ≤ length word
-    → may_begin a.lexicon (take from word) part ≡ true
-    → AreRest a (drop from word) (part ∷ next ∷ more)
-    → holds a rules here way (part ∷ next ∷ more) ≡ true
+next-at : MatchesOneByOne → {a : Asked} {rules : List (List PatternStep)} {here : Place} {way : Way}
+    {word : List ℕ} {from : ℕ} {part next : Part} {more : List Part} → from ≤ length word
+    → AreFrom a rules here way word from part (next ∷ more)
     → IsNext a rules word (from + length (stretch part)) next more
-next-at law a rules here word from part next more way within begins rest so =
-    let behind = stands-behind law a rules here way part next more so in
+next-at law {a} {rules} {here} {way} {word} {from} {part} {next} {more} within are =
+    let rest = are.rest in
+    let behind = stands-behind law a rules here way part next more are.so in
     let text = drop (from + length (stretch part)) word in
     record {
       way = behind.way;
@@ -308,7 +313,7 @@ next-at law a rules here word from part next more way within begins rest so =
           subst (λ b. may_begin a.lexicon b next ≡ true)
           (front-place a word from part (next ∷ more) within rest)
           (joined-begins a (take from word) (stretch part) part next
-          (record { given = rest.given.0; writes = refl; begins = begins })
+          (record { given = rest.given.0; writes = refl; begins = are.begins })
           (rest-joint a (drop from word) part next more rest));
       rest =
           rest-tail a text (stretch part) part next more refl
@@ -318,10 +323,10 @@ next-at law a rules here word from part next more way within begins rest so =
     }
 
 -- the places of rows so far, and one more
-pub rows-one-more : MatchesOneByOne → (a : Asked) (rules : List (List PatternStep)) (here : Place)
-    (word : List ℕ) (from : ℕ) (rows : List Row) (index : ℕ) (item d : Row)
-    (before middle now : List FirstPart)
-    → from ≤ length word → index < length rows → item ≡ get_or rows index d
+pub rows-one-more : MatchesOneByOne → {a : Asked} {rules : List (List PatternStep)} {here : Place}
+    {word : List ℕ} {from : ℕ} {rows : List Row} {index : ℕ} {item : Row}
+    {before middle now : List FirstPart}
+    → from ≤ length word → index < length rows → item ≡ get_or rows index item
     → AllByRecursion (IsRowAt a rules word from) rows
     → Grows a rules here
     (take (item.place - from) (drop from word) ++ drop item.place word) middle now
@@ -329,20 +334,20 @@ pub rows-one-more : MatchesOneByOne → (a : Asked) (rules : List (List PatternS
     (piece_to word from item) now
     → AreSoFar a rules here word from rows index before middle
     → AreSoFar a rules here word from rows (index + 1) before now
-rows-one-more law a rules here word from rows index item d before middle now inside within at right
-    grows firsts so_far = record {
+rows-one-more law {a} {rules} {here} {word} {from} {rows} {index} {item} {before} {middle} {now}
+    inside within at right grows firsts so_far = record {
       grows = grows-twice a rules here (drop from word) before middle now so_far.grows grown;
       has =
           λ part next more way begins rest so one. by part next more way begins rest so
           (one-cases (λ row. row.place ≡ from + length (stretch part)) (take index rows) (item ∷ [])
           (subst (OneOf (λ row. row.place ≡ from + length (stretch part)))
-          (take_more rows index d within ∙ ap (λ row. take index rows ++ row ∷ []) (sym at)) one));
+          (take_more rows index item within ∙ ap (λ row. take index rows ++ row ∷ []) (sym at)) one));
     }
   where
     is : IsRowAt a rules word from item
     is =
         subst (IsRowAt a rules word from) (sym at)
-        (row-at a rules word from rows index d within right)
+        (row-at a rules word from rows index item within right)
 
     whole : take (item.place - from) (drop from word) ++ drop item.place word ≡ drop from word
     whole = piece-whole word from item.place is.after
@@ -374,45 +379,46 @@ rows-one-more law a rules here word from rows index item d before middle now ins
         after : IsNext a rules word item.place next more
         after =
             subst (λ place. IsNext a rules word place next more) (sym same)
-            (next-at law a rules here word from part next more way inside begins rest so)
+            (next-at law inside (record { begins = begins; rest = rest; so = so }))
 
         ends : EndsBefore a.lexicon (drop item.place word) item.rests part
         ends =
-            joined-ends a (drop from word) (drop item.place word) item.rests part next more rest
+            joined-ends a part next more rest
             (behind-place a word from part (next ∷ more) rest ∙ ap (λ n. drop n word) (sym same))
             (is.is.all next more after.way after.begins after.rest after.so)
     by part next more way begins rest so (inr (inr nil)) = absurd nil
 
 -- all rows are gone over
-pub rows-all : MatchesOneByOne → (a : Asked) (rules : List (List PatternStep)) (here : Place)
-    (word : List ℕ) (from : ℕ) (rows : List Row) (index : ℕ) (before now : List FirstPart)
+pub rows-all : MatchesOneByOne → {a : Asked} {rules : List (List PatternStep)} {here : Place}
+    {word : List ℕ} {from : ℕ} {rows : List Row} {index : ℕ} {before now : List FirstPart}
     → from ≤ length word → length rows ≤ index → AreRows a rules word from rows
     → AreSoFar a rules here word from rows index before now
     → HasInner a rules here (take from word) (drop from word) now
-rows-all law a rules here word from rows index before now within past are so_far part next more way
-    begins rest so =
+rows-all law {a} {rules} {here} {word} {from} {rows} {index} {before} {now} within past are so_far
+    part next more way begins rest so =
     let some = given-some a part rest.given.0 in
     let place = from + length (stretch part) in
-    let after = next-at law a rules here word from part next more way within begins rest so in
+    let after = next-at law within (record { begins = begins; rest = rest; so = so }) in
     so_far.has part next more way begins rest so
     (subst (OneOf (λ row. row.place ≡ place)) (sym (take_all index rows past))
     (are.all place next more after.way (omega (arith, some))
     (inside-place a word from part next more rest) after.begins after.rest after.so))
 
 -- a row of the rests of one part and of those of more
-pub row-whole : (a : Asked) (rules : List (List PatternStep)) (before text front : List ℕ)
-    (start middle now : List FirstPart) → start ≡ [] → front ≡ text
+pub row-whole : {a : Asked} {rules : List (List PatternStep)} {before text front : List ℕ}
+    {start middle now : List FirstPart} → start ≡ [] → front ≡ text
     → Grows a rules Middle front start middle
     → HasFirsts a rules Middle front
     (record { before = before; front = front; following = []; rests = [] }) middle
     → Grows a rules Middle text middle now
     → HasInner a rules Middle before text now → IsRow a rules before text now
-row-whole a rules before text front start middle now none same grows firsts grown inner = record {
-  right =
-      grown.right ((subst (λ t. Grows a rules Middle t start middle) same grows).right
-      (subst (AllByRecursion (IsRight a rules Middle text)) (sym none) tt));
-  all = all;
-}
+row-whole {a} {rules} {before} {text} {front} {start} {middle} {now} none same grows firsts grown
+    inner = record {
+      right =
+          grown.right ((subst (λ t. Grows a rules Middle t start middle) same grows).right
+          (subst (AllByRecursion (IsRight a rules Middle text)) (sym none) tt));
+      all = all;
+    }
   where
     all : (part : Part) (more : List Part) (way : Way) → may_begin a.lexicon before part ≡ true
         → AreRest a text (part ∷ more) → holds a rules Middle way (part ∷ more) ≡ true

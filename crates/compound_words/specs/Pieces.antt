@@ -11,7 +11,7 @@ use Rattle.spell_types.specs.declared.joints.WrittenJoint.{WrittenJoint}
 use Rattle.spell_types.specs.declared.parts.Part.{Part}
 use Rattle.spell_types.specs.Cases.{is_among}
 use Rattle.spell_types.specs.Compounds.{Asked, IsGiven, may_be_part, part_with, stretch}
-use Rattle.spell_types.specs.Joints.{last_of, plain_joint, replaced_joint, simplified_joint}
+use Rattle.spell_types.specs.Joints.{plain_joint, replaced_joint, simplified_joint}
 use Rattle.compound_words.specs.declared.rests.FirstPart.{FirstPart}
 use Rattle.compound_words.specs.Counting.{OneOf}
 

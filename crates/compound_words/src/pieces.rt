@@ -2,9 +2,9 @@
 
 ghost use Rattle.std.specs.Prelude.{◌≡◌, ◌≤◌, ◌++◌, ◌&&◌, [], not, IfOk, OnOk, length};
 ghost use Rattle.std.specs.List.{flat_map, list_any};
-ghost use Rattle.spell_types.specs.Joints.{plain_joint, replaced_joint};
+ghost use Rattle.spell_types.specs.Joints.{plain_joint};
 ghost use Rattle.spell_types.specs.Cases.{is_among};
-ghost use Rattle.compound_words.specs.Pieces.{AreFronts, cuts, end_of, has_put, parts_kept};
+ghost use Rattle.compound_words.specs.Pieces.{AreFronts, cuts, has_put, parts_kept};
 ghost use Rattle.compound_words.specs.Pieces.{parts_of, parts_put, parts_replaced, parts_short};
 ghost use Rattle.compound_words.specs.Pieces.{parts_with, with_front, AreParts};
 ghost use Rattle.compound_words.specs.Rests.{asked_by};
@@ -12,7 +12,7 @@ ghost use Rattle.compound_words.specs.Rests.{asked_by};
 use crate::rests::FirstPart;
 use crate::search::Search;
 use affix_strip::derivations_are;
-use joint_checks::is_long_enough;
+use joint_checks::{bare_joint, end_of, is_long_enough, replaced_joint};
 use lists::{Copied, Items, NoMemory};
 use spell_types::{Chars, JointPattern, Lexicon, Part, WrittenJoint};
 use std::alloc::Global;
@@ -137,7 +137,7 @@ fn add_plain(
     let ending = Ending {
         kept: piece.text,
         end: &[],
-        joint: joint_with(alloc, 0),
+        joint: bare_joint(alloc, 0),
     };
     add_kept(alloc, search, &piece.start.fronts, &ending, found)
 }
@@ -164,21 +164,10 @@ fn add_short(
             let ending = Ending {
                 kept: piece.text,
                 end: &[*c],
-                joint: joint_with(alloc, 1),
+                joint: bare_joint(alloc, 1),
             };
             add_kept(alloc, search, &piece.start.fronts, &ending, found)
         }
-    }
-}
-
-/// A joint that takes so many characters off the end of the left part, and puts nothing.
-fn joint_with(alloc: Global, off_end: usize) -> WrittenJoint
-    ensures { result ≡ record { off_end = off_end; put = []; off_begin = 0 } }
-{
-    WrittenJoint {
-        off_end,
-        put: Items::new(alloc),
-        off_begin: 0,
     }
 }
 
@@ -244,24 +233,6 @@ fn add_put(
             add_kept(alloc, search, &piece.start.fronts, &ending, found)
         }
     }
-}
-
-/// What a row takes off the end of the left part: nothing, if it names a whole word there.
-fn end_of(row: &JointPattern) -> &[char]
-    ensures { result.now ≡ end_of row.now }
-{
-    if row.unmodified { &[] } else { &row.end }
-}
-
-/// The joint of a row with this replacement.
-fn replaced_joint(alloc: Global, row: &JointPattern, put: &Chars) -> Result<WrittenJoint, NoMemory>
-    ensures { IfOk result (λ joint. joint ≡ replaced_joint row.now put.now) }
-{
-    Ok(WrittenJoint {
-        off_end: end_of(row).len(),
-        put: put.copy(alloc)?,
-        off_begin: row.begin.len(),
-    })
 }
 
 /// Adds the parts with an ending, whose front one of these texts may have been.

@@ -7,12 +7,11 @@ ghost use Rattle.spell_types.specs.Derivations.{form_of};
 ghost use Rattle.affix_strip.specs.Found.{derivations_of};
 ghost use Rattle.spell_types.specs.Compounds.{are_joined, may_be_part, part_with, is_right_in_case};
 ghost use Rattle.spell_types.specs.Compounds.{may_end};
-ghost use Rattle.spell_types.specs.Joints.{is_same_joint, plain_joint};
 ghost use Rattle.spell_types.specs.Sanity.{IsSane};
 ghost use Rattle.compound_words.specs.Rests.{asked_by};
 
 use affix_strip::Stems;
-use joint_checks::{is_long_enough, is_written_joint};
+use joint_checks::{is_long_enough, is_plain, is_written_joint};
 use lists::{Copied, Items, NoMemory};
 use spell_types::{Derivation, Lexicon, Part, Pattern, WrittenJoint, has_entry_with, sound};
 use std::alloc::Global;
@@ -74,7 +73,7 @@ impl Search<'_> {
         ensures { result ≡ may_end (asked_by self.now) part.now }
     {
         let lexicon = self.lexicon();
-        is_whole(&part.joint)
+        is_plain(&part.joint)
             && (self.capital
                 || !has_entry_with(lexicon.affixes.signs.force_upper, lexicon, &part.d))
     }
@@ -139,14 +138,6 @@ impl Search<'_> {
         }
         Ok(())
     }
-}
-
-/// Whether a joint takes nothing off and puts nothing.
-#[tactic(auto, unfolding(spell_types::specs::Joints::is_same_joint))]
-fn is_whole(joint: &WrittenJoint) -> bool
-    ensures { result ≡ is_same_joint joint.now plain_joint }
-{
-    joint.off_end == 0 && joint.put.as_slice() == [].as_slice() && joint.off_begin == 0
 }
 
 /// Whether a text keeps a character, if so many are taken off at both sides.

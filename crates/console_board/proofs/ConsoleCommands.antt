@@ -131,7 +131,7 @@ here-is board index paragraph ids valid here =
       stands = get_or standings index standing.Waiting;
       at = record { place_is = place-is; paragraph_is = here; standing_is = beside };
       named = find_at named paragraphs ∙ ap (slice_get paragraphs) first ∙ here;
-      found_is = find-beside named paragraphs standings index paragraph _ first here beside;
+      found_is = find-beside named paragraphs standings index first here beside;
     }
 
 -- what the core asks of the index at which a text is put in, and what is kept of each paragraph
@@ -203,12 +203,12 @@ module _ (told : Option Folder) (by : ℕ) (board after : Seen) (reply : Reply) 
 
   -- a test that the console makes as the board does, and what comes behind it
   tested : (event : SeenEvent) (holds : Bool) (refusal : EditRefusal) (said : Reply)
-      (rest : Option EditRefusal) (outcome : Outcome) → reply_for (refusal_of refusal) ≡ Some said
+      (rest : Option EditRefusal) {outcome : Outcome} → reply_for (refusal_of refusal) ≡ Some said
       → Told event (option_map refusal_of (option_or (unless_edit holds refusal) rest))
       → (holds ≡ true → Told event (option_map refusal_of rest) → Becomes outcome)
       → Becomes (cond holds outcome (record { reply = said; after = console }))
-  tested event true refusal said rest outcome says answered goes = goes refl answered
-  tested event false refusal said rest outcome says answered goes =
+  tested event true refusal said rest says answered goes = goes refl answered
+  tested event false refusal said rest says answered goes =
       replied said (sym says ∙ answered.0) answered.1
 
   last-tested : (event : SeenEvent) (holds : Bool) (refusal : EditRefusal) (said : Reply)
@@ -279,7 +279,7 @@ module _ (told : Option Folder) (by : ℕ) (board after : Seen) (reply : Reply) 
         record { id = paragraph.id; rev = board.text_version + 1; text = made } in
         rw text-here (
         tested event (is_span text from to) (edits.BadSpan (length text)) (NoBadSpan (length text))
-        _ _ refl (rw (here.named, own-rev) at answered)
+        _ refl (rw (here.named, own-rev) at answered)
         (λ span rest. last-tested event (leb (length made) MOST_BYTES) (edits.TooLong (length made))
         (NoTooLong (length made)) _ refl (past-break event _ _ rest)
         (λ short is. taken (Replace paragraph.id paragraph.rev from to put)
@@ -416,7 +416,7 @@ module _ (told : Option Folder) (by : ℕ) (board after : Seen) (reply : Reply) 
         rw (long, place-is, long) (
         tested event (leb (length put) MOST_BYTES) (edits.TooLong (length put))
         (NoTooLong (length put))
-        _ (cond (ltb count MOST_PARAGRAPHS) (edited console texts stands) no-room) refl
+        _ {outcome = cond (ltb count MOST_PARAGRAPHS) (edited console texts stands) no-room} refl
         (past-break event _ _ (rw gap.gone at answered))
         (λ short rest. last-tested event (ltb count MOST_PARAGRAPHS) (edits.Full count)
         (NoFull count)

@@ -1,6 +1,6 @@
 -- The best pattern so far, one character after another.
 use Rattle.std.proofs.Common.{◌≡◌, ◌∙◌, ◌⊎◌, inl, inr, refl, sym, ap, subst, ℕ, ◌+◌, ◌<◌, ◌≤◌, Bool}
-use Rattle.std.proofs.Common.{true, false, List, [], ◌∷◌, ◌++◌, length, take, get_or, slice_get}
+use Rattle.std.proofs.Common.{true, false, List, [], ◌∷◌, length, take, get_or, slice_get}
 use Rattle.std.proofs.Common.{nat_eq, Contains, Option, None, Some, arith}
 use Rattle.std.specs.Cmp.{IsTotalOrder}
 use Rattle.std.specs.Cmp.Lexicographic.{pointwise, slice_cmp}
@@ -12,14 +12,12 @@ use Rattle.std.proofs.lemmas.Bool.{cases_lt}
 use Rattle.std.proofs.lemmas.Bool.Decides.{nat_tests}
 use Rattle.std.proofs.lemmas.Cmp.{nat_list_cmp_total, nat_cmp_total, then_total, on_total}
 use Rattle.std.proofs.lemmas.Cmp.{tied_itself}
-use Rattle.std.proofs.lemmas.List.{length-take-le, take-take, take_more}
-use Rattle.std.proofs.lemmas.List.Elements.{filter_passes, All-filter, All-contains}
-use Rattle.std.proofs.lemmas.List.Elements.{All-contains_itself}
+use Rattle.std.proofs.lemmas.List.{length-take-le, take-take}
 use Rattle.std.proofs.lemmas.List.Kept.{IsSortedBy-filter}
 use Rattle.std.proofs.lemmas.List.Sorted.{ranks_by, sorted_far}
 use Rattle.std.proofs.lemmas.Option.{get_or_from_slice_get, slice_get_within}
 use Rattle.std.proofs.lemmas.Slice.Eq.{bytes_eq-Decides}
-use Rattle.lists.specs.Laws.{contains-filter, filter-holds, filter-among}
+use Rattle.lists.specs.Laws.{contains-filter, contains-none, filter-holds, filter-among}
 use Rattle.lists.specs.TextOrder.{AreInOrder, beginning, having}
 use Rattle.conversions.specs.Patterns.{Pattern, pattern_cmp, AreSorted, FitsUpTo, IsBestUpTo}
 use Rattle.conversions.specs.Patterns.{BestUpTo}
@@ -35,7 +33,7 @@ then-not_less Less more is = is
 then-not_less Equal more is = refl
 then-not_less Greater more is = refl
 
-sorted-in_order : (patterns : List Pattern) → AreSorted patterns → AreInOrder patterns
+pub sorted-in_order : (patterns : List Pattern) → AreSorted patterns → AreInOrder patterns
 sorted-in_order patterns sorted = λ k d above within. then-not_less _ _ (sorted k d above within)
 
 equal-rise : (text other : List ℕ) (place later : ℕ) → text ≡ other
@@ -53,9 +51,6 @@ equal-rise text other place later same order =
 first-among : (found : List Pattern) (p : Pattern) → slice_get found 0 ≡ Some p → Contains found p
 first-among found p first =
     (0, slice_get_within found 0 p first, get_or_from_slice_get found 0 p p first)
-
-none-among : (found : List Pattern) (p : Pattern) → found ≡ [] → Contains found p → ⊥
-none-among found p none (k, within, at) = omega (arith, within, ap length none)
 
 -- ---- patterns at the front of a text
 fits-more : (text : List ℕ) (n : ℕ) (from : List ℕ) → FitsUpTo text (n + 1) from
@@ -92,28 +87,6 @@ begins text n m from within long fit =
     ∙ take-take n (length from) text long in
     (bytes_eq-Decides (take n text) (take (length (take n text)) from)).1 (sym front)
 
--- ---- one character more
-pub all_begin : (patterns : List Pattern) (text : List ℕ)
-    → patterns ≡ beginning (take 0 text) patterns
-all_begin [] text = refl
-all_begin (p ∷ patterns) text = ap (λ ps. p ∷ ps) (all_begin patterns text)
-
-next_front : (text : List ℕ) (depth c : ℕ) → depth < length text → c ≡ get_or text depth c
-    → take depth text ++ c ∷ [] ≡ take (depth + 1) text
-next_front text depth c within is =
-    ap (λ x. take depth text ++ x ∷ []) is ∙ sym (take_more text depth c within)
-
-pub alike_more : (patterns alike now : List Pattern) (text : List ℕ) (depth c : ℕ)
-    → AreSorted patterns → depth < length text → c ≡ get_or text depth c
-    → alike ≡ beginning (take depth text) patterns
-    → ((all : List Pattern) (front : List ℕ) → AreInOrder all → length front ≡ depth
-    → alike ≡ beginning front all → now ≡ beginning (front ++ c ∷ []) all)
-    → now ≡ beginning (take (depth + 1) text) patterns
-alike_more patterns alike now text depth c sorted within is so_far goes_on =
-    goes_on patterns (take depth text) (sorted-in_order patterns sorted)
-    (length-take-le depth text (omega (arith, within))) so_far
-    ∙ ap (λ front. beginning front patterns) (next_front text depth c within is)
-
 -- ---- the best so far
 pub none_yet : (patterns : List Pattern) (text : List ℕ) → BestUpTo patterns text 0 None
 none_yet patterns text = λ p among fit. omega (arith, fit.some, fit.upto)
@@ -143,7 +116,7 @@ none_longer patterns text n best found is none was =
       where
         by : (p.0.items ≡ take (n + 1) text) ⊎ FitsUpTo text n p.0.items → FitsUpTo text n p.0.items
         by (inr fit) = fit
-        by (inl same) = absurd (none-among found p none (subst (λ ps. Contains ps p) (sym is)
+        by (inl same) = absurd (contains-none found p none (subst (λ ps. Contains ps p) (sym is)
             (contains-filter (λ (q : Pattern). pointwise nat_eq q.0.items (take (n + 1) text))
             patterns p among ((bytes_eq-Decides p.0.items (take (n + 1) text)).1 same))))
 
@@ -160,7 +133,7 @@ none_begins patterns text n best within none was =
       where
         by : (length p.0.items < n + 1) ⊎ (n + 1 ≤ length p.0.items) → FitsUpTo text n p.0.items
         by (inl less) = record { some = fit.some; upto = omega (arith, less); front = fit.front }
-        by (inr long) = absurd (none-among (beginning (take (n + 1) text) patterns) p none
+        by (inr long) = absurd (contains-none (beginning (take (n + 1) text) patterns) p none
             (contains-filter (λ (q : Pattern). starts_with nat_eq q.0.items (take (n + 1) text))
             patterns p among (begins text (n + 1) (length text) p.0.items within long fit)))
 

@@ -1,5 +1,5 @@
 -- What is found of a paragraph by its id.
-use Rattle.std.proofs.Common.{◌≡◌, ◌∙◌, sym, subst, ℕ, ◌<◌, ◌==◌, length, None, Some}
+use Rattle.std.proofs.Common.{◌≡◌, sym, subst, ℕ, ◌<◌, ◌==◌, length, None, Some}
 use Rattle.std.proofs.lemmas.Option.{cond_some, slice_get-get_or}
 use Rattle.paragraph_text.specs.Laws.{found-none as none-found, some-at as stands-at}
 use Rattle.paragraph_text.specs.Paragraphs.{Paragraph}
@@ -21,8 +21,7 @@ pub found-some : (board : Seen) (id place : ℕ) (paragraph : Paragraph) (stands
     → IsAt board id place paragraph stands
     → found id board ≡ Some (paragraph, stands)
 found-some board id place paragraph stands here =
-    find-beside (λ (p : Paragraph). p.id == id) board.paragraphs board.standings place paragraph
-    stands
+    find-beside (λ (p : Paragraph). p.id == id) board.paragraphs board.standings place
     (cond_some _ _ place here.place_is).1 here.paragraph_is here.standing_is
 
 -- where the id has a place, a paragraph stands there in some way

@@ -1,17 +1,14 @@
 -- Texts that may open a history, and the board that they open it with.
-use Rattle.std.proofs.Common.{◌≡◌, ◌∙◌, refl, sym, ap, subst, ℕ, suc, ◌+◌, ◌≤◌, ◌^◌, ◌==◌, false}
-use Rattle.std.proofs.Common.{List, [], ◌∷◌, length, map, position, None, arith}
-use Rattle.std.proofs.lemmas.Bool.{eqb-false}
-use Rattle.lists.specs.Laws.{each-weaker}
+use Rattle.std.proofs.Common.{◌≡◌, ◌∙◌, refl, sym, ap, subst, ℕ, ◌+◌, ◌≤◌, ◌^◌}
+use Rattle.std.proofs.Common.{List, [], ◌∷◌, length, map, arith}
 use Rattle.spell_types.specs.declared.Lexicon.{Lexicon}
-use Rattle.paragraph_text.specs.Paragraphs.{Paragraph, AreValid, HasNoBreak, numbered_from}
+use Rattle.paragraph_text.specs.Paragraphs.{Paragraph, AreValid, numbered_from}
 use Rattle.paragraph_text.specs.Laws.{numbered-length}
 use Rattle.edit_core.specs.Seen.{IsValidBoard, AreTheirs, opening_of, standing_of}
 use Rattle.edit_core.specs.declared.state.Standing.TheVariants as standing
 use Rattle.edit_core.specs.declared.state.State.{State}
 use Rattle.edit_core.specs.declared.state.State.TheVariants as state
 use Rattle.edit_core.proofs.Kept.{IsKept, map-long, seen}
-use Rattle.edit_core.proofs.Waiting.{none-passes}
 use Rattle.paragraph_text.specs.declared.limits.TheConstants.{MOST_PARAGRAPHS}
 
 -- texts that wait are right wherever they stand

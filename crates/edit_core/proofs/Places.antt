@@ -1,8 +1,8 @@
 -- Where the paragraph with an id stands, and what is kept of each paragraph, place by place.
 use Rattle.std.proofs.Common.{◌≡◌, ◌∙◌, refl, sym, ap, subst, ℕ, zero, suc, ◌+◌, Bool, true, false}
-use Rattle.std.proofs.Common.{cond, not, List, [], ◌∷◌, length, set, position, find, slice_get, ltb}
-use Rattle.std.proofs.Common.{Option, None, Some, arith}
-use Rattle.std.specs.List.{AllZip, insert, remove, position_or_len, zip}
+use Rattle.std.proofs.Common.{cond, not, List, [], ◌∷◌, length, set, position, slice_get, ltb}
+use Rattle.std.proofs.Common.{None, Some, arith}
+use Rattle.std.specs.List.{AllZip, insert, remove, position_or_len}
 use Rattle.std.specs.Option.{option_map, option_map_or}
 use Rattle.std.proofs.lemmas.Bool.Decides.{nat_tests}
 use Rattle.paragraph_text.specs.Paragraphs.{Paragraph}

@@ -1,11 +1,12 @@
 //! All joints that write two parts of a compound together.
 
-ghost use Rattle.std.specs.Prelude.{◌≡◌, [], IfOk, OnOk, fold};
-ghost use Rattle.spell_types.specs.Joints.{joint_of_row, joints_of};
+ghost use Rattle.std.specs.Prelude.{◌≡◌, IfOk, OnOk, fold};
+ghost use Rattle.spell_types.specs.Joints.{joints_of};
 ghost use Rattle.joint_checks.specs.Listing.{is_listed, is_of, with_joint, with_row};
 
-use crate::written::{is_same, is_written_joint, off_end_of};
-use lists::{Copied, Items, NoMemory};
+use crate::of_rows::{bare_joint, is_same, joint_of_row};
+use crate::written::is_written_joint;
+use lists::NoMemory;
 use smallvec::SmallVec;
 use spell_types::{Derivation, JointPattern, Lexicon, WrittenJoint};
 use std::alloc::Global;
@@ -52,17 +53,6 @@ pub fn joints(
     Ok(found)
 }
 
-/// The joint that takes so many characters off the end of the left part, and does nothing else.
-fn bare_joint(alloc: Global, off_end: usize) -> WrittenJoint
-    ensures { result ≡ record { off_end = off_end; put = []; off_begin = 0 } }
-{
-    WrittenJoint {
-        off_end,
-        put: Items::new(alloc),
-        off_begin: 0,
-    }
-}
-
 /// Adds the joints of the rows, each as `add` does.
 fn add_of_rows(
     alloc: Global,
@@ -92,20 +82,6 @@ fn add_of_row(
         add(two, joint, found)?;
     }
     Ok(())
-}
-
-/// The joint of a row, if it has a replacement.
-fn joint_of_row(alloc: Global, row: &JointPattern) -> Result<Option<WrittenJoint>, NoMemory>
-    ensures { IfOk result (λ joint. joint ≡ joint_of_row row.now) }
-{
-    match &row.replacement {
-        None => Ok(None),
-        Some(put) => Ok(Some(WrittenJoint {
-            off_end: off_end_of(row),
-            put: put.copy(alloc)?,
-            off_begin: row.begin.len(),
-        })),
-    }
 }
 
 /// Adds a joint at the end, if it is one of the two parts and not there already.

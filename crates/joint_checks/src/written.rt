@@ -1,12 +1,13 @@
 //! How two parts of a compound are written together.
 
-ghost use Rattle.std.specs.Prelude.{◌≡◌, false, length, if◌then◌else◌};
+ghost use Rattle.std.specs.Prelude.{◌≡◌, false};
 ghost use Rattle.std.specs.List.{list_any};
 ghost use Rattle.std.specs.Option.{option_map_or};
 ghost use Rattle.spell_types.specs.Joints.{is_replaced_by, is_same_joint, is_simplified};
 ghost use Rattle.spell_types.specs.Joints.{is_written_joint, joint_of_row};
 
 use crate::meeting::{fits_joint, is_case, is_dup, is_joint_of, is_triple, joint_ok, one_fits};
+use crate::of_rows::{is_plain, is_same, off_end_of};
 use spell_types::{Derivation, JointPattern, Lexicon, WrittenJoint};
 
 /// Whether a joint writes two parts together, the forms of these derivations: as they are, with one
@@ -24,7 +25,7 @@ pub fn is_written_joint(
 ) -> bool
     ensures { result ≡ is_written_joint lexicon.now x.now d.now y.now e.now joint.now }
 {
-    (is_same(joint, 0, &[], 0) && joint_ok(lexicon, x, d, y, e))
+    (is_plain(joint) && joint_ok(lexicon, x, d, y, e))
         || (is_same(joint, 1, &[], 0) && is_simplified(lexicon, x, d, y, e))
         || (is_joint_of(&lexicon.affixes.options, x, y) && is_replaced(lexicon, x, d, y, e, joint))
 }
@@ -68,21 +69,4 @@ fn is_of_row(joint: &WrittenJoint, row: &JointPattern) -> bool
         None => false,
         Some(put) => is_same(joint, off_end_of(row), put, row.begin.len()),
     }
-}
-
-/// How many characters a row takes off the end of the left part: none, if it names a whole word
-/// there.
-pub(crate) fn off_end_of(row: &JointPattern) -> usize
-    ensures { result ≡ (if row.now.unmodified then 0 else length row.now.end) }
-{
-    if row.unmodified { 0 } else { row.end.len() }
-}
-
-/// Whether a joint takes so many characters off on both sides, and puts this between them.
-#[tactic(auto, unfolding(spell_types::specs::Joints::is_same_joint))]
-pub(crate) fn is_same(joint: &WrittenJoint, off_end: usize, put: &[char], off_begin: usize) -> bool
-    ensures { result ≡ is_same_joint joint.now
-        (record { off_end = off_end; put = put.now; off_begin = off_begin }) }
-{
-    joint.off_end == off_end && *joint.put.as_slice() == *put && joint.off_begin == off_begin
 }

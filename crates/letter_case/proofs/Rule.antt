@@ -10,9 +10,10 @@ use Rattle.std.proofs.lemmas.Slice.Eq.{bytes_eq-Decides}
 use Rattle.spell_types.specs.Cases.{begins_upper, has_lower, first_lowered, all_lowered}
 use Rattle.spell_types.specs.Cases.{rest_lowered, is_same_word, is_among, without_repeats}
 use Rattle.spell_types.specs.Cases.{covered_by, spellings_of_capital, spellings_of_capitals}
-use Rattle.spell_types.specs.Cases.{spellings_of_sharps, sharp_lowered, sharp_kept, most_pairs}
+use Rattle.spell_types.specs.Cases.{spellings_of_sharps, sharp_lowered, sharp_kept}
 use Rattle.spell_types.specs.Cases.{IsOne, Covers}
 use Rattle.letter_case.proofs.Repeats.{same-≡}
+use Rattle.spell_types.specs.declared.limits.TheConstants.{MOST_PAIRS}
 
 ≡-same : (word other : List ℕ) → word ≡ other → is_same_word word other ≡ true
 ≡-same word other same = (bytes_eq-Decides word other).1 same
@@ -112,11 +113,11 @@ to_capitals written word false lower rule =
 abbrev AsSharps : Bool → List ℕ → List ℕ → Type 0
 AsSharps sharps written word =
     IsTrue sharps × (IsTrue (not (has_lower written))
-    × (IsOne (sharp_lowered most_pairs written) word ⊎ IsOne (sharp_kept most_pairs written) word))
+    × (IsOne (sharp_lowered MOST_PAIRS written) word ⊎ IsOne (sharp_kept MOST_PAIRS written) word))
 
 module _ (written word : List ℕ) where
   abbrev both : List (List ℕ)
-  both = sharp_lowered most_pairs written ++ sharp_kept most_pairs written
+  both = sharp_lowered MOST_PAIRS written ++ sharp_kept MOST_PAIRS written
 
   from_sharps : (sharps b : Bool) → has_lower written ≡ b
       → is_among (cond b [] (cond sharps both [])) word ≡ true → AsSharps sharps written word
@@ -126,11 +127,11 @@ module _ (written word : List ℕ) where
     refl,
     (
       ap not lower,
-      or_cases (is_among (sharp_lowered most_pairs written) word)
-          (is_among (sharp_kept most_pairs written) word)
+      or_cases (is_among (sharp_lowered MOST_PAIRS written) word)
+          (is_among (sharp_kept MOST_PAIRS written) word)
           (sym (list_any-append (λ other. is_same_word other word)
-          (sharp_lowered most_pairs written)
-          (sharp_kept most_pairs written)) ∙ among),
+          (sharp_lowered MOST_PAIRS written)
+          (sharp_kept MOST_PAIRS written)) ∙ among),
     ),
   )
 
@@ -139,13 +140,13 @@ module _ (written word : List ℕ) where
   to_sharps sharps true lower rule = absurd (false≢true (sym (ap not lower) ∙ rule.1.0))
   to_sharps false false lower rule = absurd (false≢true rule.0)
   to_sharps true false lower rule =
-      list_any-append (λ other. is_same_word other word) (sharp_lowered most_pairs written)
-      (sharp_kept most_pairs written) ∙ either rule.1.1
+      list_any-append (λ other. is_same_word other word) (sharp_lowered MOST_PAIRS written)
+      (sharp_kept MOST_PAIRS written) ∙ either rule.1.1
     where
-      either : IsOne (sharp_lowered most_pairs written) word
-          ⊎ IsOne (sharp_kept most_pairs written) word
-          → (is_among (sharp_lowered most_pairs written) word || is_among
-          (sharp_kept most_pairs written) word) ≡ true
+      either : IsOne (sharp_lowered MOST_PAIRS written) word
+          ⊎ IsOne (sharp_kept MOST_PAIRS written) word
+          → (is_among (sharp_lowered MOST_PAIRS written) word || is_among
+          (sharp_kept MOST_PAIRS written) word) ≡ true
       either (inl one) = or_left _ _ one
       either (inr two) = or_right _ _ two
 

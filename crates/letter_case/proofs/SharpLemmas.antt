@@ -1,6 +1,6 @@
 -- The ways to lower a word where SS may stand for ß, one character or pair at a time.
 use Rattle.std.proofs.Common.{◌≡◌, ◌∙◌, refl, sym, ap, ap₂, subst, ℕ, zero, suc, ◌-◌, ◌<◌, ◌==◌}
-use Rattle.std.proofs.Common.{◌&&◌, nat_lt, Bool, true, false, cond, List, [], ◌∷◌, ◌++◌, length}
+use Rattle.std.proofs.Common.{◌&&◌, nat_lt, true, false, cond, List, [], ◌∷◌, ◌++◌, length}
 use Rattle.std.proofs.Common.{map, drop, get_or, append_assoc, append-nil, map-id, true≢false}
 use Rattle.std.proofs.Common.{arith}
 use Rattle.std.proofs.lemmas.Bool.{and_parts}

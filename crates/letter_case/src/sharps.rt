@@ -2,21 +2,19 @@
 
 ghost use Rattle.std.specs.Prelude.{◌≡◌, ℕ, List, [], ◌∷◌, ◌++◌, map, drop, IfOk, OnOk};
 ghost use Rattle.std.specs.List.{flat_map};
-ghost use Rattle.spell_types.specs.Cases.{is_pair, low, most_pairs, sharp_kept, sharp_lowered};
+ghost use Rattle.spell_types.specs.Cases.{is_pair, low, sharp_kept, sharp_lowered};
+ghost use Rattle.spell_types.specs.declared.limits.TheConstants.{MOST_PAIRS};
 ghost use Rattle.letter_case.specs.Found.{begins_pair, behind_each, is_pair_next, with_pair};
 
 use crate::low;
 use lists::{Copied, Items, NoMemory};
-use spell_types::Chars;
+use spell_types::{Chars, MOST_PAIRS};
 use std::alloc::Global;
-
-/// How many pairs SS of a word may be written as ß: this project's own bound.
-const MOST_PAIRS: usize = 5;
 
 /// All ways to lower a word where each of its first five pairs SS is written as ß or as ss.
 #[tactic(auto, using(crate::proofs::SharpLemmas::nothing_before))]
 pub(crate) fn sharp_lowered(alloc: Global, word: &[char]) -> Result<Vec<Chars>, NoMemory>
-    ensures { IfOk result (λ made. made.items ≡ sharp_lowered most_pairs word.now) }
+    ensures { IfOk result (λ made. made.items ≡ sharp_lowered MOST_PAIRS word.now) }
 {
     let mut fronts = Vec::new(alloc);
     fronts.push(Items::new(alloc))?;
@@ -26,7 +24,7 @@ pub(crate) fn sharp_lowered(alloc: Global, word: &[char]) -> Result<Vec<Chars>, 
 /// The same with the first character kept, which is then in no pair that is written as ß.
 #[tactic(auto, using(crate::proofs::SharpLemmas::front_before))]
 pub(crate) fn sharp_kept(alloc: Global, word: &[char]) -> Result<Vec<Chars>, NoMemory>
-    ensures { IfOk result (λ made. made.items ≡ sharp_kept most_pairs word.now) }
+    ensures { IfOk result (λ made. made.items ≡ sharp_kept MOST_PAIRS word.now) }
 {
     match word {
         [] => Ok(Vec::new(alloc)),

@@ -8,9 +8,10 @@ ghost use Rattle.dictionary_swap.specs.declared.limits.TheConstants.{SIZE_LIMIT}
 ghost use Rattle.edit_core.specs.declared.limits.TheConstants.{MOST_MOVED};
 ghost use Rattle.input_lines.specs.declared.limits.TheConstants.{INPUT_LIMIT, LINE_LIMIT};
 ghost use Rattle.paragraph_text.specs.declared.limits.TheConstants.{MOST_BYTES, MOST_PARAGRAPHS};
+ghost use Rattle.spell_types.specs.declared.limits.TheConstants.{MOST_PAIRS};
 
-/// The limits on files, on paragraphs, and on the input of `edit` and its lines; and how far an
-/// event moves a history.
+/// The limits on files, on paragraphs, and on the input of `edit` and its lines; how far an event
+/// moves a history; and how many pairs of a word may be written as one letter.
 pub fn limits_are_these()
     ensures file { SIZE_LIMIT ≡ 16777216 }
     ensures document { DOCUMENT_LIMIT ≡ 67108864 }
@@ -19,4 +20,5 @@ pub fn limits_are_these()
     ensures line { LINE_LIMIT ≡ 131072 }
     ensures input { INPUT_LIMIT ≡ 4294967295 }
     ensures moved { MOST_MOVED ≡ 40001 }
+    ensures pairs { MOST_PAIRS ≡ 5 }
 {}

@@ -1,5 +1,5 @@
 -- Laws of what calls answer that go wrong, which the proofs of several crates cite.
-use Rattle.std.proofs.Common.{◌≡◌, ◌⊎◌, inl, inr, Result, Ok, Err, IsErrAnd, sym, ap, subst}
+use Rattle.std.proofs.Common.{◌≡◌, inl, inr, Result, Ok, Err, IsErrAnd, sym, ap, subst}
 use Rattle.lists.specs.Answers.{◌>>=◌, failing, FailsAs, GivesDue}
 
 -- a step that fails ends all that follows

@@ -100,6 +100,10 @@ contains-flat_map f (z ∷ xs) x y (suc k, within, at) inside =
     Contains-append_right (f z) (flat_map f xs) y
     (contains-flat_map f xs x y (k, le_of_suc-le-suc within, at) inside)
 
+-- nothing is in a list that is empty
+pub contains-none : {X : Type 0} (xs : List X) (x : X) → xs ≡ [] → Contains xs x → ⊥
+contains-none xs x none (k, within, at) = omega (arith, within, ap length none)
+
 -- an item that passes a test stays
 pub contains-filter : {X : Type 0} (test : X → Bool) (xs : List X) (x : X) → Contains xs x
     → test x ≡ true → Contains (filter test xs) x

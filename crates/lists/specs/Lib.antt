@@ -4,3 +4,4 @@ pub mod Changes
 pub mod Chunks
 pub mod Laws
 pub mod TextOrder
+pub mod TextOrderLaws

@@ -3,14 +3,13 @@
 use Rattle.std.proofs.Common.{◌≡◌, ◌∙◌, ◌↔◌, refl, sym, ap, subst, ℕ, zero, suc, ◌<◌, ◌≤◌, Bool}
 use Rattle.std.proofs.Common.{true, false, cond, not, ◌&&◌, ◌||◌, ◌⊎◌, inl, inr, IfSome, nat_le}
 use Rattle.std.proofs.Common.{List, [], ◌∷◌, ◌++◌, length, map, slice_get, Contains, Any, Option}
-use Rattle.std.proofs.Common.{None, Some, is_none, is_some, option_and_then, if◌then◌else◌, ◌+◌}
-use Rattle.std.proofs.Common.{◌-◌, ◌==◌, take, drop, nat_lt, arith, length-append, length-drop}
-use Rattle.std.proofs.Common.{length-take}
+use Rattle.std.proofs.Common.{None, Some, is_none, is_some, option_and_then, if◌then◌else◌}
+use Rattle.std.proofs.Common.{◌==◌, arith, length-append}
 use Rattle.std.specs.List.{AllByRecursion, filter, filter_map, flat_map, list_any, range_with_len}
 use Rattle.std.specs.List.{cons_option}
 use Rattle.std.specs.Option.{option_map, option_map_or}
 use Rattle.std.proofs.lemmas.Bool.{and_parts, and_from, or_cases, or_left, or_right, leb-true}
-use Rattle.std.proofs.lemmas.Bool.{le-leb, ltb-true, not-true, not_from_false, false≢true}
+use Rattle.std.proofs.lemmas.Bool.{le-leb, not-true, not_from_false, false≢true}
 use Rattle.std.proofs.lemmas.List.Elements.{All-from_recursion}
 use Rattle.std.proofs.lemmas.List.Folds.{Any-from_list_any, list_any_at}
 use Rattle.std.proofs.lemmas.Option.{slice_get_within}
@@ -27,7 +26,7 @@ use Rattle.spell_types.specs.declared.parts.Place.TheVariants.{First, Middle, La
 use Rattle.spell_types.specs.declared.rules.Side.TheVariants.{Prefix, Suffix}
 use Rattle.spell_types.specs.Cases.{is_same_word}
 use Rattle.spell_types.specs.Compounds.{Asked, may_be_part, part_with, part_from, all_parts}
-use Rattle.spell_types.specs.Compounds.{written, kept, keeps_some, stretch, is_right_in_case}
+use Rattle.spell_types.specs.Compounds.{written, stretch}
 use Rattle.spell_types.specs.Compounds.{parts_between, all_offs, are_joined, begin_well, AreJoined}
 use Rattle.spell_types.specs.Compounds.{all_stand, stand_by_flags, flags_of, follows_rule, do_meet}
 use Rattle.spell_types.specs.Compounds.{may_end, end_well, are_few, make_up, lists_within}
@@ -35,10 +34,9 @@ use Rattle.spell_types.specs.Compounds.{is_made_up, is_compound, IsGiven, IsMade
 use Rattle.spell_types.specs.Compounds.{FollowsRule, IsCompound}
 use Rattle.spell_types.specs.Derivations.{is_right, is_in_order, formed, named_with, form_of}
 use Rattle.spell_types.specs.Derivations.{choices, derivation_of, all_from, all_derivations}
-use Rattle.spell_types.specs.Joints.{all_joints, is_same_joint, is_written_joint, plain_joint}
-use Rattle.spell_types.specs.Licences.{is_sound}
+use Rattle.spell_types.specs.Joints.{all_joints, is_same_joint, plain_joint}
 use Rattle.spell_types.specs.Laws.{contains-choice, right-within}
-use Rattle.spell_types.specs.Parts.{is_long_enough, stands_at, stands_in_rule}
+use Rattle.spell_types.specs.Parts.{stands_at, stands_in_rule}
 use Rattle.spell_types.specs.Patterns.{matches}
 use Rattle.spell_types.specs.Replacements.{has_rep_fault}
 use Rattle.spell_types.specs.CompoundLaws.{given-keeps, joined-written, stretch-some}

@@ -5,6 +5,7 @@ use Rattle.std.specs.List.{list_any}
 use Rattle.std.specs.Cmp.Lexicographic.{pointwise}
 use Rattle.unicode.specs.Binary.{is_uppercase, is_lowercase}
 use Rattle.unicode.specs.CaseFolding.{simple_fold}
+use Rattle.spell_types.specs.declared.limits.TheConstants.{MOST_PAIRS}
 
 -- an upper-case character: one with Unicode's property Uppercase
 unfoldable pub is_upper : ℕ → Bool
@@ -89,20 +90,16 @@ sharp_kept (suc pairs) (c ∷ d ∷ rest) =
     if is_pair c d then map (λ more. c ∷ low d ∷ more) (sharp_lowered pairs rest)
     else map (λ more. c ∷ more) (sharp_lowered (suc pairs) (d ∷ rest))
 
--- how many pairs may be written as ß
-abbrev pub most_pairs : ℕ
-most_pairs = 5
-
 -- what a word without lower-case characters stands for where SS may stand for ß
 abbrev pub spellings_of_sharps : Bool → List ℕ → List (List ℕ)
 spellings_of_sharps sharps word =
     if has_lower word then []
-    else if sharps then sharp_lowered most_pairs word ++ sharp_kept most_pairs word else []
+    else if sharps then sharp_lowered MOST_PAIRS word ++ sharp_kept MOST_PAIRS word else []
 
 -- The words that a written word covers, in order and without repeats: itself; where its first
 -- character is upper case, the word with that character lowered; where it holds no lower-case
 -- character, the word with all lowered, and the word with its first kept and the rest lowered; and,
--- where SS may stand for ß, these two with some of its first five pairs SS written so.
+-- where SS may stand for ß, these two with some of its first `MOST_PAIRS` pairs SS written so.
 unfoldable pub covered_by : Bool → List ℕ → List (List ℕ)
 covered_by sharps written =
     without_repeats
@@ -121,5 +118,5 @@ Covers sharps written word =
     ⊎ ((IsTrue (not (has_lower written))
     × ((word ≡ all_lowered written) ⊎ (word ≡ rest_lowered written)))
     ⊎ (IsTrue sharps × (IsTrue (not (has_lower written))
-    × (IsOne (sharp_lowered most_pairs written) word
-    ⊎ IsOne (sharp_kept most_pairs written) word)))))
+    × (IsOne (sharp_lowered MOST_PAIRS written) word
+    ⊎ IsOne (sharp_kept MOST_PAIRS written) word)))))

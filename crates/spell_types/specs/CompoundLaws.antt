@@ -1,6 +1,6 @@
 -- Laws of the parts of compounds, which the proofs of several crates cite.
-use Rattle.std.proofs.Common.{◌≡◌, ◌∙◌, ap, ℕ, ◌+◌, ◌-◌, ◌==◌, ◌<◌, Bool, true, ◌&&◌, List, ◌++◌}
-use Rattle.std.proofs.Common.{length, take, drop, nat_lt, arith, length-append, length-drop}
+use Rattle.std.proofs.Common.{◌≡◌, ◌∙◌, ap, ◌+◌, ◌-◌, ◌==◌, ◌<◌, true, ◌&&◌}
+use Rattle.std.proofs.Common.{length, take, arith, length-append, length-drop}
 use Rattle.std.proofs.Common.{length-take}
 use Rattle.std.proofs.lemmas.Bool.{and_parts, and_from, ltb-true}
 use Rattle.spell_types.specs.declared.parts.Part.{Part}

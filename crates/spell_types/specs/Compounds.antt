@@ -95,7 +95,7 @@ stand_by_flags a here parts = all_stand (stands_at a.lexicon) here parts
 abbrev pub flags_of : Asked → List Part → List (List Flag)
 flags_of a parts = map (λ part. entry_flags a.lexicon part.d) parts
 
--- whether the parts follows_rule a compound rule: each may stand in a rule, and the rule matches
+-- whether the parts follow a compound rule: each may stand in a rule, and the rule matches
 -- the flags of their entries
 abbrev pub follows_rule : Asked → Place → List Part → List PatternStep → Bool
 follows_rule a here parts pattern =
@@ -188,7 +188,7 @@ pub record Stand (stands : Derivation → Place → Bool) (parts : List Part) : 
   pub last : (front : List Part) (part : Part) → parts ≡ front ++ part ∷ []
       → IsTrue (stands part.d Last)
 
--- the parts follows_rule a compound rule
+-- the parts follow a compound rule
 pub record FollowsRule (a : Asked) (parts : List Part) : Type 0 where
   pub pattern : List PatternStep
   pub among : Contains a.lexicon.affixes.patterns pattern

@@ -1,7 +1,7 @@
 -- Laws of written joints, which the proofs of several crates cite: the test, the list and the
 -- relation say the same.
 use Rattle.std.proofs.Common.{◌≡◌, ◌∙◌, ◌↔◌, refl, sym, ap, subst, ℕ, zero, suc, ◌==◌, Bool, true}
-use Rattle.std.proofs.Common.{false, cond, not, ◌&&◌, ◌||◌, ◌⊎◌, inl, inr, List, [], ◌∷◌, Contains}
+use Rattle.std.proofs.Common.{false, not, ◌&&◌, ◌||◌, ◌⊎◌, inl, inr, List, [], ◌∷◌, Contains}
 use Rattle.std.proofs.Common.{Any, Option, None, Some, not-suc-le-zero, le_of_suc-le-suc}
 use Rattle.std.proofs.Common.{true≢false, arith}
 use Rattle.std.specs.List.{filter, filter_map, list_any, cons_option}
@@ -13,7 +13,6 @@ use Rattle.std.proofs.lemmas.Bool.Decides.{nat_tests}
 use Rattle.lists.specs.Laws.{contains-head, contains-tail, contains-filter, filter-holds}
 use Rattle.spell_types.specs.declared.Lexicon.{Lexicon}
 use Rattle.spell_types.specs.declared.derivations.Derivation.{Derivation}
-use Rattle.spell_types.specs.declared.joints.JointPattern.{JointPattern}
 use Rattle.spell_types.specs.declared.joints.WrittenJoint.{WrittenJoint}
 use Rattle.spell_types.specs.Cases.{is_same_word}
 use Rattle.spell_types.specs.Joints.{all_joints, each_once, fits_joint, is_joint, is_joint_of}

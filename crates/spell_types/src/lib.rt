@@ -11,6 +11,7 @@ mod derivations;
 mod flags;
 mod joints;
 mod licences;
+mod limits;
 mod parts;
 mod patterns;
 mod rules;
@@ -27,6 +28,7 @@ pub use licences::{
     Case, alone, alone_in_case, entry_flags, forbidden, has_affix_with, has_entry_with,
     has_prefix_without, has_some_with, has_suffix_without, is_entry_word, licensed, sound,
 };
+pub use limits::MOST_PAIRS;
 use lists::{Copied, Items, NoMemory};
 pub use parts::{Part, Place, compounds_have_parts};
 pub use patterns::{Pattern, PatternStep, Times, patterns_match};

@@ -1,5 +1,5 @@
 -- The code tells.
-use Rattle.std.proofs.Common.{◌≡◌, ◌∙◌, ◌<◌, true, sym, ltb-true}
+use Rattle.std.proofs.Common.{◌∙◌, ◌<◌, sym, ltb-true}
 use Rattle.letter_case.proofs.Ascii.{lower-ascii}
 use Rattle.letter_case.proofs.is_lower.Goals as goal
 

@@ -3,9 +3,10 @@ use Rattle.std.proofs.Common.{◌≡◌, ◌∙◌, sym, ap, ◌+◌, ◌-◌, �
 use Rattle.std.proofs.Common.{take_all, length-drop, eqb-true, Result, Ok, Err, arith}
 use Rattle.std.specs.Result.{OnOk}
 use Rattle.lists.specs.TextOrder.{beginning}
+use Rattle.lists.specs.TextOrderLaws.{all-begin, begin-further}
 use Rattle.std.proofs.lemmas.List.{nil_from_length}
 use Rattle.break_points.proofs.Texts.{Adds, adds, adds-kept, adds-sound, adds-whole, adds-all}
-use Rattle.break_points.proofs.Texts.{adds-last, all_begin, alike_more}
+use Rattle.break_points.proofs.Texts.{adds-last}
 use Rattle.break_points.proofs.occurrences.add_occurrences.Goals as goal
 
 -- what comes of a call that may fail
@@ -26,7 +27,7 @@ rest-long word place = ap length (rest-is word place) ∙ length-drop place word
 
 pub loop-len-init : goal.loop-len-init
 loop-len-init c = record {
-  alike = all_begin c.args.patterns.now (rest_of c.args.word.now c.args.place);
+  alike = all-begin c.args.patterns.now (rest_of c.args.word.now c.args.place);
   kept = λ occurrence inside. inside;
   sound = λ sound. sound;
   whole = λ occurrence at below is. absurd (omega (arith, below));
@@ -61,8 +62,7 @@ returns-then-is_empty-clause-whole c =
     let within : c.loop-len.len < length text = c.loop-len-test.true in
     let up_to : c.loop-len.len + 1 ≤ length text = omega (arith, within) in
     let now : c.going_on-alike.result.now ≡ beginning (take (c.loop-len.len + 1) text) patterns =
-    alike_more patterns c.loop-len.alike.now c.going_on-alike.result.now text c.loop-len.len
-    c.index-text-len.result c.requires.order within c.index-text-len.is
+    begin-further patterns text c.loop-len.len c.requires.order within c.index-text-len.is
     c.loop-len.invariant.alike c.going_on-alike.ensures in
     adds-all patterns c.args.word.now text c.args.place c.loop-len.len c.loop-len.occurrences.items
     c.add_each.new.occurrences.items (rest-is c.args.word.now c.args.place) up_to
@@ -89,8 +89,7 @@ loop-len-preserved c =
     let earlier = c.loop-len.occurrences.items in
     let later = c.add_each.new.occurrences.items in
     record {
-      alike = alike_more patterns c.loop-len.alike.now c.going_on-alike.result.now
-          (rest_of word place) len c.index-text-len.result c.requires.order c.loop-len-test.true
+      alike = begin-further patterns (rest_of word place) len c.requires.order c.loop-len-test.true
           c.index-text-len.is c.loop-len.invariant.alike c.going_on-alike.ensures;
       kept = λ occurrence inside. adds-kept patterns word place len earlier later (adding c)
           occurrence (c.loop-len.invariant.kept occurrence inside);

@@ -40,11 +40,9 @@ loop-part-preserved c =
     subst (λ parts. AreLeft a rules here text piece parts c.args.row.now c.loop-part.row)
     c.in-Some.ensures.items c.loop-part.invariant in
     let given = left-given a piece.before piece.front c.pop.new.self.items part left.given in
-    left-turn a rules here text piece c.pop.new.self.items part c.args.row.now c.loop-part.row
-    c.add.new.row left
-    (once-grown c.patterns_match.ensures.one_by_one a rules here here text part _ c.loop-part.row
-    c.add.new.row
-    (inner-before a rules here piece part _ at.rests.now given c.requires.front c.requires.row
+    left-turn c.pop.new.self.items part left
+    (once-grown c.patterns_match.ensures.one_by_one a rules
+    (inner-before piece given c.requires.front c.requires.row
     c.requires.some c.requires.fits refl
     (λ way. ap (λ rests. fewest (map (λ rest. count_of rest way) rests))
     (ap rests_at c.deref.ensures.value ∙ c.in_ok-followers.ensures)

@@ -1,5 +1,5 @@
 -- One row after another is gone over.
-use Rattle.std.proofs.Common.{◌≡◌, ◌∙◌, ◌+◌, ◌-◌, ◌++◌, sym, ap, subst, length, take, drop, arith}
+use Rattle.std.proofs.Common.{◌∙◌, ◌-◌, ◌++◌, sym, ap, subst, length, take, drop, arith}
 use Rattle.lists.specs.Laws.{take-rest}
 use Rattle.compound_words.specs.Rests.{asked_by, patterns_of, Grows, HasFirsts, IsRow, IsRowAt}
 use Rattle.compound_words.proofs.AddLemmas.{grows-same}
@@ -19,12 +19,8 @@ loop-behind-preserved c =
     let a = asked_by c.args.search.now in
     let rules = patterns_of c.args.search.now in
     let item = c.behind-item.result in
-    let place = c.loop-behind.behind-index in
     let front = take (item.place - c.args.from) (drop c.args.from c.args.word.now) in
-    rows-one-more c.patterns_match.ensures.one_by_one a rules c.args.here c.args.word.now
-    c.args.from c.args.rows.now place item item c.args.row.now c.loop-behind.row
-    c.add_before.new.row
-    c.requires.within c.loop-behind-test.true c.behind-item.is c.requires.rows.right
+    rows-one-more c.patterns_match.ensures.one_by_one c.requires.within c.loop-behind-test.true c.behind-item.is c.requires.rows.right
     (subst (λ t. Grows a rules c.args.here (front ++ t) c.loop-behind.row c.add_before.new.row)
     (take-rest item.place c.args.word.now) c.in_ok-add_before.ensures.grows)
     (subst (λ before. HasFirsts a rules c.args.here (front ++ drop item.place c.args.word.now)
@@ -54,11 +50,8 @@ loop-behind-preserved c =
 
 pub returns-clause-all : goal.returns-clause-all
 returns-clause-all c =
-    rows-all c.patterns_match.ensures.one_by_one (asked_by c.args.search.now)
-    (patterns_of c.args.search.now)
-    c.args.here c.args.word.now c.args.from c.args.rows.now c.loop-behind.behind-index
-    c.args.row.now c.loop-behind.row c.requires.within c.loop-behind-test.false c.requires.rows
-    c.loop-behind.invariant
+    rows-all c.patterns_match.ensures.one_by_one c.requires.within c.loop-behind-test.false
+    c.requires.rows c.loop-behind.invariant
 
 pub add_before-requires-clause-row : goal.add_before-requires-clause-row
 add_before-requires-clause-row c =

@@ -41,11 +41,9 @@ loop-part-preserved-in-Continue-branch-2 c =
     subst (λ parts. AreLeft a rules Middle text piece parts c.args.row.now c.loop-part.row)
     c.in-Some.ensures.items c.loop-part.invariant in
     let given = left-given a piece.before text c.pop.new.self.items part left.given in
-    left-turn a rules Middle text piece c.pop.new.self.items part c.args.row.now c.loop-part.row
-    c.add.new.row left
-    (once-grown c.patterns_match.ensures.one_by_one a rules Middle Last text part _ c.loop-part.row
-    c.add.new.row
-    (last-before a rules text part _ piece.before given
+    left-turn c.pop.new.self.items part left
+    (once-grown c.patterns_match.ensures.one_by_one a rules {place = Last}
+    (last-before a rules _ piece.before given
     (sym c.may_end.ensures ∙ c.if-may_end.true) refl) c.in_ok-add.ensures)
 
 pub loop-part-preserved : goal.loop-part-preserved
@@ -65,8 +63,7 @@ loop-part-preserved c =
     subst (λ parts. AreLeft a rules Middle text piece parts c.args.row.now c.loop-part.row)
     c.in-Some.ensures.items c.loop-part.invariant in
     let given = left-given a piece.before text c.pop.new.self.items part left.given in
-    left-turn a rules Middle text piece c.pop.new.self.items part c.args.row.now c.loop-part.row
-    c.loop-part.row left
+    left-turn c.pop.new.self.items part left
     (last-barred a rules text part c.loop-part.row piece.before given
     (sym c.may_end.ensures ∙ c.if-may_end.false))
 

@@ -8,11 +8,7 @@ use Rattle.compound_words.proofs.rows.rests_from.Goals as goal
 
 pub returns : goal.returns
 returns c =
-    row-whole (asked_by c.args.search.now) (patterns_of c.args.search.now)
-    (take c.args.from c.args.word.now)
-    (drop c.args.from c.args.word.now) _ c.new-row.result c.add_last.new.row
-    c.add_before_rows.new.row
-    c.new-row.ensures
+    row-whole c.new-row.ensures
     (take-rest c.args.from c.args.word.now)
     c.in_ok-add_last.ensures.grows
     (subst (λ before. HasFirsts (asked_by c.args.search.now) (patterns_of c.args.search.now)

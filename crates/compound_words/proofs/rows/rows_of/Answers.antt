@@ -14,9 +14,7 @@ loop-from-preserved-in-Continue-branch-3 c =
           subst (AreRows (asked_by c.args.search.now)
           (patterns_of c.args.search.now) c.args.word.now
           (from - 1)) (sym c.in_ok-push.ensures.items)
-          (rows-more (asked_by c.args.search.now)
-          (patterns_of c.args.search.now)
-          c.args.word.now from c.loop-from.rows.items
+          (rows-more
           (record { place = from; rests = c.in_ok-rests.rests; heads = c.in_ok-heads.heads }) refl
           c.loop-from.invariant.rows (omega (arith, c.loop-from-test.true))
           (omega (arith, c.loop-from-test.true, c.loop-from.invariant.within))

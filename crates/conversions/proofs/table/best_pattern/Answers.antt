@@ -2,16 +2,17 @@
 use Rattle.std.proofs.Common.{◌∙◌, ◌≡◌, ◌+◌, ◌<◌, ◌≤◌, sym, subst, take, length, eqb-true, arith}
 use Rattle.std.specs.Option.{option_copied}
 use Rattle.lists.specs.TextOrder.{beginning}
+use Rattle.lists.specs.TextOrderLaws.{all-begin, begin-further}
 use Rattle.std.proofs.lemmas.List.{nil_from_length}
 use Rattle.conversions.specs.Patterns.{BestUpTo}
-use Rattle.conversions.proofs.Patterns.{all_begin, alike_more, none_yet, none_begins, first_best}
-use Rattle.conversions.proofs.Patterns.{none_best}
+use Rattle.conversions.proofs.Patterns.{none_yet, none_begins, first_best}
+use Rattle.conversions.proofs.Patterns.{none_best, sorted-in_order}
 use Rattle.conversions.proofs.table.best_pattern.Goals as goal
 use Rattle.conversions.proofs.table.best_pattern.Goals.{in-Some, in_default}
 
 pub loop-depth-init : goal.loop-depth-init
 loop-depth-init c = record {
-  alike = all_begin c.args.patterns.now c.args.text.now;
+  alike = all-begin c.args.patterns.now c.args.text.now;
   best = none_yet c.args.patterns.now c.args.text.now;
 }
 
@@ -22,9 +23,8 @@ returns-then-is_empty c =
     let depth = c.loop-depth.depth in
     let within : depth < length text = omega arith in
     let now : c.going_on-alike.result.now ≡ beginning (take (depth + 1) text) patterns =
-    alike_more patterns c.loop-depth.alike.now c.going_on-alike.result.now text depth
-    c.index-text-depth.result c.requires within c.index-text-depth.is
-    c.loop-depth.invariant.alike c.going_on-alike.ensures in
+    begin-further patterns text depth (sorted-in_order patterns c.requires) within
+    c.index-text-depth.is c.loop-depth.invariant.alike c.going_on-alike.ensures in
     none_begins patterns text depth (option_copied c.loop-depth.best) (omega arith)
     (sym now ∙ nil_from_length c.going_on-alike.result.now
     (eqb-true (length c.going_on-alike.result.now) 0 (sym c.if-is_empty.ensures)))
@@ -38,9 +38,8 @@ loop-depth-preserved c =
     let within : depth < length text = omega arith in
     let up_to : depth + 1 ≤ length text = omega arith in
     let now : c.going_on-alike.result.now ≡ beginning (take (depth + 1) text) patterns =
-    alike_more patterns c.loop-depth.alike.now c.going_on-alike.result.now text depth
-    c.index-text-depth.result c.requires within c.index-text-depth.is
-    c.loop-depth.invariant.alike c.going_on-alike.ensures in
+    begin-further patterns text depth (sorted-in_order patterns c.requires) within
+    c.index-text-depth.is c.loop-depth.invariant.alike c.going_on-alike.ensures in
     elim c.match-first.branch [
       | in-Some w ↦ record {
         alike = now;

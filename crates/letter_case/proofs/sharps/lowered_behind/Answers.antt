@@ -1,8 +1,7 @@
 -- One character or one pair more is lowered, until none is left.
-use Rattle.std.proofs.Common.{◌≡◌, ◌∙◌, ◌-◌, ◌<◌, [], ◌∷◌, ◌++◌, map, drop, length, sym, ap, ap₂}
-use Rattle.std.proofs.Common.{arith}
+use Rattle.std.proofs.Common.{◌∙◌, ◌-◌, [], ◌∷◌, ◌++◌, map, sym, ap, ap₂}
 use Rattle.std.specs.List.{flat_map}
-use Rattle.spell_types.specs.Cases.{low, sharp_lowered}
+use Rattle.spell_types.specs.Cases.{sharp_lowered}
 use Rattle.letter_case.specs.Found.{behind_each, with_pair}
 use Rattle.letter_case.proofs.SharpLemmas.{nothing-left, pair-step, single-step, some-left}
 use Rattle.letter_case.proofs.sharps.lowered_behind.Goals as goal

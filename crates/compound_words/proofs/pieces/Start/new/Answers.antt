@@ -1,8 +1,8 @@
 -- The fronts are gathered row by row.
 use Rattle.std.proofs.Common.{◌≡◌, ◌∙◌, ◌+◌, ◌<◌, ◌≤◌, ◌++◌, get_or, [], ◌∷◌, length, ap₂, sym}
 use Rattle.std.proofs.Common.{subst}
-use Rattle.compound_words.proofs.PieceLemmas.{AreFrontsSoFar, fronts-none, fronts-turn}
-use Rattle.compound_words.proofs.PieceLemmas.{fronts-whole}
+use Rattle.compound_words.proofs.FrontLemmas.{AreFrontsSoFar, fronts-none, fronts-turn}
+use Rattle.compound_words.proofs.FrontLemmas.{fronts-whole}
 use Rattle.compound_words.proofs.pieces.Start.new.Goals as goal
 
 pub loop-row-init : goal.loop-row-init

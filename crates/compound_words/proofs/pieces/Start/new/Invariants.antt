@@ -1,5 +1,5 @@
 -- The fronts are those of the rows before the loop's place.
-use Rattle.compound_words.proofs.PieceLemmas.{AreFrontsSoFar}
+use Rattle.compound_words.proofs.FrontLemmas.{AreFrontsSoFar}
 use Rattle.compound_words.proofs.pieces.Start.new.Given as goal
 
 abbrev pub invariant-loop-row : goal.invariant-loop-row

@@ -1,9 +1,8 @@
 -- The first paragraph with an id stands at its place, and a state beside it.
-use Rattle.std.proofs.Common.{◌≡◌, ◌∙◌, ◌==◌, sym, ap, subst, None, Some, slice_get}
+use Rattle.std.proofs.Common.{◌≡◌, ◌∙◌, sym, ap, subst, None, Some, slice_get}
 use Rattle.std.specs.Arc.{arc_value}
 use Rattle.std.specs.Option.{option_copied, option_map}
 use Rattle.std.proofs.lemmas.Option.{slice_get-map, none-some}
-use Rattle.paragraph_text.specs.Paragraphs.{Paragraph}
 use Rattle.edit_core.specs.Seen.{Seen, standing_of}
 use Rattle.edit_core.specs.Steps.{IsAt, IsFoundAt, found}
 use Rattle.edit_core.proofs.Found.{found-none, found-some, some-at}
