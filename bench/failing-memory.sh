@@ -2,8 +2,8 @@
 # Makes each allocation of `check` fail in turn, until a run has none that fails: on the sample's dictionary, on one with
 # aliases, classes and a twofold suffix, on one with ICONV, IGNORE and BREAK, on one with compounds by flags and by rules, and
 # on one that is refused in its last line. And each allocation of `edit` in two dialogues: one with edits, a paragraph that is
-# stopped and asked for, and marks that are shown; and one in which a dictionary is loaded, and another one is refused. Prints
-# what the runs ended with and how often, and ends with status 1 if one of them ended otherwise than as the run without a failing
+# stopped and asked for, and marks that are shown; and one in which a dictionary is loaded, and another one is refused. And each
+# of a test of desks, which says itself whether it passes. Prints what the runs ended with and how often, and ends with status 1 if one of them ended otherwise than as the run without a failing
 # allocation, or with status 7 and `memory`: alone, or behind whole first replies of a dialogue. Needs gcc.
 set -euo pipefail
 top=$(cd "$(dirname "$0")/.." && pwd)
@@ -199,6 +199,22 @@ for name in sample affixes conversions compounds refused edits loads; do
     sort "$work/seen" | uniq -c
     if grep -vxF -f "$work/allowed" "$work/seen" > /dev/null; then
         echo "$name: a run ended in another way"
+        wrong=1
+    fi
+done
+
+# The test of a desk with little memory, which passes where an event that finds none is not seen, and each other one is.
+tests=$top/crates/desk_tests/out/desk_tests_tests
+[ -x "$tests" ] || { echo "run rt ci first: $tests is not built" >&2; exit 2; }
+for which in $(seq 1 100000); do
+    status=0
+    FAIL_ALLOCATION=$which LD_PRELOAD=$work/fail.so "$tests" tests::memory::an_event_without_memory_is_not_seen > /dev/null 2> "$work/told" || status=$?
+    if ! grep -q failed "$work/told"; then
+        echo "a desk: $((which - 1)) allocations failed in turn"
+        break
+    fi
+    if [ "$status" != 0 ]; then
+        echo "a desk: the test fails where allocation $which does"
         wrong=1
     fi
 done
