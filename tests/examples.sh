@@ -1,6 +1,6 @@
 #!/usr/bin/env bash
-# What README.md shows of the sample and of a dialogue, and the scripts in `examples/` on a text with addresses, by the program that is
-# built. Prints what differs; the status is 0 where nothing does.
+# What README.md shows of the sample and of a dialogue, what docs/LIBRARY.md shows of two sessions, and the scripts in `examples/` on a text
+# with addresses, by the programs that are built. Prints what differs; the status is 0 where nothing does.
 set -euo pipefail
 top=$(cd "$(dirname "$0")/.." && pwd)
 work=$(mktemp -d)
@@ -38,6 +38,11 @@ LINE
 block "$dialogue" > "$work/block"
 [ -s "$work/block" ] || { echo 'README.md has no block behind the dialogue'; failed=1; }
 expect 'a dialogue' 0 bash -c "$dialogue" < "$work/block"
+
+# The block of docs/LIBRARY.md behind the example's name, and what the example prints.
+awk '/^`examples\/two-writers`/ { found = 1 } found && /^    / { print substr($0, 5) }' docs/LIBRARY.md > "$work/block"
+[ -s "$work/block" ] || { echo 'docs/LIBRARY.md has no block behind the example'; failed=1; }
+expect 'two writers' 0 examples/two-writers < "$work/block"
 
 printf '\xef\xbb\xbfwho reads https://example.org/citys, name@citys.net or the\n~/citys/orders --citys, x86 and the citys\n' > "$work/text"
 expect 'all marks' 1 check "$work/text" << 'MARKS'
