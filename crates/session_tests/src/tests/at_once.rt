@@ -1,0 +1,273 @@
+//! Five sessions on threads of their own: two edit, one loads dictionaries, one parks and asks, and
+//! one only looks.
+
+ghost use Rattle.std.specs.Prelude.{◌≡◌, ◌∷◌, [], IfOk, map, true};
+ghost use Rattle.edit_core.specs.Seen.{IsOpening};
+ghost use Rattle.board_share.specs.Namings.{IsNamed};
+
+use super::desks::{inserted, opening_of};
+use super::spellers::speller_of;
+use board_share::{Blank, Closed, Desk, Eye, Naming};
+use edit_core::Board;
+use edit_session::{Made, Session};
+use lists::NoMemory;
+use mark_types::Judge;
+use std::alloc::{AllocError, Global};
+use std::marker::Brand;
+use std::process::Abort;
+use std::sync::{Arc, Wait};
+use std::test::Fail;
+use std::thread::{Threads, for_each_mut};
+
+/// How many paragraphs a thread inserts, and how many dictionaries one loads.
+const EACH: u64 = 50;
+
+/// What a thread has: its eye, while no session has it, and what it did.
+#[derive(Drop)]
+struct Seat<J: Judge + Drop, D: Naming> {
+    eyes: Vec<Eye<J, D>>,
+    made: Made,
+    /// The last text version and dictionary version that it was told or saw.
+    last: (u64, u64),
+    is_done: bool,
+}
+
+/// A session over a desk.
+type Own<'a, J, D, W> = Session<'a, J, D, Desk<J, D, W>>;
+
+/// Inserts paragraphs, each of which has a new id and raises the text version.
+fn insert_all<J: Judge + Drop, D: Naming, W: Wait + Drop, R: Wait>(
+    rt: &R,
+    alloc: Global,
+    session: &mut Own<'_, J, D, W>,
+) -> Option<(u64, u64)> {
+    let mut last = (0, 0);
+    let mut next_id = 0;
+    for _ in 0..EACH {
+        let told = session
+            .edit(rt, alloc, inserted(alloc, "hello wrold").ok()?)
+            .ok()?;
+        let id = told.made?;
+        if told.text <= last.0 || id < next_id {
+            return None;
+        }
+        last = (told.text, told.dict);
+        next_id = id.checked_add(1)?;
+    }
+    Some(last)
+}
+
+/// Loads one dictionary again and again, each time as a new version.
+fn load_all<J: Judge + Drop, D: Naming, W: Wait + Drop, R: Wait>(
+    rt: &R,
+    alloc: Global,
+    session: &mut Own<'_, J, D, W>,
+    judge: &Arc<J>,
+) -> Option<(u64, u64)> {
+    let mut last = (0, 0);
+    for _ in 0..EACH {
+        let judge = Arc::try_clone(judge).ok()?;
+        let told = session.reload(rt, alloc, judge).ok()?;
+        if told.dict <= last.1 {
+            return None;
+        }
+        last = (told.text, told.dict);
+    }
+    Some(last)
+}
+
+/// Parks the first paragraph and asks for its check again, where there is one.
+fn park_all<J: Judge + Drop, D: Naming, W: Wait + Drop, R: Wait>(
+    rt: &R,
+    alloc: Global,
+    session: &mut Own<'_, J, D, W>,
+) -> Option<(u64, u64)> {
+    for _ in 0..EACH {
+        let board = session.look().ok()?;
+        if let Some(view) = board.para(0) {
+            session.park(rt, alloc, view.id).ok()?;
+            session.ask(rt, alloc, view.id).ok()?;
+        }
+    }
+    let progress = session.progress();
+    Some((progress.text, progress.dict))
+}
+
+/// Looks, and sees no version fall.
+fn look_all<J: Judge + Drop, D: Naming, W: Wait + Drop>(
+    session: &mut Own<'_, J, D, W>,
+) -> Option<(u64, u64)> {
+    let mut last = (0, 0);
+    for _ in 0..EACH {
+        let versions = session.look().ok()?.versions();
+        if versions.text < last.0 || versions.dict < last.1 {
+            return None;
+        }
+        last = (versions.text, versions.dict);
+    }
+    Some(last)
+}
+
+/// What the thread with a number does.
+fn act<J: Judge + Drop, D: Naming, W: Wait + Drop, R: Wait>(
+    rt: &R,
+    alloc: Global,
+    desk: &Desk<J, D, W>,
+    judge: &Arc<J>,
+    place: usize,
+    seat: &mut Seat<J, D>,
+) -> Option<()> {
+    let mut session = Session::new(desk, seat.eyes.pop()?, u32::try_from(place).ok()?);
+    let last = match place {
+        0 | 1 => insert_all(rt, alloc, &mut session),
+        2 => load_all(rt, alloc, &mut session, judge),
+        3 => park_all(rt, alloc, &mut session),
+        _ => look_all(&mut session),
+    };
+    seat.made = session.made();
+    seat.eyes.push(session.into_eye()).ok()?;
+    seat.last = last?;
+    seat.is_done = true;
+    Some(())
+}
+
+/// A seat for each eye.
+fn seats_of<J: Judge + Drop, D: Naming>(
+    alloc: Global,
+    eyes: Vec<Eye<J, D>>,
+) -> Result<Vec<Seat<J, D>>, NoMemory> {
+    let mut seats = Vec::new(alloc);
+    for eye in eyes {
+        let mut eyes = Vec::new(alloc);
+        eyes.push(eye)?;
+        let made = Made { edits: 0, loads: 0 };
+        let seat = Seat {
+            eyes,
+            made,
+            last: (0, 0),
+            is_done: false,
+        };
+        seats.push(seat)?;
+    }
+    Ok(seats)
+}
+
+/// The eyes of all seats.
+fn eyes_of<J: Judge + Drop, D: Naming>(
+    alloc: Global,
+    seats: Vec<Seat<J, D>>,
+) -> Result<Vec<Eye<J, D>>, NoMemory> {
+    let mut all = Vec::new(alloc);
+    for seat in seats {
+        let Seat { eyes, .. } = seat;
+        for eye in eyes {
+            all.push(eye)?;
+        }
+    }
+    Ok(all)
+}
+
+/// The numbers of eyes.
+fn numbers_of<J: Judge + Drop, D: Naming>(
+    alloc: Global,
+    eyes: &[Eye<J, D>],
+) -> Result<Vec<u32>, AllocError>
+    ensures { IfOk result (λ numbers. numbers.items ≡ map (λ eye. eye.number) eyes.now) }
+{
+    eyes.iter().map(|eye| eye.number()).collect(alloc)
+}
+
+/// Whether they are those of five eyes, in order.
+fn are_five(numbers: &[u32]) -> bool
+    ensures { result ≡ true → numbers.now ≡ 0 ∷ 1 ∷ 2 ∷ 3 ∷ 4 ∷ [] }
+{
+    numbers == [0, 1, 2, 3, 4].as_slice()
+}
+
+/// The end of the desk of five eyes.
+#[tactic(auto, using(crate::proofs::Numbers::five_eyes))]
+fn closed<J: Judge + Drop, D: Naming, W: Wait + Drop, R: Wait>(
+    rt: &R,
+    alloc: Global,
+    desk: Desk<J, D, W>,
+    eyes: Vec<Eye<J, D>>,
+) -> Result<Closed<J>, Fail>
+    requires { D.parts ≡ 5 }
+{
+    let numbers = numbers_of(alloc, &eyes)?;
+    if !are_five(&numbers) {
+        return Err("five eyes in order")?;
+    }
+    Ok(desk.close(rt, eyes))
+}
+
+/// All threads at once.
+fn act_at_once<
+    J: Judge + Drop + Send + Sync,
+    D: Naming + Send + Sync,
+    W: Wait + Drop + Send + Sync,
+    R: Threads + Wait + Sync,
+>(rt: &R, alloc: Global, desk: &Desk<J, D, W>, judge: &Arc<J>, seats: &mut [Seat<J, D>]) {
+    for_each_mut(
+        rt,
+        seats,
+        5,
+        &|place: usize, seat: &mut Seat<J, D>| {
+            let _done = act(rt, alloc, desk, judge, place, seat);
+        },
+    );
+}
+
+/// What the history has is what the sessions were told.
+fn assert_at_once<
+    J: Judge + Drop + Send + Sync,
+    D: Naming + Send + Sync,
+    R: Threads + Wait + Abort + Sync,
+>(rt: &R, alloc: Global, opening: Board<J>, judge: &Arc<J>, blank: Blank<J>) -> Result<(), Fail>
+    requires opens { IsOpening opening }
+    requires named { IsNamed blank opening D.name D.parts D.book D.opening }
+    requires parts { blank.parts ≡ 5 }
+{
+    let (desk, eyes) = Desk::<J, D, &R>::start(rt, alloc, opening, 5, blank)?;
+    let mut seats = seats_of(alloc, eyes)?;
+    act_at_once(rt, alloc, &desk, judge, &mut seats);
+    assert_seats(rt, &seats)?;
+    let closed = closed(rt, alloc, desk, eyes_of(alloc, seats)?)?;
+    assert_eq!(rt; (closed.edits(), closed.loads()), (100, 50));
+    let versions = closed.board().versions();
+    assert_eq!(rt;
+        (versions.text, versions.dict, versions.paragraphs),
+        (100, 50, 100)
+    );
+    Ok(())
+}
+
+/// Each thread did all, and was told no more than the whole history has.
+fn assert_seats<J: Judge + Drop, D: Naming>(
+    rt: &impl Abort,
+    seats: &[Seat<J, D>],
+) -> Result<(), Fail> {
+    let mut made = Made { edits: 0, loads: 0 };
+    for seat in seats {
+        assert!(rt; seat.is_done);
+        assert!(rt; seat.last.0 <= 100 && seat.last.1 <= 50);
+        made.edits = made.edits.wrapping_add(seat.made.edits);
+        made.loads = made.loads.wrapping_add(seat.made.loads);
+    }
+    assert_eq!(rt;
+        made,
+        Made {
+            edits: 100,
+            loads: 50
+        }
+    );
+    Ok(())
+}
+
+#[test]
+fn five_sessions_at_once(rt: HostRuntime) -> Result<(), Fail> {
+    let alloc = rt.alloc();
+    let judge = speller_of(alloc)?;
+    let opening = opening_of(alloc, Arc::try_clone(&judge)?, &[])?;
+    assert_at_once::<_, Brand, _>(&rt, alloc, opening, &judge, Blank::new(5))
+}
