@@ -2,5 +2,7 @@
 
 mod at_once;
 mod desks;
+mod seats;
 mod sessions;
 mod spellers;
+mod two_at_once;

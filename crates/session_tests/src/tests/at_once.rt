@@ -1,18 +1,19 @@
 //! Five sessions on threads of their own: two edit, one loads dictionaries, one parks and asks, and
 //! one only looks.
 
-ghost use Rattle.std.specs.Prelude.{◌≡◌, ◌∷◌, [], IfOk, map, true};
+ghost use Rattle.std.specs.Prelude.{◌≡◌, true};
+ghost use Rattle.std.specs.List.{range_with_len};
 ghost use Rattle.edit_core.specs.Seen.{IsOpening};
 ghost use Rattle.board_share.specs.Namings.{IsNamed};
 
-use super::desks::{inserted, opening_of};
+use super::desks::opening_of;
+use super::seats::{Own, Seat, eyes_of, insert_all, numbers_of, seats_of};
 use super::spellers::speller_of;
 use board_share::{Blank, Closed, Desk, Eye, Naming};
 use edit_core::Board;
 use edit_session::{Made, Session};
-use lists::NoMemory;
 use mark_types::Judge;
-use std::alloc::{AllocError, Global};
+use std::alloc::Global;
 use std::marker::Brand;
 use std::process::Abort;
 use std::sync::{Arc, Wait};
@@ -21,41 +22,6 @@ use std::thread::{Threads, for_each_mut};
 
 /// How many paragraphs a thread inserts, and how many dictionaries one loads.
 const EACH: u64 = 50;
-
-/// What a thread has: its eye, while no session has it, and what it did.
-#[derive(Drop)]
-struct Seat<J: Judge + Drop, D: Naming> {
-    eyes: Vec<Eye<J, D>>,
-    made: Made,
-    /// The last text version and dictionary version that it was told or saw.
-    last: (u64, u64),
-    is_done: bool,
-}
-
-/// A session over a desk.
-type Own<'a, J, D, W> = Session<'a, J, D, Desk<J, D, W>>;
-
-/// Inserts paragraphs, each of which has a new id and raises the text version.
-fn insert_all<J: Judge + Drop, D: Naming, W: Wait + Drop, R: Wait>(
-    rt: &R,
-    alloc: Global,
-    session: &mut Own<'_, J, D, W>,
-) -> Option<(u64, u64)> {
-    let mut last = (0, 0);
-    let mut next_id = 0;
-    for _ in 0..EACH {
-        let told = session
-            .edit(rt, alloc, inserted(alloc, "hello wrold").ok()?)
-            .ok()?;
-        let id = told.made?;
-        if told.text <= last.0 || id < next_id {
-            return None;
-        }
-        last = (told.text, told.dict);
-        next_id = id.checked_add(1)?;
-    }
-    Some(last)
-}
 
 /// Loads one dictionary again and again, each time as a new version.
 fn load_all<J: Judge + Drop, D: Naming, W: Wait + Drop, R: Wait>(
@@ -119,7 +85,7 @@ fn act<J: Judge + Drop, D: Naming, W: Wait + Drop, R: Wait>(
 ) -> Option<()> {
     let mut session = Session::new(desk, seat.eyes.pop()?, u32::try_from(place).ok()?);
     let last = match place {
-        0 | 1 => insert_all(rt, alloc, &mut session),
+        0 | 1 => insert_all(rt, alloc, &mut session, EACH),
         2 => load_all(rt, alloc, &mut session, judge),
         3 => park_all(rt, alloc, &mut session),
         _ => look_all(&mut session),
@@ -131,61 +97,15 @@ fn act<J: Judge + Drop, D: Naming, W: Wait + Drop, R: Wait>(
     Some(())
 }
 
-/// A seat for each eye.
-fn seats_of<J: Judge + Drop, D: Naming>(
-    alloc: Global,
-    eyes: Vec<Eye<J, D>>,
-) -> Result<Vec<Seat<J, D>>, NoMemory> {
-    let mut seats = Vec::new(alloc);
-    for eye in eyes {
-        let mut eyes = Vec::new(alloc);
-        eyes.push(eye)?;
-        let made = Made { edits: 0, loads: 0 };
-        let seat = Seat {
-            eyes,
-            made,
-            last: (0, 0),
-            is_done: false,
-        };
-        seats.push(seat)?;
-    }
-    Ok(seats)
-}
-
-/// The eyes of all seats.
-fn eyes_of<J: Judge + Drop, D: Naming>(
-    alloc: Global,
-    seats: Vec<Seat<J, D>>,
-) -> Result<Vec<Eye<J, D>>, NoMemory> {
-    let mut all = Vec::new(alloc);
-    for seat in seats {
-        let Seat { eyes, .. } = seat;
-        for eye in eyes {
-            all.push(eye)?;
-        }
-    }
-    Ok(all)
-}
-
-/// The numbers of eyes.
-fn numbers_of<J: Judge + Drop, D: Naming>(
-    alloc: Global,
-    eyes: &[Eye<J, D>],
-) -> Result<Vec<u32>, AllocError>
-    ensures { IfOk result (λ numbers. numbers.items ≡ map (λ eye. eye.number) eyes.now) }
-{
-    eyes.iter().map(|eye| eye.number()).collect(alloc)
-}
-
 /// Whether they are those of five eyes, in order.
 fn are_five(numbers: &[u32]) -> bool
-    ensures { result ≡ true → numbers.now ≡ 0 ∷ 1 ∷ 2 ∷ 3 ∷ 4 ∷ [] }
+    ensures { result ≡ true → numbers.now ≡ range_with_len 0 5 }
 {
     numbers == [0, 1, 2, 3, 4].as_slice()
 }
 
 /// The end of the desk of five eyes.
-#[tactic(auto, using(crate::proofs::Numbers::five_eyes))]
+#[tactic(auto, using(crate::proofs::Numbers::all_eyes))]
 fn closed<J: Judge + Drop, D: Naming, W: Wait + Drop, R: Wait>(
     rt: &R,
     alloc: Global,
