@@ -1,8 +1,10 @@
 pub mod ShowLemmas
 pub mod BarringLemmas
 pub mod DerivedLemmas
+pub mod EdgeLemmas
 pub mod EntryLemmas
 pub mod FoundLemmas
+pub mod InsideLemmas
 pub mod InverseLemmas
 pub mod LengthLemmas
 pub mod LicenceLemmas

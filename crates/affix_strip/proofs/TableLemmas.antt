@@ -12,7 +12,8 @@ use Rattle.spell_types.specs.declared.rules.Side.{Side}
 use Rattle.spell_types.specs.declared.rules.Side.TheVariants.{Prefix, Suffix}
 use Rattle.spell_types.specs.Derivations.{is_same_side, rule_on}
 use Rattle.spell_types.specs.Flags.{has, put, put_all}
-use Rattle.affix_strip.specs.Tables.{HasCarried, AreSeconds, HasClasses}
+use Rattle.affix_strip.specs.Classes.{HasClasses}
+use Rattle.affix_strip.specs.Tables.{HasCarried, AreSeconds}
 
 -- ---- a list with one item more
 get-more : {X : Type 0} (xs : List X) (x : X) (i : ℕ) (y : X) → slice_get (xs ++ x ∷ []) i ≡ Some y

@@ -1,6 +1,9 @@
+pub mod Classes
+pub mod Edges
 pub mod EntryTable
 pub mod Found
 pub mod Hashes
+pub mod Inside
 pub mod Lengths
 pub mod Parts
 pub mod Peeling

@@ -9,7 +9,9 @@ use Rattle.spell_types.specs.declared.rules.Rule.{Rule}
 use Rattle.spell_types.specs.declared.rules.Side.TheVariants.{Suffix}
 use Rattle.spell_types.specs.Flags.{has}
 use Rattle.affix_tables.specs.Tables.{IsTableOf}
+use Rattle.affix_strip.specs.Classes.{has_flag_of}
 use Rattle.affix_strip.specs.EntryTable.{HasEntries}
+use Rattle.affix_strip.specs.Inside.{IsInside}
 use Rattle.affix_strip.specs.Lengths.{IsLongest}
 use Rattle.affix_strip.specs.Peeling.{may_undo_at}
 use Rattle.affix_strip.specs.declared.barring.Barring.{Barring}
@@ -27,15 +29,6 @@ pub record AreSeconds (rules : List Rule) (seconds : List Bool) : Type 0 where
   pub set : List Flag
   pub carried : HasCarried rules set
   pub are : seconds ≡ map (λ rule. has set (Some rule.flag)) rules
-
--- the set has the flag of each rule's class
-pub record HasClasses (rules : List Rule) (set : List Flag) : Type 0 where
-  pub flags : (place : ℕ) (rule : Rule) → slice_get rules place ≡ Some rule
-      → has set (Some rule.flag) ≡ true
-
--- whether the set has one of these flags
-abbrev pub has_flag_of : List Flag → List Flag → Bool
-has_flag_of set flags = list_any (λ flag. has set (Some flag)) flags
 
 -- whether the entry is forbidden
 abbrev pub is_forbidden_entry : Lexicon → Entry → Bool
@@ -71,6 +64,7 @@ pub record AreTablesOf (lexicon : Lexicon) (tables : Tables) : Type 0 where
   pub has_seconds : tables.has_seconds ≡ list_any (λ may. may) tables.seconds.items
   pub barring : IsBarring lexicon tables.barring
   pub longest : IsLongest lexicon tables.longest
+  pub inside : IsInside lexicon tables.inside
 
 -- the tables are those of the dictionary
 abbrev pub IsReady : IndexedLexicon → Type 0

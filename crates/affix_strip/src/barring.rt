@@ -3,7 +3,7 @@
 ghost use Rattle.std.specs.Prelude.{◌≡◌, IfOk};
 ghost use Rattle.std.specs.List.{list_any};
 ghost use Rattle.affix_strip.specs.Tables.{IsBarring, is_forbidden_entry, takes_affixes};
-ghost use Rattle.affix_strip.specs.Tables.{has_flag_of};
+ghost use Rattle.affix_strip.specs.Classes.{has_flag_of};
 
 use crate::rule_flags::flags_of_classes;
 use lists::NoMemory;
@@ -57,7 +57,7 @@ fn one_takes_affixes(lexicon: &Lexicon, classes: &FlagSet) -> bool
 }
 
 /// Whether one of these flags is in the set.
-fn has_flag_of(flags: &FlagSet, set: &FlagSet) -> bool
+pub(crate) fn has_flag_of(flags: &FlagSet, set: &FlagSet) -> bool
     ensures { result ≡ has_flag_of set.now flags.now }
 {
     flags.as_slice().iter().any(|flag| has(set, Some(*flag)))

@@ -1,7 +1,8 @@
 //! The derivations of a word, found by undoing its affixes.
 #![tactic(auto)]
 
-ghost use Rattle.std.specs.Prelude.{◌≡◌, ◌↔◌, ℕ, ◌<◌, List, Some, true, length, Contains, IfOk};
+ghost use Rattle.std.specs.Prelude.{◌≡◌, ◌↔◌, ℕ, ◌<◌, List, Some, true, false, length, Contains};
+ghost use Rattle.std.specs.Prelude.{IfOk};
 ghost use Rattle.spell_types.specs.declared.Lexicon.{Lexicon};
 ghost use Rattle.spell_types.specs.declared.derivations.Derivation.{Derivation};
 ghost use Rattle.spell_types.specs.Derivations.{form_of};
@@ -9,10 +10,13 @@ ghost use Rattle.spell_types.specs.Bases.{is_alone_in_case};
 ghost use Rattle.spell_types.specs.Licences.{is_licensed, is_derived, is_barred};
 ghost use Rattle.spell_types.specs.Sanity.{IsSane};
 ghost use Rattle.affix_strip.specs.Found.{derivations_of, derivation_cmp, AreInOrder};
+ghost use Rattle.affix_strip.specs.Inside.{StandsInside};
 
 mod barring;
+mod edges;
 mod entry_table;
 mod hashed;
+mod inside;
 mod lengths;
 mod peeling;
 mod rule_flags;
@@ -20,7 +24,7 @@ mod visiting;
 mod walk;
 
 use lists::NoMemory;
-use spell_types::{Case, Derivation, Lexicon};
+use spell_types::{Case, Derivation, Lexicon, Place};
 use std::alloc::Global;
 use std::cmp::Ordering;
 use std::marker::Model;
@@ -73,6 +77,16 @@ impl Stems {
             → length text < count }
     {
         self.dictionary.is_too_long(count)
+    }
+
+    /// Whether a text may be a part of a compound that stands at a place before another part. Where
+    /// the answer is no, none of its derivations may stand there, by its flags or in a compound
+    /// rule. It is told by filters, so that most texts need no other look.
+    pub fn may_stand(&self, text: &[char], place: Place) -> bool
+        ensures { result ≡ false → (d : Derivation) → is_licensed self.now d ≡ true
+            → form_of self.now d ≡ Some text.now → ¬ (StandsInside self.now place d) }
+    {
+        self.dictionary.may_stand(text, place)
     }
 
     /// All derivations of a word: those that are licensed and whose form is the word, by entry,

@@ -3,7 +3,8 @@
 ghost use Rattle.std.specs.Prelude.{◌≡◌, Some, map, OnOk, IfOk, if◌then◌else◌};
 ghost use Rattle.spell_types.specs.Derivations.{is_same_side};
 ghost use Rattle.spell_types.specs.Flags.{has, put_all};
-ghost use Rattle.affix_strip.specs.Tables.{HasCarried, AreSeconds, HasClasses};
+ghost use Rattle.affix_strip.specs.Classes.{HasClasses};
+ghost use Rattle.affix_strip.specs.Tables.{HasCarried, AreSeconds};
 
 use lists::NoMemory;
 use spell_types::{FlagSet, Rule, Side, has, sets_have_their_flags};

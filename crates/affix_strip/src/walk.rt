@@ -2,7 +2,7 @@
 //! left is looked up.
 
 ghost use Rattle.std.specs.Prelude.{◌≡◌, ◌++◌, ◌^◌, ◌<◌, [], ◌∷◌, ℕ, Bool, List, Some, None, true};
-ghost use Rattle.std.specs.Prelude.{length, map, filter, is_some, Contains, IfOk};
+ghost use Rattle.std.specs.Prelude.{false, length, map, filter, is_some, Contains, IfOk};
 ghost use Rattle.std.specs.List.{list_any};
 ghost use Rattle.spell_types.specs.declared.derivations.Derivation.{Derivation};
 ghost use Rattle.spell_types.specs.Derivations.{form_of};
@@ -10,6 +10,7 @@ ghost use Rattle.spell_types.specs.Licences.{is_licensed, is_forbidden};
 ghost use Rattle.affix_strip.specs.EntryTable.{AreEntriesOf};
 ghost use Rattle.affix_strip.specs.Found.{derivations_of};
 ghost use Rattle.affix_strip.specs.Hashes.{IsHashed};
+ghost use Rattle.affix_strip.specs.Inside.{StandsInside};
 ghost use Rattle.affix_strip.specs.Parts.{stem_of, with_first, with_suffixes, Any, Outside, Passes};
 ghost use Rattle.affix_strip.specs.Parts.{AtSome, Shows, From, FromAll, RuleFrom, Peels};
 ghost use Rattle.affix_strip.specs.Peeling.{may_undo, may_undo_at, fits_on};
@@ -18,6 +19,7 @@ ghost use Rattle.affix_strip.specs.Tables.{AreTablesOf, IsReady, may_be_outer, m
 use crate::barring::{Barring, barring_of};
 use crate::entry_table::{EntryTable, Places};
 use crate::hashed::Hashed;
+use crate::inside::Inside;
 use crate::lengths::longest_of;
 use crate::peeling::{Peeled, peel};
 use crate::rule_flags::second_suffixes;
@@ -25,7 +27,7 @@ use crate::visiting::{Forbidden, Question, Test, Visitor};
 use affix_classes::{matches_back, matches_front, undoing_leads_back};
 use affix_tables::AffixTables;
 use lists::NoMemory;
-use spell_types::{Derivation, Lexicon, Rule, Side, licensed};
+use spell_types::{Derivation, Lexicon, Place, Rule, Side, licensed};
 use std::alloc::Global;
 
 /// A dictionary, and tables of its rules and entries.
@@ -49,6 +51,8 @@ struct Tables {
     barring: Barring,
     /// How long a form is at most.
     longest: Option<usize>,
+    /// Which texts may be parts of compounds before other parts.
+    inside: Inside,
 }
 
 impl Tables {
@@ -70,6 +74,7 @@ impl Tables {
             has_seconds,
             barring,
             longest: longest_of(lexicon),
+            inside: Inside::new(alloc, lexicon)?,
         })
     }
 }
@@ -96,6 +101,16 @@ impl IndexedLexicon {
             None => false,
             Some(most) => most < count,
         }
+    }
+
+    /// Whether a derivation with this form may stand at a place of a compound before another part.
+    pub(crate) fn may_stand(&self, text: &[char], place: Place) -> bool
+        requires { IsReady self.now }
+        ensures { result ≡ false → (d : Derivation) → is_licensed self.now.lexicon d ≡ true
+            → form_of self.now.lexicon d ≡ Some text.now
+            → ¬ (StandsInside self.now.lexicon place d) }
+    {
+        self.tables.inside.may_have(text, place)
     }
 
     /// Whether one of the derivations of a word passes a test. The walk ends at the first that

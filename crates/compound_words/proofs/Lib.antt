@@ -10,5 +10,6 @@ pub mod AddLemmas
 pub mod HeadLemmas
 pub mod RowLemmas
 pub mod MadeLemmas
+pub mod ReachLemmas
 pub mod ReplacementLemmas
 pub mod RuleLemmas

@@ -154,7 +154,7 @@ tripled-end x y tripled c more is =
     by (inr one) =
         (and_parts (ends_with nat_eq x (c ∷ [])) (starts_with nat_eq more (c ∷ [])) one).0
 
-simplified-points : (lexicon : Lexicon) (x : List ℕ) (d : Derivation) (y : List ℕ) (e : Derivation)
+pub simplified-points : (lexicon : Lexicon) (x : List ℕ) (d : Derivation) (y : List ℕ) (e : Derivation)
     → is_simplified lexicon x d y e ≡ true
     → (lexicon.affixes.options.simplified ≡ true) × (is_tripled x y ≡ true)
 unfolding is_simplified

@@ -39,7 +39,7 @@ use Rattle.compound_words.specs.Pieces.{IsGivenAs, cuts, end_of, may_begin}
 use Rattle.compound_words.specs.Pieces.{parts_kept, parts_of, parts_put, parts_replaced}
 use Rattle.compound_words.specs.Pieces.{parts_short, parts_with}
 
-sound-licensed : (lexicon : Lexicon) (d : Derivation) → is_sound lexicon d ≡ true
+pub sound-licensed : (lexicon : Lexicon) (d : Derivation) → is_sound lexicon d ≡ true
     → is_licensed lexicon d ≡ true
 unfolding is_sound is_licensed
 sound-licensed lexicon d sound = by (named lexicon d) sound

@@ -26,6 +26,7 @@ use Rattle.compound_words.specs.Counting.{OneOf}
 use Rattle.compound_words.specs.Rests.{Way, ByFlags, ByRule, matches_from, is_enough, stand_from}
 use Rattle.compound_words.specs.Rests.{holds, AreRest, IsRight, HasPart, IsRow, IsRowAt, AreRows}
 use Rattle.compound_words.specs.Rests.{AreHeads, Grows, HasFirsts, HasInner, Piece}
+use Rattle.compound_words.specs.Reach.{AreReached, IsStartAt, is_reached}
 use Rattle.compound_words.specs.Pieces.{EndsBefore, Whole, may_begin}
 use Rattle.compound_words.proofs.NeighbourLemmas.{joined-begins, joined-ends, last-whole}
 use Rattle.lists.specs.Laws.{each-append, each-weaker}
@@ -184,39 +185,66 @@ rows-weaker : (a : Asked) (rules : List (List PatternStep)) (word : List ℕ) (f
 rows-weaker a rules word from row is =
     record { after = omega (arith, is.after); inside = is.inside; is = is.is; enough = is.enough }
 
--- there is no rest from a place
-pub rows-none : (a : Asked) (rules : List (List PatternStep)) (word : List ℕ) (from : ℕ)
-    (rows : List Row) (rests : List FirstPart) → AreRows a rules word from rows
-    → IsRow a rules (take from word) (drop from word) rests → rests ≡ []
-    → AreRows a rules word (from - 1) rows
-rows-none a rules word from rows rests are is none = record {
+-- what is known of the places behind one is known behind the one before it, if it is known there
+rows-all-more : {a : Asked} {rules : List (List PatternStep)} {reached : List Bool}
+    {word : List ℕ} {rows : List Row} (from : ℕ) → AreRows a rules reached word from rows
+    → (before : List Row) → ((place : ℕ) → OneOf (λ row. row.place ≡ place) rows
+    → OneOf (λ row. row.place ≡ place) before)
+    → ((part : Part) (more : List Part) (way : Way) → is_reached reached from ≡ true
+    → may_begin a.lexicon (take from word) part ≡ true → AreRest a (drop from word) (part ∷ more)
+    → holds a rules Middle way (part ∷ more) ≡ true → OneOf (λ row. row.place ≡ from) before)
+    → (place : ℕ) (part : Part) (more : List Part) (way : Way) → from - 1 < place
+    → place < length word → is_reached reached place ≡ true
+    → may_begin a.lexicon (take place word) part ≡ true → AreRest a (drop place word) (part ∷ more)
+    → holds a rules Middle way (part ∷ more) ≡ true → OneOf (λ row. row.place ≡ place) before
+rows-all-more {a} {rules} {reached} {word} {rows} from are before wider here place part more way
+    above inside told begins rest so = by (cases_lt from place)
+  where
+    by : (from < place) ⊎ (place ≤ from) → OneOf (λ row. row.place ≡ place) before
+    by (inl after) = wider place (are.all place part more way after inside told begins rest so)
+    by (inr below) =
+        let same : place ≡ from = omega (arith, below, above) in
+        subst (λ p. OneOf (λ row. row.place ≡ p) before) (sym same)
+        (here part more way (subst (λ p. is_reached reached p ≡ true) same told)
+        (subst (λ p. may_begin a.lexicon (take p word) part ≡ true) same begins)
+        (subst (λ p. AreRest a (drop p word) (part ∷ more)) same rest) so)
+
+-- a place that may not be reached needs no row
+pub rows-skip : (a : Asked) (rules : List (List PatternStep)) (reached : List Bool)
+    (word : List ℕ) (from : ℕ) (rows : List Row) → AreRows a rules reached word from rows
+    → is_reached reached from ≡ false → AreRows a rules reached word (from - 1) rows
+rows-skip a rules reached word from rows are out = record {
   right =
       each-weaker (IsRowAt a rules word from) (IsRowAt a rules word (from - 1))
       (rows-weaker a rules word from) rows are.right;
   all =
-      λ place part more way after inside begins rest so. by place part more way after inside begins
-      rest so (cases_lt from place);
+      rows-all-more from are rows (λ place one. one)
+      (λ part more way told begins rest so. absurd (true≢false (sym told ∙ out)));
 }
-  where
-    by : (place : ℕ) (part : Part) (more : List Part) (way : Way) → from - 1 < place
-        → place < length word → may_begin a.lexicon (take place word) part ≡ true
-        → AreRest a (drop place word) (part ∷ more) → holds a rules Middle way (part ∷ more) ≡ true
-        → (from < place) ⊎ (place ≤ from) → OneOf (λ row. row.place ≡ place) rows
-    by place part more way above inside begins rest so (inl after) =
-        are.all place part more way after inside begins rest so
-    by place part more way above inside begins rest so (inr before) =
-        let here : place ≡ from = omega (arith, before, above) in
-        absurd (subst (HasPart part) none
-        (is.all part more way
-        (subst (λ p. may_begin a.lexicon (take p word) part ≡ true) here begins)
-        (subst (λ p. AreRest a (drop p word) (part ∷ more)) here rest) so))
+
+-- there is no rest from a place
+pub rows-none : (a : Asked) (rules : List (List PatternStep)) (reached : List Bool)
+    (word : List ℕ) (from : ℕ) (rows : List Row) (rests : List FirstPart)
+    → AreRows a rules reached word from rows
+    → IsRow a rules (take from word) (drop from word) rests → rests ≡ []
+    → AreRows a rules reached word (from - 1) rows
+rows-none a rules reached word from rows rests are is none = record {
+  right =
+      each-weaker (IsRowAt a rules word from) (IsRowAt a rules word (from - 1))
+      (rows-weaker a rules word from) rows are.right;
+  all =
+      rows-all-more from are rows (λ place one. one)
+      (λ part more way told begins rest so.
+      absurd (subst (HasPart part) none (is.all part more way begins rest so)));
+}
 
 -- there are some
-pub rows-more : {a : Asked} {rules : List (List PatternStep)} {word : List ℕ} {from : ℕ}
-    {rows : List Row} (row : Row) → row.place ≡ from → AreRows a rules word from rows → 0 < from
-    → from < length word → IsRow a rules (take from word) (drop from word) row.rests
-    → AreHeads row.rests row.heads → AreRows a rules word (from - 1) (rows ++ row ∷ [])
-rows-more {a} {rules} {word} {from} {rows} row at are some inside is enough = record {
+pub rows-more : {a : Asked} {rules : List (List PatternStep)} {reached : List Bool}
+    {word : List ℕ} {from : ℕ} {rows : List Row} (row : Row) → row.place ≡ from
+    → AreRows a rules reached word from rows → 0 < from → from < length word
+    → IsRow a rules (take from word) (drop from word) row.rests
+    → AreHeads row.rests row.heads → AreRows a rules reached word (from - 1) (rows ++ row ∷ [])
+rows-more {a} {rules} {reached} {word} {from} {rows} row at are some inside is enough = record {
   right =
       each-append (IsRowAt a rules word (from - 1)) rows
       (row ∷ [])
@@ -232,21 +260,11 @@ rows-more {a} {rules} {word} {from} {rows} row at are some inside is enough = re
         tt,
       );
   all =
-      λ place part more way after within begins rest so. by place part more way after within begins
-      rest so (cases_lt from place);
+      rows-all-more from are (rows ++ row ∷ [])
+      (λ place one. one-left (λ row. row.place ≡ place) rows (row ∷ []) one)
+      (λ part more way told begins rest so.
+      one-right (λ row. row.place ≡ from) rows (row ∷ []) (inl at));
 }
-  where
-    by : (place : ℕ) (part : Part) (more : List Part) (way : Way) → from - 1 < place
-        → place < length word → may_begin a.lexicon (take place word) part ≡ true
-        → AreRest a (drop place word) (part ∷ more) → holds a rules Middle way (part ∷ more) ≡ true
-        → (from < place) ⊎ (place ≤ from) → OneOf (λ row. row.place ≡ place)
-        (rows ++ row ∷ [])
-    by place part more way above within begins rest so (inl after) =
-        one-left (λ row. row.place ≡ place) rows (row ∷ [])
-        (are.all place part more way after within begins rest so)
-    by place part more way above within begins rest so (inr before) =
-        one-right (λ row. row.place ≡ place) rows (row ∷ [])
-        (inl (omega (arith, before, above, at)))
 
 -- ---- a row that is gone over
 pub row-at : (a : Asked) (rules : List (List PatternStep)) (word : List ℕ) (from : ℕ)
@@ -390,19 +408,25 @@ rows-one-more law {a} {rules} {here} {word} {from} {rows} {index} {item} {before
 
 -- all rows are gone over
 pub rows-all : MatchesOneByOne → {a : Asked} {rules : List (List PatternStep)} {here : Place}
-    {word : List ℕ} {from : ℕ} {rows : List Row} {index : ℕ} {before now : List FirstPart}
-    → from ≤ length word → length rows ≤ index → AreRows a rules word from rows
+    {reached : List Bool} {word : List ℕ} {from : ℕ} {rows : List Row} {index : ℕ}
+    {before now : List FirstPart}
+    → from ≤ length word → length rows ≤ index → AreReached a rules word reached
+    → (from < length word → is_reached reached from ≡ true) → IsStartAt here from
+    → AreRows a rules reached word from rows
     → AreSoFar a rules here word from rows index before now
     → HasInner a rules here (take from word) (drop from word) now
-rows-all law {a} {rules} {here} {word} {from} {rows} {index} {before} {now} within past are so_far
-    part next more way begins rest so =
+rows-all law {a} {rules} {here} {reached} {word} {from} {rows} {index} {before} {now} within past
+    told told_here start are so_far part next more way begins rest so =
     let some = given-some a part rest.given.0 in
     let place = from + length (stretch part) in
+    let inside = inside-place a word from part next more rest in
     let after = next-at law within (record { begins = begins; rest = rest; so = so }) in
     so_far.has part next more way begins rest so
     (subst (OneOf (λ row. row.place ≡ place)) (sym (take_all index rows past))
-    (are.all place next more after.way (omega (arith, some))
-    (inside-place a word from part next more rest) after.begins after.rest after.so))
+    (are.all place next more after.way (omega (arith, some)) inside
+    (told.next here from part next more way (omega (arith, inside)) (told_here (omega (arith, inside)))
+    start begins rest so)
+    after.begins after.rest after.so))
 
 -- a row of the rests of one part and of those of more
 pub row-whole : {a : Asked} {rules : List (List PatternStep)} {before text front : List ℕ}

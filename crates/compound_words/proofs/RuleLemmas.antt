@@ -7,7 +7,7 @@ use Rattle.std.specs.BTreeSet.{BTreeSet}
 use Rattle.std.specs.List.{AllByRecursion, list_any}
 use Rattle.std.specs.Option.{option_map_or}
 use Rattle.std.proofs.lemmas.List.{take_more}
-use Rattle.std.proofs.lemmas.Bool.{and_parts, or_cases}
+use Rattle.std.proofs.lemmas.Bool.{and_parts, or_cases, or_left, or_right}
 use Rattle.std.proofs.lemmas.Bool.Decides.{nat_tests}
 use Rattle.spell_types.specs.declared.Entry.{Entry}
 use Rattle.spell_types.specs.declared.Lexicon.{Lexicon}
@@ -98,11 +98,36 @@ any-kept keep test none (x ∷ xs) = by (keep x) refl (any-kept keep test none x
     by true is rest = ap (λ b. test x || b) rest
     by false is rest = rest ∙ sym (ap (λ b. b || list_any test xs) (none x is))
 
+-- what one of the kept passes, one of all does
+any-of-kept : {X : Type 0} (keep test : X → Bool) (xs : List X)
+    → list_any test (filter keep xs) ≡ true → list_any test xs ≡ true
+any-of-kept keep test [] any = any
+any-of-kept keep test (x ∷ xs) any = by (keep x) any (any-of-kept keep test xs)
+  where
+    either : (list_any test (filter keep xs) ≡ true → list_any test xs ≡ true)
+        → (test x ≡ true) ⊎ (list_any test (filter keep xs) ≡ true)
+        → (test x || list_any test xs) ≡ true
+    either rest (inl passes) = or_left (test x) (list_any test xs) passes
+    either rest (inr any) = or_right (test x) (list_any test xs) (rest any)
+
+    by : (b : Bool) → list_any test (cond b (x ∷ filter keep xs) (filter keep xs)) ≡ true
+        → (list_any test (filter keep xs) ≡ true → list_any test xs ≡ true)
+        → (test x || list_any test xs) ≡ true
+    by true any rest =
+        either rest (or_cases (test x) (list_any test (filter keep xs)) any)
+    by false any rest = or_right (test x) (list_any test xs) (rest any)
+
 pub kept-rules : MatchesOneByOne → (lexicon : Lexicon) (numbers : BTreeSet ℕ)
     (rules : List (List PatternStep)) → HasFlagsOf numbers lexicon.entries
     → rules ≡ filter (has_step_in numbers) lexicon.affixes.patterns
     → (a : Asked) → a.lexicon ≡ lexicon → AreRulesOf a rules
-kept-rules law lexicon numbers rules all are a is = record { same = same }
+kept-rules law lexicon numbers rules all are a is = record {
+  same = same;
+  fewer =
+      λ test any. ap (λ l. list_any test l.affixes.patterns) is
+      ∙ any-of-kept (has_step_in numbers) test lexicon.affixes.patterns
+      (sym (ap (list_any test) are) ∙ any);
+}
   where
     same : (part : Part) (more : List Part) → IsGiven a part
         → list_any (follows_rule a First (part ∷ more)) rules
@@ -137,6 +162,7 @@ no-rules lexicon rules none empty a is = record {
   same =
       λ part more given. ap (list_any (follows_rule a First (part ∷ more)))
       (empty ∙ sym none ∙ ap (λ l. l.affixes.patterns) (sym is));
+  fewer = λ test any. absurd (true≢false (sym any ∙ ap (list_any test) empty));
 }
 
 -- ---- where no flag allows first parts and there is no rule, nothing is made up

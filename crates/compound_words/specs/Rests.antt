@@ -1,6 +1,6 @@
 -- Lists of parts that make up the rest of a word, and how few parts they may have.
 use Rattle.std.specs.Prelude.{◌≡◌, ℕ, ◌+◌, ◌<◌, Bool, true, false, nat_lt, ◌&&◌, ◌||◌, List, []}
-use Rattle.std.specs.Prelude.{◌∷◌, ◌++◌, length, map, take, drop, slice_get, Option, None, Some}
+use Rattle.std.specs.Prelude.{◌∷◌, ◌++◌, length, map, take, drop, get_or, slice_get, Option, None, Some}
 use Rattle.std.specs.Prelude.{option_and_then, if◌then◌else◌}
 use Rattle.std.specs.Borrow.{Bor}
 use Rattle.std.specs.List.{AllByRecursion, filter, flat_map, list_any}
@@ -147,12 +147,13 @@ pub record IsRowAt (a : Asked) (rules : List (List PatternStep)) (word : List �
   pub is : IsRow a rules (take row.place word) (drop row.place word) row.rests
   pub enough : AreHeads row.rests row.heads
 
--- there is a row for each place behind this one from which parts write the rest of the word
-pub record AreRows (a : Asked) (rules : List (List PatternStep)) (word : List ℕ) (from : ℕ)
-    (rows : List Row) : Type 0 where
+-- there is a row for each place behind this one that may be reached and from which parts write the
+-- rest of the word
+pub record AreRows (a : Asked) (rules : List (List PatternStep)) (reached : List Bool)
+    (word : List ℕ) (from : ℕ) (rows : List Row) : Type 0 where
   pub right : AllByRecursion (IsRowAt a rules word from) rows
   pub all : (place : ℕ) (part : Part) (more : List Part) (way : Way) → from < place
-      → place < length word
+      → place < length word → get_or reached place false ≡ true
       → may_begin a.lexicon (take place word) part ≡ true
       → AreRest a (drop place word) (part ∷ more) → holds a rules Middle way (part ∷ more) ≡ true
       → OneOf (λ row. row.place ≡ place) rows
@@ -264,6 +265,8 @@ pub record AreRulesOf (a : Asked) (rules : List (List PatternStep)) : Type 0 whe
   pub same : (part : Part) (more : List Part) → IsGiven a part
       → list_any (follows_rule a First (part ∷ more)) rules
       ≡ list_any (follows_rule a First (part ∷ more)) a.lexicon.affixes.patterns
+  pub fewer : (test : List PatternStep → Bool) → list_any test rules ≡ true
+      → list_any test a.lexicon.affixes.patterns ≡ true
 
 -- whether there are few enough parts
 abbrev pub is_few : Asked → Option ℕ → Bool

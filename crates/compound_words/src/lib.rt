@@ -9,6 +9,7 @@ ghost use Rattle.compound_words.specs.Rests.{asked_by};
 mod counting;
 mod heads;
 mod pieces;
+mod reach;
 mod replacements;
 mod rests;
 mod rows;

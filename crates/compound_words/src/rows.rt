@@ -7,6 +7,7 @@ ghost use Rattle.spell_types.specs.declared.parts.Place.{Place};
 ghost use Rattle.spell_types.specs.Compounds.{is_made_up};
 ghost use Rattle.compound_words.specs.Counting.{number_at};
 ghost use Rattle.compound_words.specs.Pieces.{AreFronts};
+ghost use Rattle.compound_words.specs.Reach.{AreReached, IsStartAt, is_reached};
 ghost use Rattle.compound_words.specs.Rests.{asked_by, patterns_of, rests_at, may_precede, picked};
 ghost use Rattle.compound_words.specs.Rests.{AreHeads, is_few, has_few, IsAdded, IsAddedOnce};
 ghost use Rattle.compound_words.specs.Rests.{Grows, HasFirsts, HasPart, HasInner, IsFrontOf, IsRow};
@@ -15,6 +16,7 @@ ghost use Rattle.compound_words.specs.Rests.{AreRows, AreRulesOf};
 use crate::counting::number_at;
 use crate::heads::{heads_of, rest_at};
 use crate::pieces::{Piece, Start, parts_of};
+use crate::reach::places_reached;
 use crate::rests::{Behind, FirstPart, Numbers, Row, rest_with};
 use crate::search::Search;
 use lists::{Items, NoMemory};
@@ -30,7 +32,8 @@ pub(crate) fn is_made_up(alloc: Global, search: &Search, word: &[char]) -> Resul
     ensures { IfOk result (λ answer. answer ≡ is_made_up (asked_by search.now) word.now) }
 {
     compounds_have_parts();
-    let rows = rows_of(alloc, search, word)?;
+    let reached = places_reached(alloc, search, word)?;
+    let rows = rows_of(alloc, search, &reached, word)?;
     let mut firsts = Items::new(alloc);
     let lexicon = search.lexicon();
     let start = Start::new(alloc, lexicon, &word[..0])?;
@@ -39,6 +42,7 @@ pub(crate) fn is_made_up(alloc: Global, search: &Search, word: &[char]) -> Resul
         search,
         Place::First,
         &start,
+        &reached,
         word,
         0,
         &rows,
@@ -47,40 +51,90 @@ pub(crate) fn is_made_up(alloc: Global, search: &Search, word: &[char]) -> Resul
     Ok(one_has_few(search, &firsts))
 }
 
-/// The rows of all places inside a word.
-fn rows_of(alloc: Global, search: &Search, word: &[char]) -> Result<Vec<Row>, NoMemory>
+/// The rows of all places inside a word that may be reached.
+fn rows_of(
+    alloc: Global,
+    search: &Search,
+    reached: &[bool],
+    word: &[char],
+) -> Result<Vec<Row>, NoMemory>
+    requires { AreReached (asked_by search.now) (patterns_of search.now) word.now reached.now }
     ensures rows { IfOk result
-        (λ rows. AreRows (asked_by search.now) (patterns_of search.now) word.now 0 rows.items) }
+        (λ rows. AreRows (asked_by search.now) (patterns_of search.now) reached.now word.now 0
+        rows.items) }
     ensures fits { length word.now ≤ 2 ^ 64 - 1 }
 {
     let mut rows = Vec::new(alloc);
     let mut from = word.len();
     while from > 1 {
         from -= 1;
-        let rests = rests_from(alloc, search, word, from, &rows)?;
-        if !rests.is_empty() {
-            let heads = heads_of(alloc, &rests)?;
-            rows.push(Row {
-                place: from,
-                rests,
-                heads,
-            })?;
+        if may_reach(reached, from) {
+            add_row(alloc, search, reached, word, from, &mut rows)?;
         }
     }
     Ok(rows)
+}
+
+/// Whether a place may be reached.
+fn may_reach(reached: &[bool], place: usize) -> bool
+    ensures { result ≡ is_reached reached.now place }
+{
+    match reached.get(place) {
+        None => false,
+        Some(may) => *may,
+    }
+}
+
+/// Adds the row of a place inside a word that may be reached, if there are rests from it.
+fn add_row(
+    alloc: Global,
+    search: &Search,
+    reached: &[bool],
+    word: &[char],
+    from: usize,
+    rows: &mut Vec<Row>,
+) -> Result<(), NoMemory>
+    requires reached { AreReached (asked_by search.now) (patterns_of search.now) word.now
+        reached.now }
+    requires here { is_reached reached.now from ≡ true }
+    requires some { 0 < from }
+    requires within { from < length word.now }
+    requires fits { length word.now ≤ 2 ^ 64 - 1 }
+    requires rows { AreRows (asked_by search.now) (patterns_of search.now) reached.now word.now
+        from rows.old.items }
+    ensures { OnOk result
+        (AreRows (asked_by search.now) (patterns_of search.now) reached.now word.now (from - 1)
+        rows.new.items) }
+{
+    let rests = rests_from(alloc, search, reached, word, from, rows)?;
+    if !rests.is_empty() {
+        let heads = heads_of(alloc, &rests)?;
+        rows.push(Row {
+            place: from,
+            rests,
+            heads,
+        })?;
+    }
+    Ok(())
 }
 
 /// The rests from a place inside a word, where there are those from each place behind it.
 fn rests_from(
     alloc: Global,
     search: &Search,
+    reached: &[bool],
     word: &[char],
     from: usize,
     rows: &[Row],
 ) -> Result<Items<FirstPart>, NoMemory>
+    requires reached { AreReached (asked_by search.now) (patterns_of search.now) word.now
+        reached.now }
+    requires here { is_reached reached.now from ≡ true }
+    requires some { 0 < from }
     requires within { from < length word.now }
     requires fits { length word.now ≤ 2 ^ 64 - 1 }
-    requires rows { AreRows (asked_by search.now) (patterns_of search.now) word.now from rows.now }
+    requires rows { AreRows (asked_by search.now) (patterns_of search.now) reached.now word.now
+        from rows.now }
     ensures { IfOk result
         (IsRow (asked_by search.now) (patterns_of search.now) (take from word.now)
         (drop from word.now)) }
@@ -94,6 +148,7 @@ fn rests_from(
         search,
         Place::Middle,
         &start,
+        reached,
         word,
         from,
         rows,
@@ -108,12 +163,18 @@ fn add_before_rows<'a>(
     search: &Search,
     here: Place,
     start: &'a Start<'a>,
+    reached: &[bool],
     word: &'a [char],
     from: usize,
     rows: &'a [Row],
     row: &mut Items<FirstPart>,
 ) -> Result<(), NoMemory>
-    requires rows { AreRows (asked_by search.now) (patterns_of search.now) word.now from rows.now }
+    requires reached { AreReached (asked_by search.now) (patterns_of search.now) word.now
+        reached.now }
+    requires at { from < length word.now → is_reached reached.now from ≡ true }
+    requires start { IsStartAt here from }
+    requires rows { AreRows (asked_by search.now) (patterns_of search.now) reached.now word.now
+        from rows.now }
     requires fits { length word.now ≤ 2 ^ 64 - 1 }
     requires within { from ≤ length word.now }
     requires front { IsFrontOf here (take from word.now) }

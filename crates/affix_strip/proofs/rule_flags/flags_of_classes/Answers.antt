@@ -1,7 +1,7 @@
 -- The flag of one rule more is in the set.
 use Rattle.std.proofs.Common.{◌<◌, ◌∙◌, [], ◌∷◌, ◌++◌, ap, sym, subst, take, length, arith}
 use Rattle.std.proofs.lemmas.List.{take_more}
-use Rattle.affix_strip.specs.Tables.{HasClasses}
+use Rattle.affix_strip.specs.Classes.{HasClasses}
 use Rattle.affix_strip.proofs.TableLemmas.{classes-more}
 use Rattle.affix_strip.proofs.rule_flags.flags_of_classes.Goals as goal
 

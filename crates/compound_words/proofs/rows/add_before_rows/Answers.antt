@@ -51,7 +51,7 @@ loop-behind-preserved c =
 pub returns-clause-all : goal.returns-clause-all
 returns-clause-all c =
     rows-all c.patterns_match.ensures.one_by_one c.requires.within c.loop-behind-test.false
-    c.requires.rows c.loop-behind.invariant
+    c.requires.reached c.requires.at c.requires.start c.requires.rows c.loop-behind.invariant
 
 pub add_before-requires-clause-row : goal.add_before-requires-clause-row
 add_before-requires-clause-row c =

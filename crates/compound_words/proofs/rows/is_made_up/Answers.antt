@@ -14,7 +14,7 @@ returns c =
     let start =
     subst (AllByRecursion (IsRight a rules First c.args.word.now))
     (sym c.new-firsts.ensures) tt in
-    c.one_has_few.ensures ∙ ap (list_any (has_few a)) c.deref-2.ensures
+    c.one_has_few.ensures ∙ ap (list_any (has_few a)) c.deref-4.ensures
     ∙ firsts-answer a rules c.args.word.now c.add_before_rows.new.row c.requires
     (row.grows.right start) row.all
     (c.compounds_have_parts.ensures.made_up a c.args.word.now)

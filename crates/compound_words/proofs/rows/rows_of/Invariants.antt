@@ -7,7 +7,8 @@ abbrev pub invariant-loop-from : goal.invariant-loop-from
 invariant-loop-from l = record {
   within : l.from ≤ length l.word;
   fits : length l.word ≤ 2 ^ 64 - 1;
-  rows : AreRows (asked_by l.search) (patterns_of l.search) l.word (l.from - 1) l.rows.items;
+  rows : AreRows (asked_by l.search) (patterns_of l.search) l.reached l.word (l.from - 1)
+      l.rows.items;
 }
 
 abbrev pub decreases-loop-from : goal.decreases-loop-from

@@ -10,4 +10,5 @@ returns c = record {
   has_seconds = search rules;
   barring = search rules;
   longest = search rules;
+  inside = search rules;
 }

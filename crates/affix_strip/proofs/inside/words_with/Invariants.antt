@@ -1,0 +1,9 @@
+-- So far the words of the entries before the loop's place are there.
+use Rattle.std.proofs.Common.{◌≡◌, ℕ, ◌<◌, slice_get, Some}
+use Rattle.spell_types.specs.declared.Entry.{Entry}
+use Rattle.affix_strip.specs.Inside.{IsNotedWord}
+use Rattle.affix_strip.proofs.inside.words_with.Given as goal
+
+abbrev pub invariant-loop-entry : goal.invariant-loop-entry
+invariant-loop-entry l = (place : ℕ) (entry : Entry) → place < l.entry-index
+    → slice_get l.entries place ≡ Some entry → IsNotedWord l.flags l.words entry
