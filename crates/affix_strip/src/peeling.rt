@@ -14,7 +14,8 @@ use spell_types::Side;
 use std::alloc::Global;
 use std::marker::Model;
 
-/// No more groups of rules may have made most words, so that their list is made at once.
+/// No more groups of rules may have made most words, so that their list is made at once, where there
+/// is one.
 const MOST: usize = 12;
 
 /// A word without the affix of a group of rules, which all add and strip off the same. Whether one
@@ -102,7 +103,7 @@ pub(crate) fn peel<'a>(
     ensures { (rules : List Rule) → IsTableOf rules tables.now
         → IfOk result (λ found. ArePeeled rules side word.now found.items) }
 {
-    let mut found = Vec::with_capacity(alloc, MOST)?;
+    let mut found = Vec::new(alloc);
     for count in 0..reach(tables, side, word) + 1 {
         let (added, kept) = cut(side, word, count);
         add_groups(side, &groups(tables, side, added), kept, &mut found)?;
@@ -161,6 +162,30 @@ fn add_groups<'a>(
     if groups.is_empty() {
         return Ok(());
     }
+    make_room(found)?;
+    push_groups(side, groups, kept, found)
+}
+
+/// Makes room in an empty list for what most words need.
+fn make_room(found: &mut Vec<Peeled<'_>>) -> Result<(), NoMemory>
+    ensures { OnOk result (found.new.items ≡ found.old.items) }
+{
+    if found.is_empty() {
+        found.reserve(MOST)?;
+    }
+    Ok(())
+}
+
+/// Adds what each of the groups leaves.
+fn push_groups<'a>(
+    side: Side,
+    groups: &Groups<'a>,
+    kept: &'a [char],
+    found: &mut Vec<Peeled<'a>>,
+) -> Result<(), NoMemory>
+    ensures { OnOk result
+        (found.new.items ≡ found.old.items ++ map (peeled_by side kept.now) groups.now) }
+{
     let hashed = Hashed::new(kept);
     for number in 0..groups.len() {
         let strip = group_strip(groups, number);

@@ -6,7 +6,7 @@ use Rattle.affix_strip.proofs.peeling.peel.Goals as goal
 pub loop-count-init : goal.loop-count-init
 loop-count-init c =
     λ rs holds. subst (ArePeeledBelow rs c.args.side c.args.word.now 0)
-    (sym c.in_ok-found.ensures.items) (peeled-none rs c.args.side c.args.word.now)
+    (sym c.new-found.ensures.items) (peeled-none rs c.args.side c.args.word.now)
 
 pub loop-count-preserved : goal.loop-count-preserved
 loop-count-preserved c = λ rs holds.

@@ -2,7 +2,7 @@
 use Rattle.std.proofs.Common.{rules, ◌∙◌, ap, ap₂}
 use Rattle.affix_strip.specs.Peeling.{Peeled, join}
 use Rattle.affix_strip.proofs.PeelLemmas.{peeled-next}
-use Rattle.affix_strip.proofs.peeling.add_groups.Goals as goal
+use Rattle.affix_strip.proofs.peeling.push_groups.Goals as goal
 
 pub loop-number-preserved : goal.loop-number-preserved
 loop-number-preserved c =

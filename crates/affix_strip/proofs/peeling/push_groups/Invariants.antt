@@ -1,7 +1,7 @@
 -- So far what the groups before the loop's number leave is added.
 use Rattle.std.proofs.Common.{◌≡◌, ◌++◌, map, take}
 use Rattle.affix_strip.specs.Peeling.{peeled_by}
-use Rattle.affix_strip.proofs.peeling.add_groups.Given as goal
+use Rattle.affix_strip.proofs.peeling.push_groups.Given as goal
 
 abbrev pub invariant-loop-number : goal.invariant-loop-number
 invariant-loop-number l =
