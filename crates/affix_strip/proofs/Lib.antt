@@ -4,6 +4,7 @@ pub mod DerivedLemmas
 pub mod EdgeLemmas
 pub mod EntryLemmas
 pub mod FoundLemmas
+pub mod HeadLemmas
 pub mod InsideLemmas
 pub mod InverseLemmas
 pub mod LengthLemmas

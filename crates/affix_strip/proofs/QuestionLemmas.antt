@@ -2,14 +2,17 @@
 -- found.
 use Rattle.std.proofs.Common.{◌≡◌, ◌∙◌, ◌↔◌, ◌⊎◌, inl, inr, refl, sym, ap, subst, ℕ, Bool, true}
 use Rattle.std.proofs.Common.{false, true≢false, List, [], ◌∷◌, Contains, None, get_or, Result, Ok}
-use Rattle.std.proofs.Common.{Err, IfOk}
+use Rattle.std.proofs.Common.{Err, IfOk, Some, slice_get}
 use Rattle.std.specs.List.{list_any}
 use Rattle.std.proofs.lemmas.Bool.{false_from_ne_true}
 use Rattle.std.proofs.lemmas.List.Elements.{Contains-get_or}
 use Rattle.std.proofs.lemmas.List.Folds.{list_any_at, list_any_none}
 use Rattle.spell_types.specs.declared.Lexicon.{Lexicon}
 use Rattle.spell_types.specs.declared.derivations.Derivation.{Derivation}
-use Rattle.spell_types.specs.Licences.{is_forbidden}
+use Rattle.spell_types.specs.declared.Entry.{Entry}
+use Rattle.spell_types.specs.Derivations.{form_of}
+use Rattle.spell_types.specs.Flags.{has}
+use Rattle.spell_types.specs.Licences.{is_forbidden, is_licensed}
 use Rattle.affix_strip.specs.Found.{derivations_of}
 use Rattle.affix_strip.specs.Parts.{Passes, sees_by, Shows, stem_of}
 use Rattle.affix_strip.specs.Tables.{OfForbidden, AllowsNone}
@@ -78,6 +81,21 @@ none-forbidden lexicon word none =
     false_from_ne_true (is_forbidden lexicon (get_or (derivations_of lexicon word) k d)) (λ holds.
     let from = from-forbidden lexicon (get_or (derivations_of lexicon word) k d) holds in
     none (get_or (derivations_of lexicon word) k d).entry from.entry from.at from.forbidden)))
+
+-- none of the derivations of a word comes from a forbidden entry
+pub none-from : (lexicon : Lexicon) (word : List ℕ)
+    → ((d : Derivation) → is_licensed lexicon d ≡ true → form_of lexicon d ≡ Some word
+    → (entry : Entry) → slice_get lexicon.entries d.entry ≡ Some entry
+    → has entry.flags lexicon.affixes.signs.forbidden ≡ true → ⊥)
+    → false ≡ list_any (is_forbidden lexicon) (derivations_of lexicon word)
+none-from lexicon word none =
+    sym (list_any_none (is_forbidden lexicon) (derivations_of lexicon word) (λ k d within.
+    false_from_ne_true (is_forbidden lexicon (get_or (derivations_of lexicon word) k d)) (λ holds.
+    let at = get_or (derivations_of lexicon word) k d in
+    let from = from-forbidden lexicon at holds in
+    let gives = (derivations-members lexicon word at).0
+    (Contains-get_or (derivations_of lexicon word) k d within) in
+    none at gives.0 gives.1 from.entry from.at from.forbidden)))
 
 -- a forbidden word is that of an entry
 pub barred-bare : (lexicon : Lexicon) (word : List ℕ) (last : Derivation → Bool) (b : Bool)

@@ -1,5 +1,5 @@
 -- What some rules of a side add, by hashes of these texts.
-use Rattle.std.specs.Prelude.{◌≡◌, ℕ, ◌<◌, ◌≤◌, Bool, true, false, ◌&&◌, List, [], length}
+use Rattle.std.specs.Prelude.{◌≡◌, ℕ, ◌<◌, ◌≤◌, Bool, true, false, ◌&&◌, List, [], ◌++◌, length}
 use Rattle.std.specs.Prelude.{slice_get, Some}
 use Rattle.key_filter.specs.declared.KeyFilter.{KeyFilter}
 use Rattle.key_filter.specs.Filter.{may_have}
@@ -49,3 +49,8 @@ IsEdge rules side those edge =
 pub data IsBegun (words : KeyFilter) (rule : Rule) (rest : List ℕ) : Type 0 where
   Silent : IsSilent rule → IsBegun words rule rest
   Before : rule.strip ≡ [] → may_have words (hash_of rest) ≡ false → IsBegun words rule rest
+
+-- none of the rules may begin the text, but those that leave it as it is
+abbrev pub NoneBegin : Edge → List ℕ → Type 0
+NoneBegin edge text = (rule : Rule) (rest : List ℕ) → IsNoted edge rule → text ≡ rule.add ++ rest
+    → IsSilent rule

@@ -3,6 +3,7 @@ pub mod Edges
 pub mod EntryTable
 pub mod Found
 pub mod Hashes
+pub mod Heads
 pub mod Inside
 pub mod Lengths
 pub mod Parts

@@ -11,6 +11,7 @@ use Rattle.spell_types.specs.Flags.{has}
 use Rattle.affix_tables.specs.Tables.{IsTableOf}
 use Rattle.affix_strip.specs.Classes.{has_flag_of}
 use Rattle.affix_strip.specs.EntryTable.{HasEntries}
+use Rattle.affix_strip.specs.Heads.{IsHeaded}
 use Rattle.affix_strip.specs.Inside.{IsInside}
 use Rattle.affix_strip.specs.Lengths.{IsLongest}
 use Rattle.affix_strip.specs.Peeling.{may_undo_at}
@@ -63,6 +64,7 @@ pub record AreTablesOf (lexicon : Lexicon) (tables : Tables) : Type 0 where
   pub seconds : AreSeconds lexicon.affixes.rules tables.seconds.items
   pub has_seconds : tables.has_seconds ≡ list_any (λ may. may) tables.seconds.items
   pub barring : IsBarring lexicon tables.barring
+  pub heads : IsHeaded lexicon tables.heads
   pub longest : IsLongest lexicon tables.longest
   pub inside : IsInside lexicon tables.inside
 

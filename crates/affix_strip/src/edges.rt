@@ -6,7 +6,7 @@ ghost use Rattle.key_filter.specs.Filter.{may_have};
 ghost use Rattle.spell_types.specs.declared.rules.Rule.{Rule};
 ghost use Rattle.spell_types.specs.Derivations.{is_same_side};
 ghost use Rattle.affix_strip.specs.Edges.{is_wanted, IsNoted, KeepsNoted, IsEdge, IsSilent};
-ghost use Rattle.affix_strip.specs.Edges.{IsBegun};
+ghost use Rattle.affix_strip.specs.Edges.{IsBegun, NoneBegin};
 ghost use Rattle.affix_strip.specs.Hashes.{hash_of};
 
 use crate::hashed::{START, fold};
@@ -97,6 +97,23 @@ impl Edge {
         }
         for count in 0..self.longest.min(text.len()) {
             let key = fold(START, &text[text.len() - (count + 1)..]);
+            if self.plain.may_have(key) || self.exchanged.may_have(key) {
+                return true;
+            }
+        }
+        false
+    }
+
+    /// Whether a text may begin with what one of the rules adds.
+    pub(crate) fn may_begin(&self, text: &[char]) -> bool
+        ensures { result ≡ false → NoneBegin self.now text.now }
+    {
+        if self.shortens {
+            return true;
+        }
+        let mut key = START;
+        for count in 0..self.longest.min(text.len()) {
+            key = fold(key, &text[count..count + 1]);
             if self.plain.may_have(key) || self.exchanged.may_have(key) {
                 return true;
             }

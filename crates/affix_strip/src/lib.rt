@@ -16,6 +16,7 @@ mod barring;
 mod edges;
 mod entry_table;
 mod hashed;
+mod heads;
 mod inside;
 mod lengths;
 mod peeling;

@@ -19,6 +19,7 @@ ghost use Rattle.affix_strip.specs.Tables.{AreTablesOf, IsReady, may_be_outer, m
 use crate::barring::{Barring, barring_of};
 use crate::entry_table::{EntryTable, Places};
 use crate::hashed::Hashed;
+use crate::heads::Heads;
 use crate::inside::Inside;
 use crate::lengths::longest_of;
 use crate::peeling::{Peeled, peel};
@@ -27,7 +28,7 @@ use crate::visiting::{Forbidden, Question, Test, Visitor};
 use affix_classes::{matches_back, matches_front, undoing_leads_back};
 use affix_tables::AffixTables;
 use lists::NoMemory;
-use spell_types::{Derivation, Lexicon, Place, Rule, Side, licensed};
+use spell_types::{Derivation, Lexicon, Place, Rule, Side, licensed, sets_have_their_flags};
 use std::alloc::Global;
 
 /// A dictionary, and tables of its rules and entries.
@@ -49,6 +50,8 @@ struct Tables {
     /// Whether one of them may.
     has_seconds: bool,
     barring: Barring,
+    /// What the forms of forbidden words begin with.
+    heads: Heads,
     /// How long a form is at most.
     longest: Option<usize>,
     /// Which texts may be parts of compounds before other parts.
@@ -73,6 +76,7 @@ impl Tables {
             seconds,
             has_seconds,
             barring,
+            heads: Heads::new(alloc, lexicon)?,
             longest: longest_of(lexicon),
             inside: Inside::new(alloc, lexicon)?,
         })
@@ -130,7 +134,8 @@ impl IndexedLexicon {
     }
 
     /// Whether a word is the form of a forbidden entry. Where such entries allow no affix, it is
-    /// looked up only among the words of entries.
+    /// looked up only among the words of entries, and otherwise it is not where its front tells
+    /// that it is none.
     pub(crate) fn is_barred(&self, alloc: Global, word: &[char]) -> Result<bool, NoMemory>
         requires { IsReady self.now }
         ensures { IfOk result (λ answer.
@@ -146,7 +151,13 @@ impl IndexedLexicon {
                 let mut question = Question { test };
                 self.visit_bare(alloc, &[None], word, &mut question)
             }
-            Barring::AtForms => self.one_passes(alloc, word, test),
+            Barring::AtForms => {
+                if !self.tables.heads.may_begin(word) {
+                    sets_have_their_flags();
+                    return Ok(false);
+                }
+                self.one_passes(alloc, word, test)
+            }
         }
     }
 

@@ -9,6 +9,7 @@ returns c = record {
   seconds = search rules;
   has_seconds = search rules;
   barring = search rules;
+  heads = search rules;
   longest = search rules;
   inside = search rules;
 }

@@ -1,0 +1,152 @@
+//! Which words may be forms of forbidden words. Suffixes change no more than the end of a word, so
+//! that its front tells most words that are none, without a look at rules or entries.
+
+ghost use Rattle.std.specs.Prelude.{◌≡◌, false, length, IfOk, IfSome};
+ghost use Rattle.affix_strip.specs.Heads.{AreCutWithin, AreHeads, AreStripsWithin, IsNotedHead};
+ghost use Rattle.affix_strip.specs.Heads.{IsHeaded, IsUnheaded, KeepsHeads, MayHeads, NoneHeads};
+ghost use Rattle.affix_strip.specs.Heads.{cut_of};
+
+use crate::barring::has_flag_of;
+use crate::edges::{Edge, Those};
+use crate::hashed::{START, fold};
+use crate::rule_flags::flags_of_classes;
+use key_filter::KeyFilter;
+use lists::NoMemory;
+use spell_types::{Entry, Flag, FlagSet, Lexicon, Rule, Side, has};
+use std::alloc::Global;
+
+/// How many times as many keys the filter has room for as there are heads: each front of a word is
+/// looked for in it.
+const ROOM: usize = 16;
+
+/// What the forms of forbidden words begin with.
+#[derive(Drop)]
+pub(crate) struct Heads {
+    /// The hashes of what all suffixes leave of forbidden entries' words, at their fronts. There is
+    /// no filter if the numbers do not fit.
+    heads: Option<KeyFilter>,
+    /// What prefixes add.
+    prefixes: Edge,
+}
+
+impl Heads {
+    /// What the forms of a dictionary's forbidden words begin with.
+    pub(crate) fn new(alloc: Global, lexicon: &Lexicon) -> Result<Heads, NoMemory>
+        ensures { IfOk result (IsHeaded lexicon.now) }
+    {
+        let heads = filter_of(alloc, lexicon)?;
+        let prefixes = Edge::new(alloc, Side::Prefix, Those::All, &lexicon.affixes.rules)?;
+        Ok(Heads { heads, prefixes })
+    }
+
+    /// Whether a word may be a form of a forbidden word.
+    pub(crate) fn may_begin(&self, word: &[char]) -> bool
+        ensures { result ≡ false → IsUnheaded self.now word.now }
+    {
+        match &self.heads {
+            None => true,
+            Some(heads) => has_head(heads, word) || self.prefixes.may_begin(word),
+        }
+    }
+}
+
+/// The hashes of the heads of a dictionary's forbidden words, if the numbers fit.
+fn filter_of(alloc: Global, lexicon: &Lexicon) -> Result<Option<KeyFilter>, NoMemory>
+    ensures { IfOk result (MayHeads lexicon.now) }
+{
+    let rules = &lexicon.affixes.rules;
+    let classes = flags_of_classes(alloc, rules)?;
+    let longest = longest_strip(rules);
+    match longest_cut(rules, &classes, longest) {
+        None => Ok(None),
+        Some(most) => {
+            let forbidden = lexicon.affixes.signs.forbidden;
+            let heads = heads_of(alloc, &lexicon.entries, forbidden, most)?;
+            Ok(Some(heads))
+        }
+    }
+}
+
+/// Whether a front of a word may be one of the heads.
+fn has_head(heads: &KeyFilter, word: &[char]) -> bool
+    ensures { result ≡ false → NoneHeads heads.now word.now (length word.now) }
+{
+    let mut key = START;
+    if heads.may_have(key) {
+        return true;
+    }
+    for count in 0..word.len() {
+        key = fold(key, &word[count..count + 1]);
+        if heads.may_have(key) {
+            return true;
+        }
+    }
+    false
+}
+
+/// The hashes of the heads of the forbidden entries, if suffixes take off so many characters at
+/// most.
+fn heads_of(
+    alloc: Global,
+    entries: &[Entry],
+    forbidden: Option<Flag>,
+    most: usize,
+) -> Result<KeyFilter, NoMemory>
+    ensures { IfOk result (AreHeads entries.now forbidden most) }
+{
+    let count = entries
+        .iter()
+        .filter(|entry| has(&entry.flags, forbidden))
+        .count();
+    let mut heads = KeyFilter::new(alloc, count.saturating_mul(ROOM))?;
+    for entry in entries {
+        add_head(entry, forbidden, most, &mut heads);
+    }
+    Ok(heads)
+}
+
+/// Adds the hash of an entry's head, if the entry is forbidden.
+fn add_head(entry: &Entry, forbidden: Option<Flag>, most: usize, heads: &mut KeyFilter)
+    ensures there { IsNotedHead forbidden most heads.new entry.now }
+    ensures kept { KeepsHeads heads.old heads.new }
+{
+    if has(&entry.flags, forbidden) {
+        let word = entry.word.as_slice();
+        heads.insert(fold(START, &word[..word.len().saturating_sub(most)]));
+    }
+}
+
+/// How many characters suffixes take off the end of a word at most, if the number fits: one of these
+/// rules, and one more behind it where it carries the flag of a class.
+fn longest_cut(rules: &[Rule], classes: &FlagSet, longest: usize) -> Option<usize>
+    ensures { IfSome result (AreCutWithin rules.now classes.now longest) }
+{
+    let mut found = 0;
+    for rule in rules {
+        found = cut_of(rule, classes, longest)?.max(found);
+    }
+    Some(found)
+}
+
+/// How many characters of a word a suffix takes off, and another one behind it, if the number fits.
+fn cut_of(rule: &Rule, classes: &FlagSet, longest: usize) -> Option<usize>
+    ensures { IfSome result (λ cut. cut ≡ cut_of classes.now longest rule.now) }
+{
+    let behind = if has_flag_of(&rule.carried, classes) {
+        longest.saturating_sub(rule.add.len())
+    } else {
+        0
+    };
+    rule.strip.len().checked_add(behind)
+}
+
+/// How many characters a rule strips off at most.
+fn longest_strip(rules: &[Rule]) -> usize
+    ensures { AreStripsWithin rules.now result }
+{
+    let mut found = 0;
+    for rule in rules {
+        found = found.max(rule.strip.len());
+    }
+    found
+}
