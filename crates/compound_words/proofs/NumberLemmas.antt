@@ -1,8 +1,11 @@
 -- Numbers of rests.
 use Rattle.std.proofs.Common.{◌≡◌, refl, sym, ℕ, zero, suc, true, false, List, [], ◌∷◌, drop}
 use Rattle.std.proofs.Common.{slice_get, Option, None, Some, is_none, is_some, option_and_then}
-use Rattle.std.proofs.Common.{true≢false}
+use Rattle.std.proofs.Common.{true≢false, Bool, ◌∙◌}
 use Rattle.std.specs.List.{list_any}
+use Rattle.std.proofs.lemmas.Bool.{false_from_ne_true}
+use Rattle.lists.specs.Laws.{any-at}
+use Rattle.spell_types.specs.declared.flags.Flag.{Flag}
 use Rattle.spell_types.specs.declared.patterns.PatternStep.{PatternStep}
 use Rattle.spell_types.specs.Patterns.{fits_step}
 use Rattle.compound_words.specs.Counting.{number_at}
@@ -28,6 +31,31 @@ by-no-flags rules behind rule step = by (slice_get rules rule)
     by (Some pattern) =
         no-step-from [] (λ j. number_behind rules behind (ByRule rule j)) pattern step
         (none pattern)
+
+-- no step for the flags, no number
+pub by-no-step : (flags : List Flag) (rules : List (List PatternStep)) (behind : Behind)
+    (rule step : ℕ)
+    → list_any (λ steps. list_any (λ s. fits_step s flags) steps) rules ≡ false
+    → number_by_rule flags rules behind rule step ≡ None
+by-no-step flags rules behind rule step none = by (slice_get rules rule) refl
+  where
+    fits : List PatternStep → Bool
+    fits steps = list_any (λ s. fits_step s flags) steps
+
+    not-there : (all : List (List PatternStep)) (place : ℕ) (steps : List PatternStep)
+        → slice_get all place ≡ Some steps → list_any fits all ≡ false → fits steps ≡ false
+    not-there all place steps at out =
+        false_from_ne_true (fits steps) (λ holds.
+        true≢false (sym (any-at fits all place steps at holds) ∙ out))
+
+    by : (found : Option (List PatternStep)) → slice_get rules rule ≡ found
+        → option_and_then
+        (λ pattern. number_by_steps flags (λ j. number_behind rules behind (ByRule rule j))
+        (drop step pattern) step) found ≡ None
+    by None at = refl
+    by (Some pattern) at =
+        no-step-from flags (λ j. number_behind rules behind (ByRule rule j)) pattern step
+        (not-there rules rule pattern at none)
 
 -- where no number is there, there is none at each place
 not-some : (number : Option ℕ) → is_some number ≡ false → number ≡ None

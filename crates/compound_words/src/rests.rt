@@ -165,7 +165,7 @@ fn numbers_by_rules(
 }
 
 /// How few parts each rule matches from each of its steps on, where these are the flags of the
-/// first.
+/// first. Most parts have a flag of no rule, and then there are no numbers.
 fn numbers_by_flags(
     alloc: Global,
     flags: &FlagSet,
@@ -177,6 +177,9 @@ fn numbers_by_flags(
         → numbers_at numbers rule step ≡ number_by_rule flags.now rules.now behind.now rule step) }
 {
     let mut numbers = Items::new(alloc);
+    if !has_rule_for(rules, flags) {
+        return Ok(numbers);
+    }
     for (rule, steps) in rules.iter().enumerate() {
         let own = numbers_by_steps(alloc, flags, rule, steps, behind)?;
         numbers.push(own)?;
@@ -230,6 +233,14 @@ fn fill_numbers(
         numbers[place] = number_from(step, flags, number_at(numbers, place + 1), number);
         matches_nothing &= step.is_left_out();
     }
+}
+
+/// Whether a step of one of the rules stands for parts with these flags.
+fn has_rule_for(rules: &[Pattern], flags: &FlagSet) -> bool
+    ensures { result
+        ≡ list_any (λ steps. list_any (λ step. fits_step step flags.now) steps) rules.now }
+{
+    rules.iter().any(|steps| has_step_for(steps, flags))
 }
 
 /// Whether a step stands for parts with these flags.
