@@ -60,7 +60,7 @@ longer-run from at c characters run is ends =
     longer-begins (first ∷ more) begins none = begins
 
 -- the words of a run and of the text behind it
-abbrev words_behind : List ℕ → List Placed → ℕ → ℕ → List ℕ → List Word
+abbrev pub words_behind : List ℕ → List Placed → ℕ → ℕ → List ℕ → List Word
 words_behind wordchars run at before text =
     filter_map word_of (slice_split is_outside (run ++ placed wordchars at before text))
 

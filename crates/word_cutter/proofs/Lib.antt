@@ -1,2 +1,3 @@
 pub mod CharacterLemmas
 pub mod CutLemmas
+pub mod LetterLemmas

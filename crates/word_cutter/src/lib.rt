@@ -5,16 +5,21 @@
 #![tactic(auto)]
 
 ghost use Rattle.std.specs.Prelude.{◌≡◌, ℕ, ◌+◌, ◌<◌, ◌≤◌, ◌^◌, ◌&&◌, List, [], ◌∷◌, ◌++◌, IfOk};
-ghost use Rattle.std.specs.Prelude.{IfNone, IfSome, encode_utf8, map, length};
+ghost use Rattle.std.specs.Prelude.{IfNone, IfSome, OnOk, Some, true, encode_utf8, map, length};
+ghost use Rattle.std.specs.Char.{is_ascii_alphabetic};
+ghost use Rattle.std.specs.List.{AllByRecursion};
 ghost use Rattle.std.specs.Str.{chars};
 ghost use Rattle.mark_types.specs.Characters.{is_letter_or_digit};
 ghost use Rattle.mark_types.specs.Words.{belongs, first_of, words_of};
 ghost use Rattle.mark_types.specs.Handed.{span_of};
-ghost use Rattle.word_cutter.specs.Runs.{LeavesLess, has_some, words_after, words_from_found};
+ghost use Rattle.word_cutter.specs.Runs.{IsBehind, LeavesLess, has_some};
+ghost use Rattle.word_cutter.specs.Runs.{words_after, words_from_found};
 
 mod characters;
 
-use characters::{is_apostrophe, is_letter_or_digit, is_word_character};
+use characters::{
+    is_apostrophe, is_letter, is_letter_byte, is_letter_or_digit, is_separator, is_word_character,
+};
 use lists::NoMemory;
 use mark_types::Span;
 use std::alloc::Global;
@@ -77,7 +82,102 @@ impl<'a> Rest<'a> {
 
 /// The first word of what is left of a paragraph. Its characters are put where those of another
 /// word stood: no more are held than stand in one run of characters of words.
+///
+/// Most words are ASCII letters between two separators, so such a word is looked for first: its
+/// letters are taken byte by byte, and of WORDCHARS only the characters around it are asked.
 pub fn next_word<'a>(
+    wordchars: &[char],
+    rest: Rest<'a>,
+    word: &mut Vec<char>,
+) -> Result<Option<Found<'a>>, NoMemory>
+    requires { rest.at + length rest.text.now < 2 ^ 32 }
+    ensures words { IfOk result
+        (λ found. words_from_found wordchars.now word.new.items found ≡ words_after wordchars.now
+        rest.entry) }
+    ensures less { IfOk result (λ found. IfSome found (LeavesLess rest.entry)) }
+{
+    let rest = skip_separators(wordchars, rest);
+    match word_of_letters(wordchars, rest, word)? {
+        Some(found) => Ok(Some(found)),
+        None => find_word(wordchars, rest, word),
+    }
+}
+
+/// What is left behind the separators that it begins with.
+fn skip_separators<'a>(wordchars: &[char], rest: Rest<'a>) -> Rest<'a>
+    requires { rest.at + length rest.text.now < 2 ^ 32 }
+    ensures words { words_after wordchars.now result ≡ words_after wordchars.now rest.entry }
+    ensures behind { IsBehind rest.entry result }
+{
+    let mut text = rest.text;
+    let mut before = rest.before;
+    while let Some((c, behind)) = first_character(text) {
+        if !is_separator(wordchars, c) {
+            break;
+        }
+        text = behind;
+        before = c;
+    }
+    Rest {
+        text,
+        at: rest.at + (rest.text.len() - text.len()) as u32,
+        before,
+    }
+}
+
+/// The word that the ASCII letters at the beginning are, if a separator stands behind them.
+fn word_of_letters<'a>(
+    wordchars: &[char],
+    rest: Rest<'a>,
+    word: &mut Vec<char>,
+) -> Result<Option<Found<'a>>, NoMemory>
+    requires { rest.at + length rest.text.now < 2 ^ 32 }
+    ensures words { IfOk result (λ found. IfSome found
+        (λ one. words_from_found wordchars.now word.new.items (Some one)
+        ≡ words_after wordchars.now rest.entry)) }
+    ensures less { IfOk result (λ found. IfSome found (LeavesLess rest.entry)) }
+{
+    let left = take_letters(word, rest.text)?;
+    if word.is_empty() {
+        return Ok(None);
+    }
+    match first_character(left) {
+        Some((c, behind)) if is_separator(wordchars, c) => {
+            let to = rest.at + word.len() as u32;
+            let at = to + c.len_utf8() as u32;
+            Ok(Some(Found {
+                from: rest.at,
+                to,
+                rest: Rest {
+                    text: behind,
+                    at,
+                    before: c,
+                },
+            }))
+        }
+        _ => Ok(None),
+    }
+}
+
+/// Puts the ASCII letters that a text begins with where the characters of another word stood, and
+/// gives what is left behind them.
+fn take_letters<'a>(word: &mut Vec<char>, text: &'a str) -> Result<&'a str, NoMemory>
+    ensures letters { OnOk result
+        (AllByRecursion (λ c. is_ascii_alphabetic c ≡ true) word.new.items) }
+    ensures left { IfOk result (λ left. text.now ≡ word.new.items ++ left.now) }
+{
+    word.clear();
+    for byte in text.as_bytes() {
+        if !is_letter_byte(*byte) {
+            break;
+        }
+        word.push(*byte as char)?;
+    }
+    Ok(&text[word.len()..])
+}
+
+/// The first word, looked for character by character.
+fn find_word<'a>(
     wordchars: &[char],
     rest: Rest<'a>,
     word: &mut Vec<char>,
@@ -178,12 +278,15 @@ fn first_of(text: &str) -> char
     }
 }
 
-/// Whether the character belongs to a word where it stands between these two. Only an apostrophe
-/// needs to know what is behind it.
+/// Whether the character belongs to a word where it stands between these two. A letter does, which
+/// is told with the fewest questions. Only an apostrophe needs to know what is behind it.
 #[tactic(auto, unfolding(mark_types::specs::Words::belongs))]
 fn belongs(wordchars: &[char], before: char, c: char, behind: &str) -> bool
     ensures { result ≡ belongs wordchars.now before c (first_of (chars behind.now)) }
 {
+    if is_letter(c) {
+        return true;
+    }
     is_word_character(wordchars, c)
         || (is_apostrophe(c)
             && is_word_character(wordchars, before)

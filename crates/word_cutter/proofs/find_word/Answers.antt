@@ -5,7 +5,7 @@ use Rattle.word_cutter.proofs.CutLemmas.{Walks, IsFirst, walk-begins, walk-on, w
 use Rattle.word_cutter.proofs.CutLemmas.{walk-found, walk-ends, walk-stops, walk-leaves-less}
 use Rattle.word_cutter.proofs.CutLemmas.{first-size, first-back, back-on}
 use Rattle.std.proofs.lemmas.Str.{IsUtf8-past_char}
-use Rattle.word_cutter.proofs.next_word.Goals as goal
+use Rattle.word_cutter.proofs.find_word.Goals as goal
 
 pub loop-c-init : goal.loop-c-init
 loop-c-init c = (

@@ -3,7 +3,7 @@ use Rattle.std.proofs.Common.{length}
 use denote.Shadow.{shadow}
 use denote.Text.{Utf8}
 use Rattle.word_cutter.proofs.CutLemmas.{Walks}
-use Rattle.word_cutter.proofs.next_word.Given as goal
+use Rattle.word_cutter.proofs.find_word.Given as goal
 
 abbrev pub invariant-loop-c : goal.invariant-loop-c
 invariant-loop-c l =
