@@ -11,6 +11,7 @@ pub mod EntriesOf
 pub mod Flags
 pub mod JointLaws
 pub mod Joints
+pub mod KeptFlags
 pub mod Laws
 pub mod Licences
 pub mod Numbers

@@ -2,13 +2,16 @@
 
 ghost use Rattle.std.specs.Prelude.{◌≡◌, ◌<◌, ◌≤◌, ◌↔◌, ◌==◌, ◌||◌, List, [], ◌∷◌, length};
 ghost use Rattle.std.specs.Prelude.{slice_get, Some, IsTrue, OnOk, OnErr, IfOk, IfErr, Contains};
+ghost use Rattle.std.specs.Prelude.{insert};
 ghost use Rattle.std.specs.List.Sorted.{IsPartitionPoint};
 ghost use Rattle.spell_types.specs.declared.flags.Flag.{Flag};
 ghost use Rattle.spell_types.specs.Flags.{IsRising, put, put_all, has};
+ghost use Rattle.spell_types.specs.KeptFlags.{kept_flags};
 
 use lists::{Copied, NoMemory};
 use std::alloc::Global;
 use std::marker::Model;
+use std::sync::Arc;
 
 /// A flag, by its number.
 #[derive(Clone, Copy, Debug, PartialEq, Eq, PartialOrd, Ord)]
@@ -27,19 +30,28 @@ pub enum FlagKind {
     Num,
 }
 
+/// The flags of a set, which other sets may share. None is the set that takes no memory.
+type Kept = Option<Arc<Vec<Flag>>>;
+
 /// A set of flags. Contracts see it as the list of its flags, which rises, so that none stands in
-/// it twice.
+/// it twice. Copies share their memory up to the next `insert` into one of them.
 #[derive(Debug, Drop)]
 pub struct FlagSet {
-    kept: Vec<Flag>,
+    alloc: Global,
+    kept: Kept,
 }
 
 impl Model for FlagSet {
+    ghost use Rattle.std.specs.Prelude.{List};
+    ghost use Rattle.spell_types.specs.declared.flags.Flag.{Flag};
+    ghost use Rattle.spell_types.specs.Flags.{IsRising};
+    ghost use Rattle.spell_types.specs.KeptFlags.{kept_flags};
+
     ghost Value = { List Flag };
 
-    ghost view = { λ inside. inside.kept.items };
+    ghost view = { λ inside. kept_flags inside.kept };
 
-    ghost invariant = { λ inside. IsRising inside.kept.items };
+    ghost invariant = { λ inside. IsRising (kept_flags inside.kept) };
 }
 
 impl FlagSet {
@@ -47,9 +59,7 @@ impl FlagSet {
     pub fn new(alloc: Global) -> FlagSet
         ensures { result ≡ [] }
     {
-        FlagSet {
-            kept: Vec::new(alloc),
-        }
+        FlagSet { alloc, kept: None }
     }
 
     /// The flags, from the one with the lowest number on.
@@ -57,7 +67,7 @@ impl FlagSet {
         ensures flags { result.now ≡ self.now }
         ensures rising { IsRising self.now }
     {
-        self.kept.as_slice()
+        slice_of(&self.kept)
     }
 
     /// Puts a flag into the set. Where memory is wanting the set stays.
@@ -65,22 +75,58 @@ impl FlagSet {
         ensures ok { OnOk result (self.new ≡ put flag self.old) }
         ensures err { OnErr result (self.new ≡ self.old) }
     {
-        match search(&self.kept, flag) {
+        match search(slice_of(&self.kept), flag) {
             Ok(_) => Ok(()),
-            Err(place) => {
-                self.kept.insert(place, flag)?;
-                Ok(())
-            }
+            Err(place) => insert_at(self.alloc, &mut self.kept, place, flag),
         }
     }
 }
 
+/// A copy shares the memory of its set.
 impl Copied for FlagSet {
     fn copy(&self, alloc: Global) -> Result<FlagSet, NoMemory> {
         Ok(FlagSet {
-            kept: self.kept.to_vec(alloc)?,
+            alloc,
+            kept: share(&self.kept)?,
         })
     }
+}
+
+fn slice_of(kept: &Kept) -> &[Flag]
+    ensures { result.now ≡ kept_flags kept.now }
+{
+    match kept {
+        None => &[],
+        Some(flags) => flags.as_slice(),
+    }
+}
+
+/// The same flags, in memory that both have.
+fn share(kept: &Kept) -> Result<Kept, NoMemory>
+    ensures { IfOk result (λ shared. kept_flags shared ≡ kept_flags kept.now) }
+{
+    match kept {
+        None => Ok(None),
+        Some(flags) => Ok(Some(Arc::try_clone(flags)?)),
+    }
+}
+
+/// Puts a flag at a place. Where other sets share the flags this one gets its own.
+fn insert_at(alloc: Global, kept: &mut Kept, place: usize, flag: Flag) -> Result<(), NoMemory>
+    requires { place ≤ length (kept_flags kept.old) }
+    ensures ok { OnOk result (kept_flags kept.new ≡ insert (kept_flags kept.old) place flag) }
+    ensures err { OnErr result (kept_flags kept.new ≡ kept_flags kept.old) }
+{
+    if let Some(flags) = kept {
+        if let Some(own) = Arc::get_mut(flags) {
+            own.insert(place, flag)?;
+            return Ok(());
+        }
+    }
+    let mut own = slice_of(kept).to_vec(alloc)?;
+    own.insert(place, flag)?;
+    *kept = Some(Arc::new(alloc, own)?);
+    Ok(())
 }
 
 /// Whether a flag is given and the set holds it.
