@@ -1,18 +1,23 @@
 -- How the text before a slash goes on after its first character.
 use Rattle.std.proofs.Common.{◌≡◌, ◌≢◌, ◌∙◌, refl, sym, ap, ℕ, ◌<◌, ◌==◌, ◌&&◌, Bool, true, false}
 use Rattle.std.proofs.Common.{cond, List, [], ◌∷◌, ◌++◌, length, get_or, Option, Some, None, Bor}
-use Rattle.std.proofs.Common.{MatchOption, arith, suc, lit<}
+use Rattle.std.proofs.Common.{MatchOption, arith, suc, lit<, ◌+◌, ◌-◌, ◌≤◌, take, drop, subst}
+use mathlib.Core.Logic.{⊎_elim}
+use Rattle.std.specs.List.{prefix_len, slice_range}
 use Rattle.std.specs.Option.{option_copied}
-use Rattle.std.specs.Str.{chars, IsUtf8}
+use Rattle.std.specs.Str.{chars, IsCharBoundary, IsUtf8}
 use Rattle.std.specs.Char.{IsScalar}
 use Rattle.std.specs.Str.Pattern.{FindsTextPrefix, LacksTextAt, StripsPrefix}
-use Rattle.std.proofs.lemmas.Bool.{and_parts, ne_eqb}
+use Rattle.std.proofs.lemmas.Bool.{and_parts, cases_lt, ne_eqb}
 use Rattle.std.proofs.lemmas.Bool.Decides.{nat_tests}
 use Rattle.std.proofs.lemmas.List.{append-nil}
+use Rattle.std.proofs.lemmas.List.Sums.{prefix_len_stops}
 use Rattle.std.proofs.lemmas.Str.{chars-append, chars_past_char, scalars-chars, inside_one}
 use Rattle.std.proofs.lemmas.Str.{IsUtf8-encode, encode_ascii, chars-nil}
+use Rattle.std.proofs.lemmas.Str.{IsCharBoundary-before_ascii, IsCharBoundary-end}
 use lib.Utf8.{encode, scalar, scalars}
-use Rattle.flag_sets.specs.Slashes.{is_slash, is_backslash, before_slash, behind_slash}
+use Rattle.flag_sets.specs.Slashes.{is_slash, is_backslash, is_plain, before_slash}
+use Rattle.flag_sets.specs.Slashes.{behind_slash}
 
 -- ---- bytes that are neither slash nor backslash
 abbrev IsPlain : ℕ → Type 0
@@ -52,6 +57,80 @@ all-behind [] rest plain = refl
 all-behind (b ∷ bytes) rest plain =
     plain-behind b (bytes ++ rest) (plain 0 (omega arith))
     ∙ all-behind bytes rest (λ k within. plain (suc k) (omega (arith, within)))
+
+plain-parts : (b : ℕ) → is_plain b ≡ true → IsPlain b
+plain-parts b plain = grind (arith, nat_tests)
+
+one-more : (n : ℕ) → 1 + n ≡ suc n
+one-more n = omega arith
+
+-- what stands before the first slash or backslash
+front-before : (text : List ℕ) → before_slash text ≡ take (prefix_len is_plain text) text
+    ++ before_slash (drop (prefix_len is_plain text) text)
+front-before [] = refl
+front-before (b ∷ rest) =
+    elim (is_plain b) as
+    (λ t. is_plain b ≡ t
+    → before_slash (b ∷ rest) ≡ take (cond t (1 + prefix_len is_plain rest) 0) (b ∷ rest)
+    ++ before_slash (drop (cond t (1 + prefix_len is_plain rest) 0) (b ∷ rest))) [
+      | true ↦ λ plain. plain-before b rest (plain-parts b plain)
+          ∙ ap (λ text. b ∷ text) (front-before rest)
+          ∙ ap (λ n. take n (b ∷ rest) ++ before_slash (drop n (b ∷ rest)))
+          (sym (one-more (prefix_len is_plain rest)))
+      | false ↦ λ _. refl
+    ] refl
+
+front-behind : (text : List ℕ)
+    → behind_slash text ≡ behind_slash (drop (prefix_len is_plain text) text)
+front-behind [] = refl
+front-behind (b ∷ rest) =
+    elim (is_plain b) as
+    (λ t. is_plain b ≡ t
+    → behind_slash (b ∷ rest)
+    ≡ behind_slash (drop (cond t (1 + prefix_len is_plain rest) 0) (b ∷ rest))) [
+      | true ↦ λ plain. plain-behind b rest (plain-parts b plain) ∙ front-behind rest
+          ∙ ap (λ n. behind_slash (drop n (b ∷ rest)))
+          (sym (one-more (prefix_len is_plain rest)))
+      | false ↦ λ _. refl
+    ] refl
+
+-- the text is parted there
+pub parted-before : (text front back : List ℕ) (place : ℕ) → place ≡ prefix_len is_plain text
+    → front ≡ slice_range text 0 place → back ≡ drop place text → IsUtf8 front
+    → chars (before_slash text) ≡ chars front ++ chars (before_slash back)
+parted-before text front back place is front_is back_is utf8 =
+    ap chars (front-before text
+    ∙ ap (λ n. take n text ++ before_slash (drop n text)) (sym is)
+    ∙ ap (λ n. take n text ++ before_slash (drop place text)) (whole place)
+    ∙ ap (λ t. t ++ before_slash (drop place text)) (sym front_is)
+    ∙ ap (λ t. front ++ before_slash t) (sym back_is))
+    ∙ chars-append front (before_slash back) utf8
+  where
+    whole : (n : ℕ) → n ≡ n - 0
+    whole n = omega arith
+
+pub parted-behind : (text back : List ℕ) (place : ℕ) → place ≡ prefix_len is_plain text
+    → back ≡ drop place text → behind_slash text ≡ behind_slash back
+parted-behind text back place is back_is =
+    front-behind text ∙ ap (λ n. behind_slash (drop n text)) (sym is)
+    ∙ ap behind_slash (sym back_is)
+
+-- and may be cut there
+pub front-cut : (text bytes : List ℕ) (place : ℕ) → bytes ≡ text → place ≡ prefix_len is_plain bytes
+    → place ≤ length bytes → IsCharBoundary text place
+front-cut text bytes place same is within =
+    ⊎_elim
+    (λ (inside : place < length text). IsCharBoundary-before_ascii text place inside
+    (low (get_or text place 0)
+    (ap (λ t. is_plain (get_or t place 0)) (sym same)
+    ∙ ap (λ n. is_plain (get_or bytes n 0)) is
+    ∙ prefix_len_stops is_plain bytes 0 (omega (arith, inside, is, ap length same)))))
+    (λ (past : length text ≤ place). subst (IsCharBoundary text)
+    (omega (arith, past, within, ap length same)) (IsCharBoundary-end text))
+    (cases_lt place (length text))
+  where
+    low : (c : ℕ) → is_plain c ≡ false → c < 128
+    low c marked = grind (arith, nat_tests)
 
 plain-character : (c : ℕ) → c ≢ 47 → c ≢ 92 → ArePlain (encode c)
 plain-character c no_slash no_backslash k within =

@@ -1,11 +1,15 @@
 -- Where a text is parted from its flags.
-use Rattle.std.specs.Prelude.{ℕ, ◌==◌, ◌&&◌, Bool, List, [], ◌∷◌, Option, None, Some, if◌then◌else◌}
+use Rattle.std.specs.Prelude.{ℕ, ◌==◌, ◌&&◌, not, Bool, List, [], ◌∷◌, Option, None, Some, if◌then◌else◌}
 
 abbrev pub is_slash : ℕ → Bool
 is_slash c = c == 47
 
 abbrev pub is_backslash : ℕ → Bool
 is_backslash c = c == 92
+
+-- neither of them
+abbrev pub is_plain : ℕ → Bool
+is_plain c = not (is_slash c) && not (is_backslash c)
 
 -- the text before its first slash that no backslash precedes, with a slash for each slash that one
 -- precedes

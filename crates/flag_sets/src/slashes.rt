@@ -1,13 +1,14 @@
 //! Texts with flags behind a slash.
 
-ghost use Rattle.std.specs.Prelude.{◌≡◌, ◌<◌, [], ◌∷◌, ◌++◌, length, IfNone, IfSome, OnOk, OnErr};
-ghost use Rattle.std.specs.Prelude.{IfOk};
+ghost use Rattle.std.specs.Prelude.{◌≡◌, ◌<◌, ◌≤◌, [], ◌∷◌, ◌++◌, length, IfNone, IfSome, IfOk};
+ghost use Rattle.std.specs.Prelude.{OnOk, OnErr};
+ghost use Rattle.std.specs.List.{prefix_len};
 ghost use Rattle.std.specs.Option.{option_copied};
 ghost use Rattle.std.specs.Str.{chars};
-ghost use Rattle.flag_sets.specs.Slashes.{before_slash, behind_slash};
+ghost use Rattle.flag_sets.specs.Slashes.{is_plain, before_slash, behind_slash};
 
 use crate::first::next_character;
-use lists::{Copied, NoMemory};
+use lists::{Items, NoMemory};
 use spell_types::Chars;
 use std::alloc::Global;
 
@@ -37,13 +38,44 @@ fn with_text_before_slash<'a>(
     ensures word { IfOk result (λ parted. parted.0 ≡ word.now ++ chars (before_slash text.now)) }
     ensures behind { IfOk result (λ parted. option_copied parted.1 ≡ behind_slash text.now) }
 {
-    let mut longer = word.copy(alloc)?;
-    let mut rest = text;
+    let (plain, mut rest) = plain_front(text);
+    let mut longer = joined(alloc, word, plain)?;
     while let Some((character, more)) = next_before_slash(rest) {
         longer.push(character)?;
         rest = more;
     }
-    Ok((longer, rest.strip_prefix('/')))
+    Ok((Items::from_vec(longer), rest.strip_prefix('/')))
+}
+
+/// The text up to its first slash or backslash, and the rest of it.
+fn plain_front(text: &str) -> (&str, &str)
+    ensures before { chars (before_slash text.now)
+        ≡ chars result.0.now ++ chars (before_slash result.1.now) }
+    ensures behind { behind_slash text.now ≡ behind_slash result.1.now }
+{
+    let end = plain_len(text.as_bytes());
+    (&text[..end], &text[end..])
+}
+
+/// How many bytes stand before the first slash or backslash.
+fn plain_len(text: &[u8]) -> usize
+    ensures plain { result ≡ prefix_len is_plain text.now }
+    ensures within { result ≤ length text.now }
+{
+    text.iter()
+        .take_while(|byte| **byte != b'/' && **byte != b'\\')
+        .count()
+}
+
+/// A word and the characters of a text behind it, in no more memory than they take.
+fn joined(alloc: Global, word: &[char], text: &str) -> Result<Vec<char>, NoMemory>
+    ensures { IfOk result (λ made. made.items ≡ word.now ++ chars text.now) }
+{
+    let count = text.chars().count();
+    let mut made = Vec::with_capacity(alloc, word.len().saturating_add(count))?;
+    made.extend_from_slice(word)?;
+    made.extend(text.chars())?;
+    Ok(made)
 }
 
 /// The first character that a text has before that slash, and the text behind the character.

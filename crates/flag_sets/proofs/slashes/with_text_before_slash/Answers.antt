@@ -9,8 +9,9 @@ use Rattle.flag_sets.proofs.slashes.with_text_before_slash.Goals as goal
 
 pub returns-clause-word : goal.returns-clause-word
 returns-clause-word c =
-    sym (append-nil c.loop-character.longer)
-    ∙ ap (λ cs. c.loop-character.longer ++ cs)
+    c.from_vec.ensures
+    ∙ sym (append-nil c.loop-character.longer.items)
+    ∙ ap (λ cs. c.loop-character.longer.items ++ cs)
     (sym (ap chars c.in_default.ensures.none ∙ chars-nil))
     ∙ c.loop-character.invariant.1
 

@@ -9,7 +9,7 @@ use Rattle.flag_sets.proofs.slashes.with_text_before_slash.Given as goal
 
 abbrev pub invariant-loop-character : goal.invariant-loop-character
 invariant-loop-character l = shadow (Utf8 l.rest)
-    × (l.longer ++ chars (before_slash l.rest) ≡ l.fn.word ++ chars (before_slash l.fn.text))
+    × (l.longer.items ++ chars (before_slash l.rest) ≡ l.fn.word ++ chars (before_slash l.fn.text))
     × (behind_slash l.rest ≡ behind_slash l.fn.text)
 
 abbrev pub decreases-loop-character : goal.decreases-loop-character
