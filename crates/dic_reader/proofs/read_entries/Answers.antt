@@ -23,6 +23,7 @@ loop-line-preserved-then-is_passed_over c = record {
       read-past c.args.bytes.now c.args.lines.now c.loop-line.line-index c.loop-line-test.true
       c.line_text-text.ensures
       (sym c.if-is_passed_over.ensures) c.loop-line.invariant.read;
+  known = c.loop-line.invariant.known;
   ordinary = c.loop-line.invariant.ordinary;
 }
 
@@ -32,7 +33,7 @@ returns-in_err-entry-clause-read c =
     c.loop-line-test.true
     c.line_text-text.ensures (sym c.if-is_passed_over.ensures) c.entry_of.ensures in
     let fault = c.in_err-entry.field-0.0 in
-    handed _ c.from_residual.result fault c.from_residual.ensures.1
+    handed _ c.from_residual-in_err-entry.result fault c.from_residual-in_err-entry.ensures.1
     (told-own fault turn c.loop-line.invariant.read c.in_err-entry.ensures.read)
 
 pub returns-then-len-limit-clause-read : goal.returns-then-len-limit-clause-read
@@ -55,6 +56,7 @@ loop-line-preserved c =
       read =
           read-more made c.push.new.self turn before.read given.read given.word
           (λ full. c.if-len-limit.false (c.len.ensures ∙ full)) c.in_ok-push.ensures.ok;
+      known = given.known;
       ordinary = λ has. subst HaveOrdinaryFlags (sym c.in_ok-push.ensures.ok)
           (All-push (λ (entry : Entry). AreOrdinary entry.flags) c.loop-line.entries made
           (before.ordinary has) (given.ordinary has));

@@ -8,7 +8,6 @@ pub returns-then-is_empty-clause-read : goal.returns-then-is_empty-clause-read
 returns-then-is_empty-clause-read c =
     let kept = c.in_ok-word.ensures in
     let ignored = c.deref.ensures in
-    let given = c.deref-2.ensures in
     let pushed = c.in_ok-flags.ensures.word in
     let begun = ap (λ old. old ++ whole_word c.args.text.now) c.new-whole.ensures in
     let word : c.in_ok-word.word ≡ word_of c.args.affixes.now c.args.text.now = cc in
