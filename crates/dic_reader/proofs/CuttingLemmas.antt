@@ -7,7 +7,7 @@ use Rattle.std.specs.List.{prefix_len, slice_index}
 use Rattle.std.specs.Str.{IsCharBoundary, IsUtf8}
 use Rattle.std.proofs.lemmas.Bool.{cases_lt}
 use Rattle.std.proofs.lemmas.Bool.Decides.{nat_tests}
-use Rattle.std.proofs.lemmas.List.{take_more, take_rest}
+use Rattle.std.proofs.lemmas.List.{take_more}
 use Rattle.std.proofs.lemmas.List.Sums.{prefix_len_passes}
 use Rattle.std.proofs.lemmas.Str.{IsCharBoundary-before_ascii, IsCharBoundary-after_ascii}
 use Rattle.std.proofs.lemmas.Str.{IsCharBoundary-end}
@@ -16,7 +16,7 @@ use Rattle.dic_reader.specs.Entries.{is_space, ends_entry, before_fields}
 
 -- a place at which the entry does not end belongs to it
 pub before_fields-more : (line bytes : List ℕ) (place : ℕ) → bytes ≡ line → place < length line
-    → ends_entry (take (length bytes - place) (drop place bytes)) ≡ false
+    → ends_entry (drop place bytes) ≡ false
     → before_fields line ≡ take place line ++ before_fields (drop place line)
     → before_fields line ≡ take (place + 1) line ++ before_fields (drop (place + 1) line)
 before_fields-more line bytes place same within goes_on so_far =
@@ -25,9 +25,7 @@ before_fields-more line bytes place same within goes_on so_far =
     let cut : drop place line ≡ c ∷ rest =
     drop-cons line place 0 within ∙ ap (λ n. c ∷ drop n line) (sym (add-one place)) in
     let no_end : ends_entry (c ∷ rest) ≡ false =
-    sym (ap ends_entry (take_rest line place ∙ cut))
-    ∙ ap (λ text. ends_entry (take (length text - place) (drop place text))) (sym same)
-    ∙ goes_on in
+    sym (ap ends_entry cut) ∙ ap (λ text. ends_entry (drop place text)) (sym same) ∙ goes_on in
     so_far
     ∙ ap (λ text. take place line ++ before_fields text) cut
     ∙ ap (λ b. take place line ++ cond b [] (c ∷ before_fields rest)) no_end

@@ -1,6 +1,6 @@
 //! Which lines have an entry, and where in its line an entry stands.
 
-ghost use Rattle.std.specs.Prelude.{◌≡◌, ◌+◌, ◌<◌, ◌≤◌, length, slice_index};
+ghost use Rattle.std.specs.Prelude.{◌≡◌, ◌+◌, ◌<◌, ◌≤◌, length, drop, slice_index};
 ghost use Rattle.std.specs.List.{prefix_len, suffix_len, list_all};
 ghost use Rattle.dic_reader.specs.Entries.{is_space, is_blank, begins_field, ends_entry};
 ghost use Rattle.dic_reader.specs.Entries.{before_fields, without_leading, without_trailing};
@@ -56,12 +56,21 @@ fn is_blank(line: &[u8]) -> bool
 fn before_fields(line: &str) -> &str
     ensures { result.now ≡ before_fields line.now }
 {
-    for place in 0..line.len() {
-        if ends_entry(&line.as_bytes()[place..]) {
+    let bytes = line.as_bytes();
+    for place in 0..bytes.len() {
+        if ends_at(bytes, place) {
             return &line[..place];
         }
     }
     line
+}
+
+/// Whether the entry of a line ends at a place. Most bytes are higher than those that may end one.
+fn ends_at(line: &[u8], place: usize) -> bool
+    requires { place < length line.now }
+    ensures { result ≡ ends_entry (drop place line.now) }
+{
+    line[place] <= b' ' && ends_entry(&line[place..])
 }
 
 fn ends_entry(rest: &[u8]) -> bool
