@@ -38,7 +38,7 @@ impl<T: Drop> From<AllocFailed<T>> for NoMemory {
 
 /// A value of which an equal one can be made.
 pub trait Copied: Sized {
-    /// An equal value, with memory of its own.
+    /// An equal value, which no later change of this one changes.
     fn copy(&self, alloc: Global) -> Result<Self, NoMemory>
         ensures { IfOk result (λ made. made ≡ self.now) };
 }
