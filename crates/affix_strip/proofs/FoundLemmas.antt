@@ -514,6 +514,50 @@ behind-passing leads_back lexicon prefixes text endings are =
     (either lexicon (λ d. d.second) (Behind prefixes) (with_suffixes lexicon) text)
 
 -- without suffixes it is one of them
+-- without a suffix, with a first one, or with a second one too
+pub all-behind : LeadsBack → (lexicon : Lexicon) (prefixes : List (Option ℕ)) (text : List ℕ)
+    (endings : List Peeled) → ArePeeled lexicon.affixes.rules Suffix text endings
+    → (d : Derivation)
+    → (Passes lexicon (Around prefixes None (None ∷ [])) (stem_of lexicon) text d
+    ⊎ (AtSome (FirstPeels lexicon prefixes (None ∷ [])) endings d
+    ⊎ AtSome (OuterPeels lexicon prefixes) endings d))
+    ↔ Passes lexicon (Behind prefixes) (with_suffixes lexicon) text d
+all-behind leads_back lexicon prefixes text endings are d = (λ e. there e, λ p. back (behind.1 p))
+  where
+    inside : (Passes lexicon (Around prefixes None (None ∷ [])) (stem_of lexicon) text d
+        ⊎ AtSome (FirstPeels lexicon prefixes (None ∷ [])) endings d)
+        ↔ Passes lexicon (Outside prefixes (None ∷ [])) (with_first lexicon) text d
+    inside = inside-passing leads_back lexicon prefixes text endings are d
+
+    behind : (Passes lexicon (Outside prefixes (None ∷ [])) (with_first lexicon) text d
+        ⊎ AtSome (OuterPeels lexicon prefixes) endings d)
+        ↔ Passes lexicon (Behind prefixes) (with_suffixes lexicon) text d
+    behind = behind-passing leads_back lexicon prefixes text endings are d
+
+    there : Passes lexicon (Around prefixes None (None ∷ [])) (stem_of lexicon) text d
+        ⊎ (AtSome (FirstPeels lexicon prefixes (None ∷ [])) endings d
+        ⊎ AtSome (OuterPeels lexicon prefixes) endings d)
+        → Passes lexicon (Behind prefixes) (with_suffixes lexicon) text d
+    there (inl bare) = behind.0 (inl (inside.0 (inl bare)))
+    there (inr (inl first)) = behind.0 (inl (inside.0 (inr first)))
+    there (inr (inr outer)) = behind.0 (inr outer)
+
+    first-back : Passes lexicon (Around prefixes None (None ∷ [])) (stem_of lexicon) text d
+        ⊎ AtSome (FirstPeels lexicon prefixes (None ∷ [])) endings d
+        → Passes lexicon (Around prefixes None (None ∷ [])) (stem_of lexicon) text d
+        ⊎ (AtSome (FirstPeels lexicon prefixes (None ∷ [])) endings d
+        ⊎ AtSome (OuterPeels lexicon prefixes) endings d)
+    first-back (inl bare) = inl bare
+    first-back (inr first) = inr (inl first)
+
+    back : Passes lexicon (Outside prefixes (None ∷ [])) (with_first lexicon) text d
+        ⊎ AtSome (OuterPeels lexicon prefixes) endings d
+        → Passes lexicon (Around prefixes None (None ∷ [])) (stem_of lexicon) text d
+        ⊎ (AtSome (FirstPeels lexicon prefixes (None ∷ [])) endings d
+        ⊎ AtSome (OuterPeels lexicon prefixes) endings d)
+    back (inl passes) = first-back (inside.1 passes)
+    back (inr outer) = inr (inr outer)
+
 pub bare-inside : (lexicon : Lexicon) (prefixes : List (Option ℕ)) (text : List ℕ) (d : Derivation)
     → Passes lexicon (Around prefixes None (None ∷ [])) (stem_of lexicon) text d
     → Passes lexicon (Behind prefixes) (with_suffixes lexicon) text d

@@ -2,7 +2,7 @@
 //! left is looked up.
 
 ghost use Rattle.std.specs.Prelude.{◌≡◌, ◌++◌, ◌^◌, ◌<◌, [], ◌∷◌, ℕ, Bool, List, Some, None, true};
-ghost use Rattle.std.specs.Prelude.{false, length, map, filter, is_some, Contains, IfOk};
+ghost use Rattle.std.specs.Prelude.{◌⊎◌, false, length, map, filter, is_some, Contains, IfOk};
 ghost use Rattle.std.specs.List.{list_any};
 ghost use Rattle.spell_types.specs.declared.derivations.Derivation.{Derivation};
 ghost use Rattle.spell_types.specs.Derivations.{form_of};
@@ -13,7 +13,7 @@ ghost use Rattle.affix_strip.specs.Hashes.{IsHashed};
 ghost use Rattle.affix_strip.specs.Inside.{StandsInside};
 ghost use Rattle.affix_strip.specs.Parts.{stem_of, with_first, with_suffixes, Any, Outside, Passes};
 ghost use Rattle.affix_strip.specs.Parts.{AtSome, Shows, From, FromAll, RuleFrom, Peels};
-ghost use Rattle.affix_strip.specs.Peeling.{may_undo, may_undo_at, fits_on};
+ghost use Rattle.affix_strip.specs.Peeling.{may_undo, may_undo_at, fits_on, ArePeeled};
 ghost use Rattle.affix_strip.specs.Tables.{AreTablesOf, IsReady, may_be_outer, may_undo_outer};
 
 use crate::barring::{Barring, barring_of};
@@ -175,44 +175,58 @@ impl IndexedLexicon {
             × (form_of self.now.lexicon d ≡ Some word.now))
             (V.sees visitor.old) (V.sees visitor.new)) }
     {
-        if self.visit_behind(alloc, &[None], word, visitor)? {
+        if self.visit_bare(alloc, &[None], word, visitor)? {
+            return Ok(true);
+        }
+        let endings = peel(alloc, &self.tables.rules, Side::Suffix, word)?;
+        let endings = endings.as_slice();
+        undoing_leads_back();
+        if self.visit_suffixed(alloc, &[None], endings, visitor)? {
             return Ok(true);
         }
         let fronts = peel(alloc, &self.tables.rules, Side::Prefix, word)?;
-        undoing_leads_back();
-        self.visit_fronts(alloc, fronts.as_slice(), visitor)
+        self.visit_fronts(alloc, word, endings, fronts.as_slice(), visitor)
     }
 
-    /// Shows the derivations of a word with a prefix. Given are the groups of prefixes that may
-    /// have made it.
+    /// Shows the derivations of a word with a prefix. Given are the groups of suffixes, and those of
+    /// prefixes, that may have made it.
     fn visit_fronts<V: Visitor>(
         &self,
         alloc: Global,
+        word: &[char],
+        endings: &[Peeled<'_>],
         fronts: &[Peeled<'_>],
         visitor: &mut V,
     ) -> Result<bool, NoMemory>
-        requires { IsReady self.now }
+        requires ready { IsReady self.now }
+        requires endings { ArePeeled self.now.lexicon.affixes.rules Side.Suffix word.now
+            endings.now }
         ensures { IfOk result (Shows
             (AtSome (Peels self.now.lexicon Side.Prefix (λ d. d.prefix) Any
             (with_suffixes self.now.lexicon)) fronts.now)
             (V.sees visitor.old) (V.sees visitor.new)) }
     {
         for front in fronts {
-            if self.visit_front(alloc, front, visitor)? {
+            if self.visit_front(alloc, word, endings, front, visitor)? {
                 return Ok(true);
             }
         }
         Ok(false)
     }
 
-    /// Shows those of them that have a prefix of this group.
+    /// Shows those of them that have a prefix of this group. One that leaves the word as it is has
+    /// its groups of suffixes.
     fn visit_front<V: Visitor>(
         &self,
         alloc: Global,
+        word: &[char],
+        endings: &[Peeled<'_>],
         front: &Peeled<'_>,
         visitor: &mut V,
     ) -> Result<bool, NoMemory>
-        requires { IsReady self.now }
+        requires ready { IsReady self.now }
+        requires endings { ArePeeled self.now.lexicon.affixes.rules Side.Suffix word.now
+            endings.now }
         ensures { IfOk result (Shows
             (Peels self.now.lexicon Side.Prefix (λ d. d.prefix) Any (with_suffixes self.now.lexicon)
             front.now)
@@ -221,7 +235,38 @@ impl IndexedLexicon {
         let mut joined = Vec::new(alloc);
         let rest = front.text(&mut joined)?;
         let prefixes = self.undoable(alloc, Side::Prefix, rest, front.places())?;
+        if rest == word {
+            return self.visit_with(alloc, prefixes.as_slice(), rest, endings, visitor);
+        }
         self.visit_behind(alloc, prefixes.as_slice(), rest, visitor)
+    }
+
+    /// Shows the derivations with one of these prefixes, or with none if that is among them, that
+    /// have this word behind it. Given are the groups of suffixes that may have made the word.
+    fn visit_with<V: Visitor>(
+        &self,
+        alloc: Global,
+        prefixes: &[Option<u32>],
+        rest: &[char],
+        endings: &[Peeled<'_>],
+        visitor: &mut V,
+    ) -> Result<bool, NoMemory>
+        requires ready { IsReady self.now }
+        requires endings { ArePeeled self.now.lexicon.affixes.rules Side.Suffix rest.now
+            endings.now }
+        ensures { IfOk result (Shows
+            (Passes self.now.lexicon (λ d. Contains prefixes.now d.prefix)
+            (with_suffixes self.now.lexicon) rest.now)
+            (V.sees visitor.old) (V.sees visitor.new)) }
+    {
+        undoing_leads_back();
+        if prefixes.is_empty() {
+            return Ok(false);
+        }
+        if self.visit_bare(alloc, prefixes, rest, visitor)? {
+            return Ok(true);
+        }
+        self.visit_suffixed(alloc, prefixes, endings, visitor)
     }
 
     /// Shows the derivations with one of these prefixes, or with none if that is among them, that
@@ -246,8 +291,27 @@ impl IndexedLexicon {
             return Ok(true);
         }
         let endings = peel(alloc, &self.tables.rules, Side::Suffix, rest)?;
-        let endings = endings.as_slice();
         undoing_leads_back();
+        self.visit_suffixed(alloc, prefixes, endings.as_slice(), visitor)
+    }
+
+    /// Shows those of them that have a suffix. Given are the groups of suffixes that may have made
+    /// the word.
+    fn visit_suffixed<V: Visitor>(
+        &self,
+        alloc: Global,
+        prefixes: &[Option<u32>],
+        endings: &[Peeled<'_>],
+        visitor: &mut V,
+    ) -> Result<bool, NoMemory>
+        requires { IsReady self.now }
+        ensures { IfOk result (Shows
+            (λ d. AtSome (Peels self.now.lexicon Side.Suffix (λ d. d.first)
+            (Outside prefixes.now (None ∷ [])) (stem_of self.now.lexicon)) endings.now d
+            ⊎ AtSome (Peels self.now.lexicon Side.Suffix (λ d. d.second)
+            (λ d. Contains prefixes.now d.prefix) (with_first self.now.lexicon)) endings.now d)
+            (V.sees visitor.old) (V.sees visitor.new)) }
+    {
         if self.visit_firsts(alloc, prefixes, &[None], endings, visitor)? {
             return Ok(true);
         }

@@ -7,6 +7,13 @@ use Rattle.affix_strip.proofs.walk.IndexedLexicon.visit_front.Goals as goal
 pub returns : goal.returns
 returns g c =
     answer-same _ _ c.visit_behind.result
-    (front-passing c.args.self.now.lexicon c.as_slice.result.now c.args.front.now
+    (front-passing c.args.self.now.lexicon c.as_slice-2.result.now c.args.front.now
     c.in_ok-rest.rest.now c.places.result.now (search rules) c.places.ensures (search rules))
     c.visit_behind.ensures
+
+pub returns-then-eq : goal.returns-then-eq
+returns-then-eq g c =
+    answer-same _ _ c.visit_with.result
+    (front-passing c.args.self.now.lexicon c.as_slice.result.now c.args.front.now
+    c.in_ok-rest.rest.now c.places.result.now (search rules) c.places.ensures (search rules))
+    c.visit_with.ensures

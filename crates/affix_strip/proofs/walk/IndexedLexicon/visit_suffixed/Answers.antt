@@ -1,0 +1,13 @@
+-- First those with a first suffix alone, then those with a second one.
+use Rattle.std.proofs.Common.{inl}
+use Rattle.affix_strip.proofs.ShowLemmas.{shows-end, answer-then}
+use Rattle.affix_strip.proofs.walk.IndexedLexicon.visit_suffixed.Goals as goal
+
+pub returns-then-branch : goal.returns-then-branch
+returns-then-branch g c =
+    shows-end (λ d first. inl first) c.in_ok-visit_firsts.ensures c.if-branch.true
+
+pub returns : goal.returns
+returns g c =
+    answer-then _ c.visit_outers.result (λ d. (λ e. e, λ e. e)) c.in_ok-visit_firsts.ensures
+    c.if-branch.false c.visit_outers.ensures
