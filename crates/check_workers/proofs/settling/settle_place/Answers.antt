@@ -1,0 +1,22 @@
+-- By what is shown of the paragraph.
+use Rattle.std.proofs.Common.{◌≡◌, ◌∙◌, sym, true, false}
+use Rattle.std.specs.Arc.{arc_value}
+use Rattle.edit_core.specs.Views.{shown_in}
+use Rattle.check_workers.proofs.Shown.{open-shown}
+use Rattle.check_workers.proofs.settling.settle_place.Goals as goal
+
+pub returns-then-not-is_open-clause-closed : goal.returns-then-not-is_open-clause-closed
+returns-then-not-is_open-clause-closed g c paragraph stands at beside free =
+    let shut : true ≡ false =
+    sym free
+    ∙ (sym (open-shown c.args.board.now c.args.place (shown_in c.in-Some.view.shown) stands
+    c.in-Some.ensures.some.shown beside) ∙ (sym c.is_open.ensures ∙ c.if-not-is_open.true)) in
+    absurd (cc)
+
+pub check_all-requires : goal.check_all-requires
+check_all-requires g c =
+    let open' = c.in_ok-open.open in
+    let run = c.args.eye.now.run in
+    c.known_texts_are_short.ensures run open'.id open'.rev open'.dict (arc_value open'.text)
+    (g.J.Judge.lexicon (arc_value open'.judge)) c.known-point.ensures.run
+    (c.in_ok-open.ensures.known run c.args.place c.requires c.in-Some.ensures.some)

@@ -1,0 +1,42 @@
+-- What a worker is, and what it knows of the history.
+use Rattle.std.specs.Prelude.{◌≡◌, ℕ, ◌≤◌, List}
+use Rattle.std.specs.Arc.{arc_value}
+use mathlib.Core.List.{IsPrefix}
+use Rattle.spell_types.specs.declared.Lexicon.{Lexicon}
+use Rattle.edit_core.specs.Runs.{Entry, Run, last_board}
+use Rattle.edit_core.specs.Seen.{Seen}
+use Rattle.board_share.specs.Events.{KnowsCheck}
+use Rattle.board_share.specs.Eyes.{EyeSeen}
+use Rattle.board_share.specs.declared.claim.Claim.{Claim}
+
+-- a worker: the number that its claims and its finishes name, and its eye
+pub record WorkerSeen : Type 0 where
+  pub number : ℕ
+  pub eye : EyeSeen
+
+-- a history has the claim's board: one with its dictionary version and its dictionary, on which the
+-- paragraph with its id has its rev and its text
+abbrev pub KnowsClaim : {J : Type 0} → (J → Lexicon) → Run → Claim J → Type 0
+KnowsClaim lexicon_of run claim =
+    KnowsCheck run claim.id claim.rev claim.dict (arc_value claim.text)
+    (lexicon_of (arc_value claim.judge))
+
+-- a history has a board with this dictionary version and this dictionary
+pub record KnowsLexicon (run : Run) (dict : ℕ) (lexicon : Lexicon) : Type 0 where
+  pub front : List Entry
+  pub begins : IsPrefix front run.entries
+  pub dict_is : (last_board run.opening front).dict_version ≡ dict
+  pub lexicon_is : (last_board run.opening front).lexicon ≡ lexicon
+
+-- a history has this board
+pub record KnowsBoard (run : Run) (board : Seen) : Type 0 where
+  pub front : List Entry
+  pub begins : IsPrefix front run.entries
+  pub board_is : last_board run.opening front ≡ board
+
+-- claims and finishes may be counted, and no other event is
+pub record CountsChecks (old new : EyeSeen) : Type 0 where
+  pub edits : new.counts.edits ≡ old.counts.edits
+  pub loads : new.counts.loads ≡ old.counts.loads
+  pub asks : new.counts.asks ≡ old.counts.asks
+  pub checks : old.counts.checks ≤ new.counts.checks
