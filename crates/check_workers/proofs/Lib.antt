@@ -5,3 +5,4 @@ pub mod Shown
 pub mod Left
 pub mod Closing
 pub mod OneByOne
+pub mod Kept

@@ -7,6 +7,7 @@ mod checks;
 mod crossing;
 mod ends;
 mod finishing;
+mod keeping;
 mod laws;
 mod polls;
 mod settling;

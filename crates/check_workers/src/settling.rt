@@ -21,8 +21,8 @@ use std::alloc::Global;
 use std::sync::{Arc, Wait};
 
 /// Looks, and finishes each paragraph there that is neither finished nor parked, under the number
-/// of the eye. A finish that is not wanted any more is passed over. What was finished before a refusal
-/// stays so.
+/// of the eye. A finish that is not wanted any more is passed over. What was finished before a
+/// refusal stays so.
 pub fn settle<J: Judge + Drop, D: Naming, W: Wait + Drop>(
     rt: &impl Wait,
     alloc: Global,

@@ -15,6 +15,7 @@ ghost use Rattle.check_workers.specs.Knowing.{CountsChecks, KnowsClaim};
 use crate::checks::check_through;
 use crate::ends::CheckEnd;
 use crate::finishing::{finish_if_wanted, finish_through};
+use crate::keeping::Kept;
 use crate::laws::claims_are_known;
 use board_share::{Claim, ClaimFault, Desk, Eye, Naming, Told};
 use edit_core::Refusal;
@@ -27,21 +28,24 @@ use std::sync::Wait;
 
 /// One caller of a desk that checks what waits, with a number of its own choice, which its claims
 /// and finishes name. The desk counts what is published by the eye, whose number is another one.
-/// `K` is the type of the desk, so that what only looks says nothing of a lock. Contracts see the
-/// number and the eye.
+/// It remembers verdicts by the dictionary of the claim that it checked last. `K` is the type of
+/// the desk, so that what only looks says nothing of a lock. Contracts see the number and the eye.
 #[derive(Drop)]
 pub struct Worker<'a, J: Judge + Drop, D: Naming, K> {
     desk: &'a K,
     eye: Eye<J, D>,
     number: u32,
+    kept: Option<Kept<J>>,
 }
 
 impl<'a, J: Judge + Drop, D: Naming, K> Model for Worker<'a, J, D, K> {
-    ghost use Rattle.check_workers.specs.Knowing.{WorkerSeen};
+    ghost use Rattle.check_workers.specs.Knowing.{KnowsKept, WorkerSeen};
 
     ghost Value = { WorkerSeen };
 
     ghost view = { λ inside. record { number = inside.number; eye = inside.eye } };
+
+    ghost invariant = { λ inside. KnowsKept J.lexicon inside.eye.run inside.kept };
 }
 
 impl<'a, J: Judge + Drop, D: Naming, K> Worker<'a, J, D, K> {
@@ -50,7 +54,12 @@ impl<'a, J: Judge + Drop, D: Naming, K> Worker<'a, J, D, K> {
         ensures eye { result.eye ≡ eye }
         ensures number { result.number ≡ number }
     {
-        Worker { desk, eye, number }
+        Worker {
+            desk,
+            eye,
+            number,
+            kept: None,
+        }
     }
 
     /// Its eye, as the end of the desk wants it.
@@ -80,7 +89,14 @@ impl<'a, J: Judge + Drop, D: Naming, K> Worker<'a, J, D, K> {
         }) }
         ensures stopped { IfErr result (IsCheckEnd (last_of self.new.eye.run) claim.now) }
     {
-        check_through(&mut self.eye, alloc, gate, self.number, claim)
+        check_through(
+            &mut self.eye,
+            &mut self.kept,
+            alloc,
+            gate,
+            self.number,
+            claim,
+        )
     }
 }
 
