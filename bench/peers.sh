@@ -1,11 +1,12 @@
 #!/usr/bin/env bash
 # Times `check`, nuspell's library and hunspell's on the same words, by a list of a hundred words and by dictionaries of
-# Debian's packages, and prints a row of a table for each. The words are those of 2 MB of running text in the dictionary's
+# Debian's packages, and prints a row of a table for each. A second table has the instructions that callgrind counts, which do not
+# depend on what else runs: of the load, and for each of the first 30,000 words, the program in lines of twenty. The words are those of 2 MB of running text in the dictionary's
 # language, cut by this script (letters, with apostrophes between them). The libraries judge them one after another; the
 # program reads them in lines of twenty, and in lines of two hundred too. Seconds are the processor's, the least of three
 # runs; a word is the time of all words, less that of no word, the load. The memory is the most that a run on the words used,
 # and a megabyte 1024 kB. What is refused are words that occur. Packages are fetched and unpacked, not installed;
-# libhunspell-dev, libnuspell-dev and g++ are asked for.
+# libhunspell-dev, libnuspell-dev, g++ and valgrind are asked for.
 set -euo pipefail
 top=$(cd "$(dirname "$0")/.." && pwd)
 work=$(mktemp -d)
@@ -67,8 +68,22 @@ cells() {
         printf " %.0f MB | %d |", memory / 1024, refused }'
 }
 
-# The words of the file `words`, so many in a line.
-in_lines_of() { awk -v "many=$1" '{ printf "%s%s", $0, NR % many ? " " : "\n" }' words; }
+# The instructions of a call.
+instructions() {
+    { valgrind --tool=callgrind --callgrind-out-file=/dev/null "$@" 2>&1 > /dev/null || true; } | sed -n 's/.*Collected : //p'
+}
+
+# The cells of one peer: millions of instructions of the load, and instructions of a word.
+counted() {
+    local load spent words=few
+    [ $# -ne 4 ] || words=fewtwenties
+    load=$(instructions "$@" /dev/null)
+    spent=$(instructions "$@" "$words")
+    awk -v load="$load" -v spent="$spent" -v count="$(wc -l < few)" 'BEGIN { printf " %.0f M | %.0f |", load / 1e6, (spent - load) / count }'
+}
+
+# The words of a file, so many in a line.
+in_lines_of() { awk -v "many=$1" '{ printf "%s%s", $0, NR % many ? " " : "\n" }' "${2:-words}"; }
 
 # The row of a dictionary, on the words of the file `words`.
 row() {
@@ -76,11 +91,14 @@ row() {
     count=$(wc -l < words)
     in_lines_of 20 > twenties
     in_lines_of 200 > hundreds
+    head -n 30000 words > few
+    in_lines_of 20 few > fewtwenties
     if ! said=$("$program" check "$name.aff" "$name.dic" /dev/null); then
         echo "$name: check says $said" >&2
         return
     fi
     echo "| ${name##*/} | $count |$(cells "$program" check "$name.aff" "$name.dic")$(cells ./nuspell "$name.aff" "$name.dic")$(cells ./hunspell "$name.aff" "$name.dic")"
+    echo "| ${name##*/} |$(counted "$program" check "$name.aff" "$name.dic")$(counted ./nuspell "$name.aff" "$name.dic")$(counted ./hunspell "$name.aff" "$name.dic")" >> counts
 }
 
 # Both files in UTF-8, where they are in another encoding.
@@ -121,6 +139,9 @@ while read -r package name manual; do
     words_of "$manual"
     row "$package/usr/share/hunspell/$name"
 done << PAIRS
+hunspell-en-us en_US debian-reference-en
+hunspell-de-de-frami de_DE_frami debian-reference-de
+hunspell-nl nl manpages-nl
 hunspell-fr-classical fr debian-reference-fr
 hunspell-es es_ES debian-reference-es
 hunspell-it it_IT debian-reference-it
@@ -130,3 +151,7 @@ hunspell-uk uk_UA manpages-uk
 hunspell-pl pl_PL manpages-pl
 hunspell-cs cs_CZ manpages-cs
 PAIRS
+echo
+echo '| dictionary | load | a word | nuspell: load | a word | hunspell: load | a word |'
+echo '|---|---|---|---|---|---|---|'
+cat counts
