@@ -13,10 +13,13 @@ use crate::limits::DOCUMENT_LIMIT;
 use dictionary_swap::{LoadFault, load};
 use lists::NoMemory;
 use outside::{Files, load_file};
-use paragraph_marks::Plain;
 use std::alloc::Global;
 use std::sync::Arc;
+use verdict_cache::Cached;
 use word_verdict::Speller;
+
+/// How many verdicts are remembered.
+const VERDICTS: usize = 4_096;
 
 /// The dictionary of these two files.
 pub fn load_speller<F: Files>(
@@ -45,7 +48,7 @@ pub fn load_judge<F: Files>(
     files: &mut F,
     aff: &str,
     dic: &str,
-) -> Result<Plain<Speller>, Failure>
+) -> Result<Cached<Speller>, Failure>
     ensures due { (there : DictionaryFiles) × IsThere (F.told files.old) aff.now dic.now there
         × GivesDue MayCome (λ judge. judge) (dictionary_due there) result }
     ensures failed { IsErrOf result (Load Failed) → F.faults files.old < F.faults files.new }
@@ -56,11 +59,13 @@ pub fn load_judge<F: Files>(
     Ok(judge_of(alloc, speller)?)
 }
 
-/// A dictionary, to be asked.
-fn judge_of(alloc: Global, speller: Speller) -> Result<Plain<Speller>, NoMemory>
+/// A dictionary, to be asked. Its last verdicts are remembered: most words of a running text came
+/// before, and to find a word again costs a fraction of judging it.
+fn judge_of(alloc: Global, speller: Speller) -> Result<Cached<Speller>, NoMemory>
     ensures { IfOk result (λ judge. judge ≡ speller) }
 {
-    Ok(Plain::new(Arc::new(alloc, speller)?))
+    let shared = Arc::new(alloc, speller)?;
+    Ok(Cached::new(alloc, shared, VERDICTS)?)
 }
 
 /// The bytes of a document.

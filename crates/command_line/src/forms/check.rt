@@ -19,9 +19,9 @@ use crate::loading::{load_document, load_judge};
 use crate::requests::{Request, are_options};
 use document_report::{Output, Report, report};
 use outside::{Files, Sink};
-use paragraph_marks::Plain;
 use std::alloc::Global;
 use std::marker::Model;
+use verdict_cache::Cached;
 use word_verdict::Speller;
 
 /// The files that the words `check AFF DIC FILE` name. Contracts see their names.
@@ -109,7 +109,7 @@ fn outcome_of<F: Files>(
 /// What is to be printed of a document by a dictionary.
 pub fn report_by(
     alloc: Global,
-    judge: &mut Plain<Speller>,
+    judge: &mut Cached<Speller>,
     output: Output,
     document: &[u8],
 ) -> Result<Report, Failure>
