@@ -32,6 +32,7 @@ pub(crate) fn check_through<J: Judge + Drop, D: Naming, G: Gate>(
 ) -> Result<Checked<J>, CheckEnd>
     requires claim { KnowsClaim J.lexicon eye.old.run claim.now }
     requires kept { KnowsKept J.lexicon eye.old.run kept.old }
+    ensures known { KnowsClaim J.lexicon eye.new.run claim.now }
     ensures kept { KnowsKept J.lexicon eye.new.run kept.new }
     ensures later { IsLater eye.old eye.new }
     ensures counts { CountsNothing eye.old eye.new }

@@ -83,6 +83,7 @@ impl<'a, J: Judge + Drop, D: Naming, K> Worker<'a, J, D, K> {
         ensures number { self.new.number ≡ self.old.number }
         ensures later { IsLater self.old.eye self.new.eye }
         ensures counts { CountsNothing self.old.eye self.new.eye }
+        ensures known { KnowsClaim J.lexicon self.new.eye.run claim.now }
         ensures checked { IfOk result (λ checked. checked ≡ record {
           judge = arc_value claim.now.judge;
           text = arc_value claim.now.text;
