@@ -1,0 +1,9 @@
+pub mod CuttingLemmas
+pub mod ExtendLemmas
+pub mod FaultLemmas
+pub mod FileLemmas
+pub mod ItemLemmas
+pub mod LawLemmas
+pub mod ModelLemmas
+pub mod OrderLemmas
+pub mod TurnLemmas

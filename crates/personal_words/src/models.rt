@@ -1,0 +1,73 @@
+//! The flags of the words that items name as their models.
+
+ghost use Rattle.std.specs.Prelude.{◌≡◌, [], All, OnOk, IfOk};
+ghost use Rattle.personal_words.specs.declared.items.OwnItem.{OwnItem};
+ghost use Rattle.personal_words.specs.Models.{HasModel, AreLike, Puts};
+
+use crate::items::OwnItem;
+use indexmap::IndexMap;
+use lists::{Copied, NoMemory};
+use spell_types::{Entry, FlagSet};
+use std::alloc::Global;
+
+/// The flags of models.
+pub(crate) type Models<'a> = IndexMap<&'a [char], FlagSet>;
+
+/// The flags of each model of these items: those of the first entry whose word it is. The entries
+/// are gone through once.
+pub(crate) fn models_of<'a>(
+    alloc: Global,
+    entries: &'a [Entry],
+    items: &'a [OwnItem],
+) -> Result<Models<'a>, NoMemory>
+    ensures each { IfOk result (λ models. All (HasModel models) items.now) }
+    ensures like { IfOk result (AreLike entries.now) }
+{
+    let mut models = named_models(alloc, items)?;
+    fill(alloc, &mut models, entries)?;
+    Ok(models)
+}
+
+/// The models of these items, without flags.
+fn named_models<'a>(alloc: Global, items: &'a [OwnItem]) -> Result<Models<'a>, NoMemory>
+    ensures each { IfOk result (λ models. All (HasModel models) items.now) }
+    ensures like { IfOk result (AreLike []) }
+{
+    let mut models = IndexMap::new(alloc);
+    for item in items {
+        if let Some(model) = &item.model {
+            put(&mut models, model.as_slice(), FlagSet::new(alloc))?;
+        }
+    }
+    Ok(models)
+}
+
+/// Gives models the flags of their first entries. The entries are gone through from the last to the
+/// first, so that the first is the one that stays.
+fn fill<'a>(alloc: Global, models: &mut Models<'a>, entries: &'a [Entry]) -> Result<(), NoMemory>
+    requires { AreLike [] models.old }
+    ensures each { OnOk result
+        ((item : OwnItem) → HasModel models.old item → HasModel models.new item) }
+    ensures like { OnOk result (AreLike entries.now models.new) }
+{
+    if models.is_empty() {
+        return Ok(());
+    }
+    let mut place = entries.len();
+    while place > 0 {
+        place -= 1;
+        let entry = &entries[place];
+        if models.contains_key(entry.word.as_slice()) {
+            put(models, entry.word.as_slice(), entry.flags.copy(alloc)?)?;
+        }
+    }
+    Ok(())
+}
+
+/// Puts the flags of a model in place of those that it had.
+fn put<'a>(models: &mut Models<'a>, model: &'a [char], flags: FlagSet) -> Result<(), NoMemory>
+    ensures { OnOk result (Puts models.old model.now flags models.new) }
+{
+    models.insert(model, flags)?;
+    Ok(())
+}
