@@ -3,6 +3,8 @@
 ghost use Rattle.std.specs.Prelude.{◌≡◌, ◌<◌, ◌≤◌, ℕ, List, Option, length, IfSome, IfOk, IsErrOf};
 ghost use Rattle.lists.specs.Answers.{GivesDue};
 ghost use Rattle.spell_types.specs.Sanity.{AreSaneAffixes, AreSaneEntries};
+ghost use Rattle.spell_types.specs.Sanity.{HasOrdinaryFlags, HaveOrdinaryFlags};
+ghost use Rattle.dic_reader.specs.Faults.{entry_limit};
 ghost use Rattle.dictionary_swap.specs.Loads.{MayCome, file_due, affixes_step, entries_step};
 ghost use Rattle.dictionary_swap.specs.Loads.{affixes_due, entries_due};
 ghost use Rattle.dictionary_swap.specs.declared.limits.TheConstants.{SIZE_LIMIT};
@@ -28,6 +30,7 @@ pub fn load_affixes<F: Files>(
     ensures told { IfSome (F.told files.old) (λ folder.
         GivesDue MayCome (λ affixes. affixes) (affixes_due (folder name.now)) result) }
     ensures sane { IfOk result AreSaneAffixes }
+    ensures ordinary { IfOk result HasOrdinaryFlags }
     ensures same { F.told files.new ≡ F.told files.old }
     ensures failed { IsErrOf result LoadFault.Failed → F.faults files.old < F.faults files.new }
     ensures count { F.faults files.old ≤ F.faults files.new }
@@ -49,6 +52,8 @@ pub fn load_entries<F: Files>(
     ensures told { IfSome (F.told files.old) (λ folder.
         GivesDue MayCome (λ entries. entries) (entries_due affixes.now (folder name.now)) result) }
     ensures sane { IfOk result AreSaneEntries }
+    ensures few { IfOk result (λ entries. length entries ≤ entry_limit) }
+    ensures ordinary { HasOrdinaryFlags affixes.now → IfOk result HaveOrdinaryFlags }
     ensures same { F.told files.new ≡ F.told files.old }
     ensures failed { IsErrOf result LoadFault.Failed → F.faults files.old < F.faults files.new }
     ensures count { F.faults files.old ≤ F.faults files.new }
@@ -78,6 +83,7 @@ fn load_file<F: Files>(alloc: Global, files: &mut F, name: &str) -> Result<Vec<u
 fn read_affixes(alloc: Global, bytes: &[u8]) -> Result<Affixes, LoadFault>
     ensures due { GivesDue MayCome (λ affixes. affixes) (affixes_step bytes.now) result }
     ensures sane { IfOk result AreSaneAffixes }
+    ensures ordinary { IfOk result HasOrdinaryFlags }
     ensures failed { ¬ (IsErrOf result LoadFault.Failed) }
 {
     match read_aff(alloc, bytes) {
@@ -93,6 +99,8 @@ fn read_entries(alloc: Global, affixes: &Affixes, bytes: &[u8]) -> Result<Entrie
     ensures due { GivesDue MayCome (λ entries. entries)
         (entries_step affixes.now bytes.now) result }
     ensures sane { IfOk result AreSaneEntries }
+    ensures few { IfOk result (λ entries. length entries ≤ entry_limit) }
+    ensures ordinary { HasOrdinaryFlags affixes.now → IfOk result HaveOrdinaryFlags }
     ensures failed { ¬ (IsErrOf result LoadFault.Failed) }
 {
     match read_dic(alloc, affixes, bytes) {

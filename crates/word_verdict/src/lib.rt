@@ -56,6 +56,13 @@ impl Speller {
         let stems = Stems::new(alloc, lexicon)?;
         Ok(beside.with_stems(stems))
     }
+
+    /// The dictionary with its stems. It takes no memory.
+    pub fn stems(&self) -> &Stems
+        ensures { result.now ≡ self.now }
+    {
+        &self.stems
+    }
 }
 
 /// What is prepared of a dictionary beside its stems. It is made in a function that only borrows
