@@ -1,0 +1,129 @@
+//! A dictionary with personal words, ready to be asked, of which others can be made: by other
+//! words, or by another dictionary.
+#![tactic(auto)]
+
+ghost use Rattle.std.specs.Prelude.{◌≡◌, IfOk, take};
+ghost use Rattle.std.specs.Arc.{arc_value};
+ghost use Rattle.personal_words.specs.Extended.{extended};
+ghost use Rattle.own_dictionary.specs.Dictionaries.{IsBase, base_in, in_force};
+
+mod crossing;
+
+use lists::{Copied, NoMemory};
+use personal_words::{OwnList, copied_affixes, copied_entries, extend_with};
+use spell_types::{Entries, Entry, Flag, Lexicon};
+use std::alloc::Global;
+use std::marker::Model;
+use std::sync::Arc;
+use word_verdict::Speller;
+
+/// A dictionary with personal words: its base, which was loaded, and the items of a list. Contracts
+/// see it as these two; what it is asked goes to the base extended by the list. The base is kept
+/// once, as the front of the entries that it is extended to.
+#[derive(Drop)]
+pub struct OwnDictionary {
+    speller: Arc<Speller>,
+    own: OwnList,
+    /// How many entries the base has.
+    entries: usize,
+    /// The base's sign of forbidden words.
+    forbidden: Option<Flag>,
+}
+
+impl Model for OwnDictionary {
+    ghost use Rattle.std.specs.Arc.{arc_value};
+    ghost use Rattle.own_dictionary.specs.Dictionaries.{IsExtended, OwnSeen, base_in};
+
+    ghost Value = { OwnSeen };
+
+    ghost view = { λ inside. record {
+      base = base_in (arc_value inside.speller) inside.entries inside.forbidden;
+      own = inside.own;
+    } };
+
+    ghost invariant = { λ inside.
+        IsExtended (arc_value inside.speller) inside.entries inside.forbidden inside.own };
+}
+
+impl OwnDictionary {
+    /// The dictionary that the base extended by the list is.
+    pub fn new(alloc: Global, base: Lexicon, own: OwnList) -> Result<OwnDictionary, NoMemory>
+        requires { IsBase base }
+        ensures { IfOk result (λ made. made ≡ record { base = base; own = own }) }
+    {
+        let entries = base.entries.len();
+        let forbidden = base.affixes.signs.forbidden;
+        let speller = speller_of(alloc, base, &own)?;
+        Ok(OwnDictionary {
+            speller,
+            own,
+            entries,
+            forbidden,
+        })
+    }
+
+    /// The same base with another list.
+    pub fn with_own(&self, alloc: Global, own: OwnList) -> Result<OwnDictionary, NoMemory>
+        ensures { IfOk result (λ made. made ≡ record { base = self.now.base; own = own }) }
+    {
+        let base = self.base(alloc)?;
+        OwnDictionary::new(alloc, base, own)
+    }
+
+    /// Another base with the same list.
+    pub fn with_base(&self, alloc: Global, base: Lexicon) -> Result<OwnDictionary, NoMemory>
+        requires { IsBase base }
+        ensures { IfOk result (λ made. made ≡ record { base = base; own = self.now.own }) }
+    {
+        let own = self.own.copy(alloc)?;
+        OwnDictionary::new(alloc, base, own)
+    }
+
+    /// What is asked.
+    pub fn speller(&self) -> &Arc<Speller>
+        ensures { arc_value result.now ≡ in_force self.now }
+    {
+        &self.speller
+    }
+
+    /// The personal words.
+    pub fn own(&self) -> &OwnList
+        ensures { result.now ≡ self.now.own }
+    {
+        &self.own
+    }
+
+    /// A copy of the base.
+    fn base(&self, alloc: Global) -> Result<Lexicon, NoMemory>
+        ensures same { IfOk result (λ base. base ≡ self.now.base) }
+        ensures base { IfOk result IsBase }
+    {
+        let lexicon = self.speller.stems().lexicon();
+        let affixes = copied_affixes(alloc, &lexicon.affixes, self.forbidden)?;
+        let entries = first_entries(alloc, &lexicon.entries, self.entries, self.own.len())?;
+        Ok(Lexicon { affixes, entries })
+    }
+}
+
+/// Copies of so many first entries, with room for so many more; of all where there are fewer.
+fn first_entries(
+    alloc: Global,
+    entries: &[Entry],
+    count: usize,
+    more: usize,
+) -> Result<Entries, NoMemory>
+    ensures { IfOk result (λ made. made ≡ take count entries.now) }
+{
+    let first = entries.get(..count).unwrap_or(entries);
+    copied_entries(alloc, first, more)
+}
+
+/// The base extended by the list, prepared and shared.
+fn speller_of(alloc: Global, base: Lexicon, own: &OwnList) -> Result<Arc<Speller>, NoMemory>
+    requires { IsBase base }
+    ensures { IfOk result (λ made. arc_value made ≡ extended base own.now) }
+{
+    let Lexicon { affixes, entries } = extend_with(alloc, base, own)?;
+    let speller = Speller::build(alloc, affixes, entries)?;
+    Ok(Arc::new(alloc, speller)?)
+}
