@@ -7,17 +7,16 @@ use Rattle.text_lines.specs.Lines.{line_texts}
 use Rattle.outside.specs.Files.{Folder}
 use Rattle.outside.specs.Laws.{front-longer}
 use Rattle.outside.specs.Sink.{Appends}
-use Rattle.spell_types.specs.declared.Lexicon.{Lexicon}
-use Rattle.dictionary_swap.specs.Loads.{DictionaryFiles, found_in}
+use Rattle.own_dictionary.specs.Dictionaries.{OwnSeen}
 use Rattle.dictionary_swap.specs.declared.fault.LoadFault.TheVariants.{Failed as FailedLoad}
 use Rattle.input_lines.specs.Ends.{HasEnded, IsWritten, Reading}
 use Rattle.input_lines.specs.Laws.{ended-weaker}
 use Rattle.input_lines.specs.Lines.{IsBounded, IsShort, before_quit}
 use Rattle.input_lines.specs.declared.reading_end.ReadingEnd.{ReadingEnd}
 use Rattle.input_lines.specs.declared.reading_end.ReadingEnd.TheVariants as reading
-use Rattle.console_board.specs.Consoles.{Console, opened}
-use Rattle.console_board.specs.Transcripts.{Answers, IsRepliedTo, IsThere, asked_by, is_quit}
-use Rattle.command_line.specs.Due.{MayCome, dictionary_due}
+use Rattle.console_board.specs.OwnConsoles.{OwnConsole, own_opened}
+use Rattle.console_board.specs.Transcripts.{Answers, IsRepliedTo, asked_by, is_quit}
+use Rattle.command_line.specs.Due.{IsOwnThere, MayCome, OwnFiles, dictionary_due, own_found_in}
 use Rattle.command_line.specs.Ends.{Cut, EndsAs, IsEndPut}
 use Rattle.command_line.specs.Failures.{last_line}
 use Rattle.command_line.specs.Forms.{AllReplied, AreReplied, FilesFailedFirst, HasReplied}
@@ -36,20 +35,21 @@ use Rattle.command_line.proofs.EndLemmas.{ends-behind, goes-on}
 -- ---- what a console has replied
 
 -- from a console that opened with a dictionary
-pub replied-so : {met : Met} {lexicon : Lexicon} {told told_now : Option Folder}
-    {failed failed_now : ℕ} {before after : Console} {lines : List (List ℕ)} {said : List ℕ}
-    → before ≡ opened lexicon → met.folder ≡ told → met.files_before ≤ failed
+pub replied-so : {met : Met} {dictionary : OwnSeen} {told told_now : Option Folder}
+    {failed failed_now : ℕ} {before after : OwnConsole} {lines : List (List ℕ)} {said : List ℕ}
+    → before ≡ own_opened dictionary.base dictionary.own → met.folder ≡ told → met.files_before ≤ failed
     → failed_now ≡ met.files_after
     → IsRepliedTo told told_now failed failed_now before after lines said
-    → AreReplied met lexicon lines said
-replied-so {lexicon = lexicon} {told = told} {after = after} {lines = lines} opens folder sooner
+    → AreReplied met dictionary lines said
+replied-so {dictionary = dictionary} {told = told} {after = after} {lines = lines} opens folder sooner
     later is = record {
       replies = is.replies;
       said_is = is.text_is;
       transcript = record {
         last = after;
         answers = subst
-            (λ folder. Answers 0 folder (opened lexicon) (asked_by lines) is.replies after)
+            (λ folder. Answers 0 folder (own_opened dictionary.base dictionary.own) (asked_by lines)
+            is.replies after)
             (sym folder)
             (subst (λ console. Answers 0 told console (asked_by lines) is.replies after) opens
             is.answers);
@@ -60,13 +60,13 @@ replied-so {lexicon = lexicon} {told = told} {after = after} {lines = lines} ope
 -- ---- how a dialogue ends
 
 -- where its reading has ended, and the sink did not fail
-pub dialogue-ends : {met : Met} {lexicon : Lexicon} {put_failed whole_failed : Type 0} {end : End}
+pub dialogue-ends : {met : Met} {dictionary : OwnSeen} {put_failed whole_failed : Type 0} {end : End}
     {before middle now : Option (List ℕ)} {status : ℕ}
-    (sink_failed : Type 0) (ended : ReadingEnd) (said : List ℕ) → HasReplied met lexicon ended said
+    (sink_failed : Type 0) (ended : ReadingEnd) (said : List ℕ) → HasReplied met dictionary ended said
     → IsWritten ended sink_failed before middle said
     → end_of ended ≡ Some end → (put_failed → whole_failed)
     → IsEndPut end put_failed middle now status
-    → EndsAs (IsDialogue met lexicon) whole_failed before now status
+    → EndsAs (IsDialogue met dictionary) whole_failed before now status
 dialogue-ends {end = end} {before = before} {middle = middle} sink_failed ended said is written told
     fails put =
     ends-behind said fails (by ended written told)
@@ -78,10 +78,10 @@ dialogue-ends {end = end} {before = before} {middle = middle} sink_failed ended 
     by _ written told = written
 
 -- where it did
-pub dialogue-cut : {met : Met} {lexicon : Lexicon} {before now : Option (List ℕ)}
+pub dialogue-cut : {met : Met} {dictionary : OwnSeen} {before now : Option (List ℕ)}
     (sink_failed : Type 0) (ended : ReadingEnd) (said : List ℕ)
-    → HasReplied met lexicon ended said → IsWritten ended sink_failed before now said
-    → end_of ended ≡ None → EndsAs (IsDialogue met lexicon) sink_failed before now 6
+    → HasReplied met dictionary ended said → IsWritten ended sink_failed before now said
+    → end_of ended ≡ None → EndsAs (IsDialogue met dictionary) sink_failed before now 6
 dialogue-cut {before = before} {now = now} sink_failed reading.SinkFailed said is written told =
     record {
       text = said;
@@ -96,19 +96,19 @@ dialogue-cut sink_failed _ said is written told = absurd (cc)
 -- ---- the words of `edit`
 
 -- the console opened
-pub dialogue-answers : {met : Met} {names : DictionaryNamed} {lexicon : Lexicon} {text : List ℕ}
+pub dialogue-answers : {met : Met} {names : DictionaryNamed} {dictionary : OwnSeen} {text : List ℕ}
     {end : End}
-    → (there : DictionaryFiles) × IsThere met.folder names.aff names.dic there
-    × (dictionary_due there ≡ Ok lexicon) → IsDialogue met lexicon text end
+    → (there : OwnFiles) × IsOwnThere met.folder names there
+    × (dictionary_due there ≡ Ok dictionary) → IsDialogue met dictionary text end
     → IsAnswerTo (Some (Edit names)) met text end
-dialogue-answers {met} {names} {lexicon} {text} {end} (there, is, due) dialogue = record {
-  answer = Opened there lexicon is due dialogue;
+dialogue-answers {met} {names} {dictionary} {text} {end} (there, is, due) dialogue = record {
+  answer = Opened there dictionary is due dialogue;
   caused = by dialogue.ended dialogue.end_is dialogue.is;
   input = tt;
   files = tt;
 }
   where
-    by : (ended : ReadingEnd) → end_of ended ≡ Some end → HasReplied met lexicon ended text
+    by : (ended : ReadingEnd) → end_of ended ≡ Some end → HasReplied met dictionary ended text
         → IsCaused (Some (Edit names)) met text end
     by reading.Interrupted is ended = goes-on (cc) (λ input. ended.failed)
     by reading.SinkFailed is ended = absurd (cc)
@@ -116,7 +116,7 @@ dialogue-answers {met} {names} {lexicon} {text} {end} (there, is, due) dialogue 
 
 -- it did not
 pub not-opened : {met : Met} {names : DictionaryNamed} {failure : Failure}
-    → (there : DictionaryFiles) × IsThere met.folder names.aff names.dic there
+    → (there : OwnFiles) × IsOwnThere met.folder names there
     × FailsAs MayCome (dictionary_due there) failure
     → (failure ≡ Load FailedLoad → met.files_before < met.files_after) → IsUntouched met.reading
     → IsAnswerTo (Some (Edit names)) met [] (Failed failure)
@@ -133,32 +133,32 @@ not-opened {met} {names} {failure} (there, is, fails) rose untouched =
 -- ---- where nothing fails and no limit is passed
 
 -- what a dictionary that is fit says
-fit-due : {met : Met} {names : DictionaryNamed} {lexicon : Lexicon} (there : DictionaryFiles)
-    → IsFit met names lexicon → IsThere met.folder names.aff names.dic there
-    → dictionary_due there ≡ Ok lexicon
+fit-due : {met : Met} {names : DictionaryNamed} {dictionary : OwnSeen} (there : OwnFiles)
+    → IsFit met names dictionary → IsOwnThere met.folder names there
+    → dictionary_due there ≡ Ok dictionary
 fit-due {names = names} there fit is =
-    let found : there ≡ found_in fit.folder names.aff names.dic =
-    subst (λ told. IsThere told names.aff names.dic there) fit.folder_is is in
-    ap dictionary_due found ∙ fit.dictionary
+    let found : there ≡ own_found_in fit.folder names =
+    subst (λ told. IsOwnThere told names there) fit.folder_is is in
+    ap dictionary_due found ∙ fit.is_due
 
 -- a dictionary that is fit is loaded, unless the files fail first
 pub not-opened-whole : {met : Met} {names : DictionaryNamed} {failure : Failure}
-    → (there : DictionaryFiles) × IsThere met.folder names.aff names.dic there
+    → (there : OwnFiles) × IsOwnThere met.folder names there
     × FailsAs MayCome (dictionary_due there) failure
     → (failure ≡ Load FailedLoad → met.files_before < met.files_after) → IsUntouched met.reading
     → (form_of (Some (Edit names))).whole met [] (Failed failure)
 not-opened-whole {met} {names} {failure} (there, is, fails) rose untouched =
-    λ lexicon fit first reads. by lexicon fit first fails
+    λ dictionary fit first reads. by dictionary fit first fails
   where
-    by : (lexicon : Lexicon) → IsFit met names lexicon
+    by : (dictionary : OwnSeen) → IsFit met names dictionary
         → ¬ ((met.files_before < met.files_after) × IsUntouched met.reading)
         → FailsAs MayCome (dictionary_due there) failure
-        → IsWholeDialogue met lexicon [] (Failed failure)
-    by lexicon fit first (inl comes) =
+        → IsWholeDialogue met dictionary [] (Failed failure)
+    by dictionary fit first (inl comes) =
         ⊎_elim (λ failed. absurd (first (rose failed, untouched)))
         (λ wanting. NoneReplied (ap Failed wanting) refl) (comes-as failure comes)
-    by lexicon fit first (inr due) =
-        let never : Ok lexicon ≡ Err failure = sym (fit-due there fit is) ∙ due in
+    by dictionary fit first (inr due) =
+        let never : Ok dictionary ≡ Err failure = sym (fit-due there fit is) ∙ due in
         absurd (cc)
 
 -- what the law of readings says, of a dialogue
@@ -172,31 +172,31 @@ AreRead = (quits : List ℕ → Bool) (read : Reading) (input said : List ℕ) (
     ⊎ ((ended ≡ reading.NoMemory) ⊎ (ended ≡ reading.SinkFailed))
 
 -- a dialogue over an input that is fit replies to all its lines
-pub dialogue-whole : {met : Met} {names : DictionaryNamed} {lexicon : Lexicon} {text : List ℕ}
+pub dialogue-whole : {met : Met} {names : DictionaryNamed} {dictionary : OwnSeen} {text : List ℕ}
     {end : End} → AreRead
     → ((line : List ℕ) → is_quit line ≡ true → IsShort line)
-    → (there : DictionaryFiles) × IsThere met.folder names.aff names.dic there
-    × (dictionary_due there ≡ Ok lexicon) → IsDialogue met lexicon text end
+    → (there : OwnFiles) × IsOwnThere met.folder names there
+    × (dictionary_due there ≡ Ok dictionary) → IsDialogue met dictionary text end
     → (form_of (Some (Edit names))).whole met text end
-dialogue-whole {met} {names} {lexicon} {text} {end} read quits_short (there, is, due) dialogue =
+dialogue-whole {met} {names} {dictionary} {text} {end} read quits_short (there, is, due) dialogue =
     λ other fit first reads.
     let also : dictionary_due there ≡ Ok other = fit-due there fit is in
-    let same : lexicon ≡ other = cc in
-    subst (λ lexicon. IsWholeDialogue met lexicon text end) same
+    let same : dictionary ≡ other = cc in
+    subst (λ dictionary. IsWholeDialogue met dictionary text end) same
     (by dialogue.ended dialogue.end_is dialogue.is
     (read is_quit met.reading fit.input text dialogue.ended
-    (ended-weaker is_quit (AreReplied met lexicon) (λ lines answers. Unit {0}) met.reading
+    (ended-weaker is_quit (AreReplied met dictionary) (λ lines answers. Unit {0}) met.reading
     dialogue.ended text (λ lines said is. tt) dialogue.is)
     fit.input_is fit.bounded quits_short fit.short reads))
   where
-    by : (ended : ReadingEnd) → end_of ended ≡ Some end → HasReplied met lexicon ended text
+    by : (ended : ReadingEnd) → end_of ended ≡ Some end → HasReplied met dictionary ended text
         → (ended ≡ reading.Finished) ⊎ ((ended ≡ reading.NoMemory) ⊎ (ended ≡ reading.SinkFailed))
-        → IsWholeDialogue met lexicon text end
+        → IsWholeDialogue met dictionary text end
     by ended told is (inl finished) =
         let quiet : Some end ≡ Some Quiet = sym told ∙ ap end_of finished in
-        AllReplied (cc) (subst (λ ended. HasReplied met lexicon ended text) finished is)
+        AllReplied (cc) (subst (λ ended. HasReplied met dictionary ended text) finished is)
     by ended told is (inr (inl wanting)) =
         let memory : Some end ≡ Some (Failed NoMemory) = sym told ∙ ap end_of wanting in
-        SomeReplied (cc) (subst (λ ended. HasReplied met lexicon ended text) wanting is)
+        SomeReplied (cc) (subst (λ ended. HasReplied met dictionary ended text) wanting is)
     by ended told is (inr (inr cut)) =
         let never : Some end ≡ None = sym told ∙ ap end_of cut in absurd (cc)

@@ -12,7 +12,16 @@ use Rattle.outside.specs.declared.faults.FileFault.{FileFault}
 use Rattle.outside.specs.declared.faults.FileFault.TheVariants.{Failed as FileFailed}
 use Rattle.outside.specs.declared.faults.FileFault.TheVariants.{TooLong as FileTooLong}
 use Rattle.outside.specs.declared.faults.FileFault.TheVariants.{NoMemory as FileWanting}
+use Rattle.std.specs.Option.{option_map}
+use Rattle.std.specs.Prelude.{is_some}
+use Rattle.spell_types.specs.declared.Affixes.{Affixes}
 use Rattle.spell_types.specs.declared.Lexicon.{Lexicon}
+use Rattle.personal_words.specs.declared.items.OwnItem.{OwnItem}
+use Rattle.personal_words.specs.Faults.{Fault as OwnLineFault, IsTold as ListTold, own_read}
+use Rattle.personal_words.specs.declared.faults.OwnFault.{OwnFault as ListFault}
+use Rattle.personal_words.specs.declared.faults.OwnFault.TheVariants.{At, NoMemory as ListWanting}
+use Rattle.own_dictionary.specs.Dictionaries.{OwnSeen}
+use Rattle.dictionary_swap.specs.declared.limits.TheConstants.{SIZE_LIMIT}
 use Rattle.dictionary_swap.specs.Loads.{DictionaryFiles, MayCome as LoadMayCome, found_in}
 use Rattle.dictionary_swap.specs.Loads.{lexicon_due, load_fault_of}
 use Rattle.dictionary_swap.specs.declared.fault.LoadFault.{LoadFault}
@@ -25,14 +34,17 @@ use Rattle.document_report.specs.declared.fault.DocumentFault.{DocumentFault}
 use Rattle.document_report.specs.declared.fault.DocumentFault.TheVariants.{NoMemory as ReportWanting}
 use Rattle.document_report.specs.declared.printing.Report.{Report}
 use Rattle.console_board.specs.Transcripts.{IsThere}
-use Rattle.command_line.specs.Due.{Found, IsFileThere, IsFound, MayCome, bytes_due, check_due}
-use Rattle.command_line.specs.Due.{checked_due, dictionary_due, printed_due}
-use Rattle.command_line.specs.Failures.{document_failure, failure_of, is_fault}
+use Rattle.command_line.specs.Due.{Found, IsFileThere, IsFound, IsListThere, IsOwnThere, MayCome}
+use Rattle.command_line.specs.Due.{OwnFiles, base_due, bytes_due, check_due, checked_due}
+use Rattle.command_line.specs.Due.{dictionary_due, in_force_due, items_due, list_due, own_due}
+use Rattle.command_line.specs.Due.{printed_due}
+use Rattle.command_line.specs.Failures.{document_failure, failure_of, failure_of_own, is_fault}
+use Rattle.command_line.specs.Failures.{own_failure}
 use Rattle.command_line.specs.Forms.{AllOfIt, AllPrinted, AreFirstLines, FilesFailed, IsCaused}
 use Rattle.command_line.specs.Forms.{IsReport, IsWholeReport, Met, Refused, SomeOfIt, Wanting}
 use Rattle.command_line.specs.Forms.{end_printed, is_alone, lines_before}
 use Rattle.command_line.specs.Given.{end_by, text_by}
-use Rattle.command_line.specs.Operands.{CheckedFiles}
+use Rattle.command_line.specs.Operands.{CheckedFiles, DictionaryNamed}
 use Rattle.command_line.specs.declared.ending.End.{End}
 use Rattle.command_line.specs.declared.ending.End.TheVariants.{Quiet, Marked, Failed}
 use Rattle.command_line.specs.declared.failure.Failure.{Failure}
@@ -55,18 +67,25 @@ load-comes FailedLoad comes = tt
 load-comes LoadWanting comes = tt
 load-comes _ comes = absurd comes
 
--- the failure of a file of a document
-abbrev pub file_failure : FileFault → Failure
-file_failure fault = failure_of (load_fault_of DOCUMENT_LIMIT fault)
+-- the failure of a file that may have so many bytes
+abbrev pub file_failure : ℕ → FileFault → Failure
+file_failure limit fault = failure_of (load_fault_of limit fault)
 
-pub file-comes : (fault : FileFault) → FileMayCome fault → MayCome (file_failure fault)
-file-comes FileFailed comes = tt
-file-comes FileWanting comes = tt
-file-comes _ comes = absurd comes
+pub file-comes : (limit : ℕ) (fault : FileFault) → FileMayCome fault
+    → MayCome (file_failure limit fault)
+file-comes limit FileFailed comes = tt
+file-comes limit FileWanting comes = tt
+file-comes limit _ comes = absurd comes
 
 pub report-comes : (fault : DocumentFault) → ReportMayCome fault → MayCome (document_failure fault)
 report-comes ReportWanting comes = tt
 report-comes _ comes = absurd comes
+
+-- what is told of a personal list is its fault, or that memory is wanting
+pub own-fails : (read : Result (List OwnItem) OwnLineFault) (fault : ListFault)
+    → ListTold read fault → FailsAs MayCome (failing own_failure read) (failure_of_own fault)
+own-fails read (At line why) is = inr (ap (failing own_failure) is)
+own-fails read ListWanting is = inl tt
 
 -- ---- what is due
 
@@ -93,17 +112,49 @@ then-told : {A B : Type 0} (due : Result A Failure) (next : A → Result B Failu
 then-told (Ok given) next told later = later given
 then-told (Err failure) next told later = told
 
-pub dictionary-told : (there : DictionaryFiles) → IfErr (dictionary_due there) IsTold
+bytes-told : (limit : ℕ) (file : Option (List ℕ)) → IfErr (bytes_due limit file) IsTold
+unfolding bytes_due
+bytes-told limit file =
+    failing-told (file_failure limit) (λ fault. load-told (load_fault_of limit fault))
+    (file_due limit file)
+
+items-told : (affixes : Affixes) (bytes : List ℕ) → IfErr (items_due affixes bytes) IsTold
+unfolding items_due
+items-told affixes bytes = failing-told own_failure (λ fault. inr refl) (own_read affixes bytes)
+
+list-told : (affixes : Affixes) (file : Option (List ℕ)) → IfErr (list_due affixes file) IsTold
+unfolding list_due
+list-told affixes file =
+    then-told (bytes_due SIZE_LIMIT file) _ (bytes-told SIZE_LIMIT file) (items-told affixes)
+
+own-told : (affixes : Affixes) (there : Option (Option (List ℕ)))
+    → IfErr (own_due affixes there) IsTold
+unfolding own_due
+own-told affixes None = tt
+own-told affixes (Some file) = list-told affixes file
+
+base-told : (there : DictionaryFiles) → IfErr (base_due there) IsTold
+unfolding base_due
+base-told there = failing-told failure_of load-told (lexicon_due there)
+
+pub dictionary-told : (there : OwnFiles) → IfErr (dictionary_due there) IsTold
 unfolding dictionary_due
-dictionary-told there = failing-told failure_of load-told (lexicon_due there)
+dictionary-told there =
+    then-told (base_due there.dictionary) _ (base-told there.dictionary) (λ base.
+    then-told (own_due base.affixes there.own) _ (own-told base.affixes there.own) (λ own. tt))
+
+in-force-told : (there : OwnFiles) → IfErr (in_force_due there) IsTold
+unfolding in_force_due
+in-force-told there =
+    then-told (dictionary_due there) _ (dictionary-told there) (λ dictionary. tt)
 
 pub checked-told : (printed : Lexicon → List (List ℕ) → Printed) (found : Found)
     → IfErr (checked_due printed found) IsTold
-unfolding checked_due bytes_due printed_due
+unfolding checked_due printed_due
 checked-told printed found =
-    then-told (dictionary_due _) _ (dictionary-told _) (λ lexicon.
-    then-told (bytes_due found.document) _
-    (failing-told file_failure (λ fault. load-told (load_fault_of DOCUMENT_LIMIT fault)) _)
+    then-told (in_force_due found.dictionary) _ (in-force-told found.dictionary) (λ lexicon.
+    then-told (bytes_due DOCUMENT_LIMIT found.document) _
+    (bytes-told DOCUMENT_LIMIT found.document)
     (λ document. failing-told document_failure report-told _))
 
 -- so what a call fails with is told
@@ -127,7 +178,7 @@ failure-caused {failure = failure} told rose = record {
     other (inl never) = absurd never
     other (inr never) = absurd (cc)
 
--- ---- the files of a check
+-- ---- files
 
 -- there are some files of which something holds, which are those that are told
 pub some-there : (told : Option Folder) (aff dic : List ℕ) {P : DictionaryFiles → Type 0}
@@ -149,13 +200,93 @@ any-file : (told : Option Folder) (name : List ℕ) → (file : Option (List ℕ
 any-file None name = (None, tt)
 any-file (Some folder) name = (folder name, refl)
 
+any-list : (told : Option Folder) (name : Option (List ℕ))
+    → (there : Option (Option (List ℕ))) × IsListThere told name there
+any-list told None = (None, refl)
+any-list told (Some name) =
+    let file = any-file told name in (Some file.0, (file.0, refl, file.1))
+
+-- a dictionary and the list behind it
+own-there : (told : Option Folder) (names : DictionaryNamed) (there : DictionaryFiles)
+    (list : Option (Option (List ℕ))) → IsThere told names.aff names.dic there
+    → IsListThere told names.own list
+    → IsOwnThere told names (record { dictionary = there; own = list })
+own-there None names there list is also = by names.own also
+  where
+    by : (name : Option (List ℕ)) → IsListThere None name list → is_some list ≡ is_some name
+    by None none = ap is_some none
+    by (Some name) (file, some, any) = ap is_some some
+own-there (Some folder) names there list is also = rw (is, by names.own also) refl
+  where
+    by : (name : Option (List ℕ)) → IsListThere (Some folder) name list
+        → list ≡ option_map folder name
+    by None none = none
+    by (Some name) (file, some, found) = some ∙ ap Some found
+
+-- ---- the dictionary
+
+-- what is due of the files that there are
+abbrev pub IsLoaded : Option Folder → DictionaryNamed → Result OwnSeen Failure → Type 0
+IsLoaded told names result = (there : OwnFiles) × IsOwnThere told names there
+    × GivesDue MayCome (λ dictionary. dictionary) (dictionary_due there) result
+
+-- what is due of the two files of a dictionary
+abbrev pub BaseIs : Option Folder → DictionaryNamed → (Result Lexicon Failure → Type 0) → Type 0
+BaseIs told names holds = (there : DictionaryFiles)
+    × IsThere told names.aff names.dic there × holds (base_due there)
+
+-- and of the list behind them
+abbrev pub ListIs : Option Folder → DictionaryNamed → Affixes
+    → (Result (List OwnItem) Failure → Type 0) → Type 0
+ListIs told names affixes holds = (list : Option (Option (List ℕ)))
+    × IsListThere told names.own list × holds (own_due affixes list)
+
+module _ (told : Option Folder) (names : DictionaryNamed) (result : Result OwnSeen Failure) where
+  -- the base is not loaded
+  pub base-not-loaded : {failure : Failure} → BaseIs told names (λ due. FailsAs MayCome due failure)
+      → IsErrAnd result (λ other. other ≡ failure) → IsLoaded told names result
+  unfolding dictionary_due
+  base-not-loaded (there, is, fails) fault =
+      let list = any-list told names.own in (
+        _,
+        own-there told names there list.0 is list.1,
+        gives-fault MayCome (λ d. d) result (fails-then MayCome _ fails) fault,
+      )
+
+  -- the list is not loaded
+  pub list-not-loaded : {base : Lexicon} {failure : Failure}
+      → BaseIs told names (λ due. due ≡ Ok base)
+      → ListIs told names base.affixes (λ due. FailsAs MayCome due failure)
+      → IsErrAnd result (λ other. other ≡ failure) → IsLoaded told names result
+  unfolding dictionary_due
+  list-not-loaded (there, is, due) (list, also, fails) fault = (
+    _,
+    own-there told names there list is also,
+    gives-then MayCome _ (λ d. d) result due
+        (gives-fault MayCome (λ d. d) result (fails-then MayCome _ fails) fault),
+  )
+
+  -- both are, and then the dictionary is made of them, or memory is wanting
+  pub dictionary-made : {base : Lexicon} {own : List OwnItem}
+      → BaseIs told names (λ due. due ≡ Ok base)
+      → ListIs told names base.affixes (λ due. due ≡ Ok own)
+      → GivesDue MayCome (λ dictionary. dictionary) (Ok (record { base = base; own = own })) result
+      → IsLoaded told names result
+  unfolding dictionary_due
+  dictionary-made (there, is, due) (list, also, items) gives = (
+    _,
+    own-there told names there list is also,
+    gives-then MayCome _ (λ d. d) result due (gives-then MayCome _ (λ d. d) result items gives),
+  )
+
+-- ---- the files of a check
+
 -- both together
-found-both : (told : Option Folder) (names : CheckedFiles) (there : DictionaryFiles)
-    (file : Option (List ℕ)) → IsThere told names.aff names.dic there
+found-both : (told : Option Folder) (names : CheckedFiles) (there : OwnFiles)
+    (file : Option (List ℕ)) → IsOwnThere told names.dictionary there
     → IsFileThere told names.document file
-    → IsFound told names (record { aff = there.aff; dic = there.dic; document = file })
-found-both None names there file is also = tt
-found-both (Some folder) names there file is also = rw (is, also) refl
+    → IsFound told names (record { dictionary = there; document = file })
+found-both told names there file is also = record { dictionary = is; document = also }
 
 -- what is due of the files that there are
 abbrev pub IsChecked : Option Folder → CheckedFiles → Result Report Failure → Type 0
@@ -165,8 +296,8 @@ IsChecked told names result = (found : Found) × IsFound told names found
 -- the dictionary is not loaded
 pub check-not-loaded : (told : Option Folder) (names : CheckedFiles) {failure : Failure}
     (result : Result Report Failure)
-    → (there : DictionaryFiles) × IsThere told names.aff names.dic there
-    × FailsAs MayCome (dictionary_due there) failure
+    → (there : OwnFiles) × IsOwnThere told names.dictionary there
+    × FailsAs MayCome (in_force_due there) failure
     → IsErrAnd result (λ other. other ≡ failure) → IsChecked told names result
 unfolding checked_due
 check-not-loaded told names result (there, is, fails) fault =
@@ -178,10 +309,10 @@ check-not-loaded told names result (there, is, fails) fault =
 -- the document is not loaded
 pub check-no-document : (told : Option Folder) (names : CheckedFiles) {lexicon : Lexicon}
     {failure : Failure} (result : Result Report Failure)
-    → (there : DictionaryFiles) × IsThere told names.aff names.dic there
-    × (dictionary_due there ≡ Ok lexicon)
+    → (there : OwnFiles) × IsOwnThere told names.dictionary there
+    × (in_force_due there ≡ Ok lexicon)
     → (file : Option (List ℕ)) × IsFileThere told names.document file
-    × FailsAs MayCome (bytes_due file) failure
+    × FailsAs MayCome (bytes_due DOCUMENT_LIMIT file) failure
     → IsErrAnd result (λ other. other ≡ failure) → IsChecked told names result
 unfolding checked_due
 check-no-document told names result (there, is, due) (file, also, fails) fault = (
@@ -194,10 +325,10 @@ check-no-document told names result (there, is, due) (file, also, fails) fault =
 -- both are, and the report is what is due
 pub check-reported : (told : Option Folder) (names : CheckedFiles) {lexicon : Lexicon}
     {document : List ℕ} (result : Result Report Failure)
-    → (there : DictionaryFiles) × IsThere told names.aff names.dic there
-    × (dictionary_due there ≡ Ok lexicon)
+    → (there : OwnFiles) × IsOwnThere told names.dictionary there
+    × (in_force_due there ≡ Ok lexicon)
     → (file : Option (List ℕ)) × IsFileThere told names.document file
-    × (bytes_due file ≡ Ok document)
+    × (bytes_due DOCUMENT_LIMIT file ≡ Ok document)
     → GivesDue MayCome printed_by (printed_due report_of lexicon document) result
     → IsChecked told names result
 unfolding checked_due
@@ -208,13 +339,13 @@ check-reported told names result (there, is, due) (file, also, bytes) gives =
 
 -- bytes that are few enough are due
 pub bytes-made : (bytes given : List ℕ) → given ≡ bytes → length given ≤ DOCUMENT_LIMIT
-    → bytes_due (Some bytes) ≡ Ok given
+    → bytes_due DOCUMENT_LIMIT (Some bytes) ≡ Ok given
 unfolding bytes_due file_due
 bytes-made bytes given same few =
     let fits : nat_le (length bytes) DOCUMENT_LIMIT ≡ true =
     le-leb (length bytes) DOCUMENT_LIMIT (subst (λ b. length b ≤ DOCUMENT_LIMIT) same few)
     in
-    ap (λ fits. failing file_failure (if fits then Ok bytes else Err FileTooLong)) fits
+    ap (λ fits. failing (file_failure DOCUMENT_LIMIT) (if fits then Ok bytes else Err FileTooLong)) fits
     ∙ ap Ok (sym same)
 
 -- ---- what is written of it

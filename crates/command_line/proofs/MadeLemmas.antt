@@ -5,10 +5,9 @@ use Rattle.std.specs.Str.{bytes_eq}
 use Rattle.std.specs.String.{string_bytes}
 use Rattle.outside.specs.Files.{Folder}
 use Rattle.outside.specs.Memory.{file_of}
-use Rattle.console_board.specs.Transcripts.{IsThere}
-use Rattle.dictionary_swap.specs.Loads.{DictionaryFiles}
 use Rattle.work_maker.specs.Made.{aff_bytes, dic_bytes}
-use Rattle.command_line.specs.Due.{HasMade}
+use Rattle.command_line.specs.Due.{HasMade, IsOwnThere, OwnFiles}
+use Rattle.command_line.specs.Operands.{DictionaryNamed}
 
 -- two files with these names and bytes are those of the dictionary
 pub made-found : (size : ℕ) (first second : String Global) (aff dic : Vec ℕ Global)
@@ -27,9 +26,16 @@ made-found size first second aff dic is_first is_second is_aff is_dic =
     second_is : bytes_eq (string_bytes second) (codes "made.dic") ≡ true
     second_is = ap (λ name. bytes_eq name (codes "made.dic")) is_second
 
--- what there is of the files that are made is the dictionary that is made
-pub made-there : (size : ℕ) (told : Option Folder) {there : DictionaryFiles} → HasMade size told
-    → IsThere told (codes "made.aff") (codes "made.dic") there
-    → there ≡ record { aff = Some aff_bytes; dic = Some (dic_bytes size) }
+-- the names of a dictionary that is made
+abbrev pub made_names : DictionaryNamed
+made_names = record { aff = codes "made.aff"; dic = codes "made.dic"; own = None }
+
+-- what there is of the files that are made is the dictionary that is made, without personal words
+pub made-there : (size : ℕ) (told : Option Folder) {there : OwnFiles} → HasMade size told
+    → IsOwnThere told made_names there
+    → there ≡ record {
+      dictionary = record { aff = Some aff_bytes; dic = Some (dic_bytes size) };
+      own = None;
+    }
 made-there size None has is = absurd has
 made-there size (Some folder) has is = rw (is, has.0, has.1) refl

@@ -3,6 +3,9 @@ use Rattle.std.specs.Prelude.{ℕ, Bool, true, false, List, ◌++◌, codes}
 use Rattle.std.specs.Fmt.{decimal}
 use Rattle.aff_lines.specs.Faults.{why_name as aff_why_name}
 use Rattle.dic_reader.specs.Faults.{why_name as dic_why_name}
+use Rattle.personal_words.specs.Faults.{Fault as OwnFault, why_name as own_why_name}
+use Rattle.personal_words.specs.declared.faults.OwnFault.{OwnFault as ListFault}
+use Rattle.personal_words.specs.declared.faults.OwnFault.TheVariants.{At, NoMemory as ListWanting}
 use Rattle.dictionary_swap.specs.declared.fault.LoadFault.{LoadFault}
 use Rattle.dictionary_swap.specs.declared.fault.LoadFault.TheVariants.{Failed, Missing, TooLong}
 use Rattle.dictionary_swap.specs.declared.fault.LoadFault.TheVariants.{Aff, Dic}
@@ -13,8 +16,8 @@ use Rattle.document_report.specs.declared.fault.DocumentFault.TheVariants.{TooMa
 use Rattle.document_report.specs.declared.fault.DocumentFault.TheVariants.{LongParagraph}
 use Rattle.document_report.specs.declared.fault.DocumentFault.TheVariants.{NoMemory as ReportWanting}
 use Rattle.command_line.specs.declared.failure.Failure.{Failure}
-use Rattle.command_line.specs.declared.failure.Failure.TheVariants.{Words, Load, Document, Input}
-use Rattle.command_line.specs.declared.failure.Failure.TheVariants.{Limit, NoMemory}
+use Rattle.command_line.specs.declared.failure.Failure.TheVariants.{Words, Load, Own, Document}
+use Rattle.command_line.specs.declared.failure.Failure.TheVariants.{Input, Limit, NoMemory}
 
 -- ---- the exit status
 
@@ -35,6 +38,7 @@ document_status (LongParagraph limit) = 8
 abbrev pub status_of : Failure → ℕ
 status_of Words = 2
 status_of (Load fault) = load_status fault
+status_of (Own line why) = 3
 status_of (Document fault) = document_status fault
 status_of Input = 5
 status_of (Limit limit) = 8
@@ -67,6 +71,7 @@ document_line ReportWanting = codes "memory\n"
 unfoldable pub last_line : Failure → List ℕ
 last_line Words = codes "affedit: words\n"
 last_line (Load fault) = load_line fault
+last_line (Own line why) = fault_line (codes "own") line (own_why_name why)
 last_line (Document fault) = document_line fault
 last_line Input = codes "input\n"
 last_line (Limit limit) = limit_line limit
@@ -82,6 +87,14 @@ failure_of (Aff line why) = Load (Aff line why)
 failure_of (Dic line why) = Load (Dic line why)
 failure_of LoadWanting = NoMemory
 
+abbrev pub own_failure : OwnFault → Failure
+own_failure fault = Own fault.line fault.why
+
+-- the failure that a fault of a personal list is told as; want of memory is one thing
+abbrev pub failure_of_own : ListFault → Failure
+failure_of_own (At line why) = Own line why
+failure_of_own ListWanting = NoMemory
+
 abbrev pub document_failure : DocumentFault → Failure
 document_failure (NotUtf8 line) = Document (NotUtf8 line)
 document_failure (TooManyParagraphs limit) = Document (TooManyParagraphs limit)
@@ -94,6 +107,7 @@ abbrev pub is_fault : Failure → Bool
 is_fault (Load Failed) = false
 is_fault (Load LoadWanting) = false
 is_fault (Load fault) = true
+is_fault (Own line why) = true
 is_fault (Document ReportWanting) = false
 is_fault (Document fault) = true
 is_fault _ = false

@@ -5,9 +5,8 @@ use Rattle.std.specs.Prelude.{Option, Some, None, Result, Ok, Err, if◌then◌e
 use Rattle.std.specs.Bool.{OnFalse}
 use Rattle.std.specs.List.{AllByRecursion}
 use Rattle.outside.specs.Files.{Folder}
-use Rattle.spell_types.specs.declared.Lexicon.{Lexicon}
+use Rattle.own_dictionary.specs.Dictionaries.{OwnSeen}
 use Rattle.text_lines.specs.Lines.{line_texts}
-use Rattle.dictionary_swap.specs.Loads.{DictionaryFiles, found_in}
 use Rattle.dictionary_swap.specs.declared.fault.LoadFault.TheVariants.{Failed as FailedLoad}
 use Rattle.document_report.specs.Reports.{Printed}
 use Rattle.input_lines.specs.Ends.{HasEnded, Reading}
@@ -15,8 +14,9 @@ use Rattle.input_lines.specs.Lines.{IsBounded, IsShort, before_quit}
 use Rattle.input_lines.specs.declared.reading_end.ReadingEnd.{ReadingEnd}
 use Rattle.input_lines.specs.declared.reading_end.ReadingEnd.TheVariants as reading
 use Rattle.console_lang.specs.declared.reply.Reply.{Reply}
-use Rattle.console_board.specs.Transcripts.{IsThere, IsTranscript, is_quit, written_of, failures_in}
-use Rattle.command_line.specs.Due.{Found, IsFound, check_due, dictionary_due, make_due}
+use Rattle.console_board.specs.Transcripts.{IsTranscript, is_quit, written_of, failures_in}
+use Rattle.command_line.specs.Due.{Found, IsFound, IsOwnThere, OwnFiles, check_due, dictionary_due}
+use Rattle.command_line.specs.Due.{make_due, own_found_in}
 use Rattle.command_line.specs.Failures.{is_fault}
 use Rattle.command_line.specs.Operands.{DictionaryNamed}
 use Rattle.command_line.specs.declared.requests.Request.{Request}
@@ -24,8 +24,8 @@ use Rattle.command_line.specs.declared.requests.Request.TheVariants.{Check, Make
 use Rattle.command_line.specs.declared.ending.End.{End}
 use Rattle.command_line.specs.declared.ending.End.TheVariants.{Quiet, Marked, Failed}
 use Rattle.command_line.specs.declared.failure.Failure.{Failure}
-use Rattle.command_line.specs.declared.failure.Failure.TheVariants.{Words, Load, Document, Input}
-use Rattle.command_line.specs.declared.failure.Failure.TheVariants.{Limit, NoMemory}
+use Rattle.command_line.specs.declared.failure.Failure.TheVariants.{Words, Load, Own, Document}
+use Rattle.command_line.specs.declared.failure.Failure.TheVariants.{Input, Limit, NoMemory}
 use Rattle.input_lines.specs.declared.limits.TheConstants.{INPUT_LIMIT, LINE_LIMIT}
 
 -- What a call meets outside: what the folder tells, how often the files had failed before the call
@@ -105,18 +105,19 @@ report_form names_files may_be_due = record {
 
 -- ---- forms that begin a dialogue
 
--- these lines were replied to so, by a console that opens with a dictionary, and the files failed
--- as often at least as was told
-pub record AreReplied (met : Met) (lexicon : Lexicon) (lines : List (List ℕ)) (said : List ℕ) : Type
+-- these lines were replied to so, by a console that opens with a dictionary and its personal words,
+-- and the files failed as often at least as was told
+pub record AreReplied (met : Met) (dictionary : OwnSeen) (lines : List (List ℕ)) (said : List ℕ) : Type
     0 where
   pub replies : List Reply
   pub said_is : said ≡ written_of replies
-  pub transcript : IsTranscript 0 met.folder lexicon lines replies
+  pub transcript : IsTranscript 0 met.folder dictionary.base dictionary.own lines replies
   pub failures : met.files_before + failures_in replies ≤ met.files_after
 
 -- the reading of the input of a dialogue has ended so
-abbrev pub HasReplied : Met → Lexicon → ReadingEnd → List ℕ → Type 0
-HasReplied met lexicon ended text = HasEnded is_quit (AreReplied met lexicon) met.reading ended text
+abbrev pub HasReplied : Met → OwnSeen → ReadingEnd → List ℕ → Type 0
+HasReplied met dictionary ended text =
+    HasEnded is_quit (AreReplied met dictionary) met.reading ended text
 
 -- how a dialogue ends where its reading ends so; where the sink fails, nothing is told
 abbrev pub end_of : ReadingEnd → Option End
@@ -129,19 +130,19 @@ end_of reading.SinkFailed = None
 
 -- a console that has opened with a dictionary has replied so, and then the reading of the input
 -- ended
-pub record IsDialogue (met : Met) (lexicon : Lexicon) (text : List ℕ) (end : End) : Type 0 where
+pub record IsDialogue (met : Met) (dictionary : OwnSeen) (text : List ℕ) (end : End) : Type 0 where
   pub ended : ReadingEnd
   pub end_is : end_of ended ≡ Some end
-  pub is : HasReplied met lexicon ended text
+  pub is : HasReplied met dictionary ended text
 
 -- how the words of `edit` may be answered: the console that opens has replied; or before that it is
 -- due that the dictionary is refused, the files failed, or memory was wanting
 pub data IsEdited (met : Met) (names : DictionaryNamed) (text : List ℕ) (end : End) : Type 0 where
-  Opened : (there : DictionaryFiles) (lexicon : Lexicon)
-      → IsThere met.folder names.aff names.dic there → dictionary_due there ≡ Ok lexicon
-      → IsDialogue met lexicon text end → IsEdited met names text end
-  NotOpened : (there : DictionaryFiles) (failure : Failure)
-      → IsThere met.folder names.aff names.dic there → dictionary_due there ≡ Err failure
+  Opened : (there : OwnFiles) (dictionary : OwnSeen)
+      → IsOwnThere met.folder names there → dictionary_due there ≡ Ok dictionary
+      → IsDialogue met dictionary text end → IsEdited met names text end
+  NotOpened : (there : OwnFiles) (failure : Failure)
+      → IsOwnThere met.folder names there → dictionary_due there ≡ Err failure
       → end ≡ Failed failure → text ≡ [] → IsUntouched met.reading → IsEdited met names text end
   FilesFailedFirst : end ≡ Failed (Load FailedLoad) → IsUntouched met.reading
       → IsEdited met names text end
@@ -152,18 +153,19 @@ abbrev pub FailedFirst : Met → Type 0
 FailedFirst met = (met.files_before < met.files_after) × IsUntouched met.reading
 
 -- all lines were replied to, or memory was wanting
-pub data IsWholeDialogue (met : Met) (lexicon : Lexicon) (text : List ℕ) (end : End) : Type 0 where
-  AllReplied : end ≡ Quiet → HasReplied met lexicon reading.Finished text
-      → IsWholeDialogue met lexicon text end
-  SomeReplied : end ≡ Failed NoMemory → HasReplied met lexicon reading.NoMemory text
-      → IsWholeDialogue met lexicon text end
-  NoneReplied : end ≡ Failed NoMemory → text ≡ [] → IsWholeDialogue met lexicon text end
+pub data IsWholeDialogue (met : Met) (dictionary : OwnSeen) (text : List ℕ) (end : End) : Type
+    0 where
+  AllReplied : end ≡ Quiet → HasReplied met dictionary reading.Finished text
+      → IsWholeDialogue met dictionary text end
+  SomeReplied : end ≡ Failed NoMemory → HasReplied met dictionary reading.NoMemory text
+      → IsWholeDialogue met dictionary text end
+  NoneReplied : end ≡ Failed NoMemory → text ≡ [] → IsWholeDialogue met dictionary text end
 
--- the folder has the dictionary, and the input passes no limit
-pub record IsFit (met : Met) (names : DictionaryNamed) (lexicon : Lexicon) : Type 0 where
+-- the folder has the dictionary and the list that is named, and the input passes no limit
+pub record IsFit (met : Met) (names : DictionaryNamed) (dictionary : OwnSeen) : Type 0 where
   pub folder : Folder
   pub folder_is : met.folder ≡ Some folder
-  pub dictionary : dictionary_due (found_in folder names.aff names.dic) ≡ Ok lexicon
+  pub is_due : dictionary_due (own_found_in folder names) ≡ Ok dictionary
   pub input : List ℕ
   pub input_is : met.reading.before ≡ Some input
   pub bounded : IsBounded is_quit input
@@ -179,19 +181,20 @@ form_of None = record {
   answers = λ met text end. end ≡ Failed Words;
   whole = λ met text end. Unit {0};
 }
--- `check AFF DIC FILE`
+-- `check AFF DIC FILE` and options
 form_of (Some (Check names)) =
     report_form true
     (λ met due. (found : Found) × IsFound met.folder names found × (due ≡ check_due found))
 -- `make START SIZE`
 form_of (Some (Make asked)) = report_form false (λ met due. due ≡ make_due asked)
--- `edit AFF DIC`
+-- `edit AFF DIC` and options
 form_of (Some (Edit names)) = record {
   names_files = true;
   reads_input = true;
   answers = λ met text end. IsEdited met names text end;
-  whole = λ met text end. (lexicon : Lexicon) → IsFit met names lexicon → ¬ (FailedFirst met)
-      → met.reading.faults_after ≡ met.reading.faults_before → IsWholeDialogue met lexicon text end;
+  whole = λ met text end. (dictionary : OwnSeen) → IsFit met names dictionary
+      → ¬ (FailedFirst met) → met.reading.faults_after ≡ met.reading.faults_before
+      → IsWholeDialogue met dictionary text end;
 }
 
 -- what words ask for that do without an input
@@ -202,6 +205,7 @@ without_input asked = if (form_of asked).reads_input then None else asked
 abbrev pub is_alone : End → Bool
 is_alone (Failed Words) = true
 is_alone (Failed (Load fault)) = true
+is_alone (Failed (Own line why)) = true
 is_alone (Failed (Document fault)) = true
 is_alone _ = false
 

@@ -1,10 +1,15 @@
--- What the operands of a form of words say.
-use Rattle.std.specs.Prelude.{ℕ, List}
+-- What the operands of a form of words say, with the options behind them.
+use Rattle.std.specs.Prelude.{ℕ, List, Option}
+
+-- the files of a dictionary, by their names, and that of a personal list, if one is named
+pub record DictionaryNamed : Type 0 where
+  pub aff : List ℕ
+  pub dic : List ℕ
+  pub own : Option (List ℕ)
 
 -- the files that the words of `check` name
 pub record CheckedFiles : Type 0 where
-  pub aff : List ℕ
-  pub dic : List ℕ
+  pub dictionary : DictionaryNamed
   pub document : List ℕ
 
 -- what the words of `make` ask for: a dictionary and a text of this size, whose words are drawn
@@ -12,8 +17,3 @@ pub record CheckedFiles : Type 0 where
 pub record StartAndSize : Type 0 where
   pub start : ℕ
   pub size : ℕ
-
--- the files of a dictionary, by their names
-pub record DictionaryNamed : Type 0 where
-  pub aff : List ℕ
-  pub dic : List ℕ

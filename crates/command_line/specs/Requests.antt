@@ -1,24 +1,35 @@
 -- What the words of a command line ask for: one form of words for each command, a name, its
 -- operands, and options behind them.
-use Rattle.std.specs.Prelude.{ℕ, nat_le, ◌&&◌, Bool, true, false, List, [], ◌∷◌, codes, Option}
+use Rattle.std.specs.Prelude.{ℕ, nat_le, ◌&&◌, List, [], ◌∷◌, codes, Option}
 use Rattle.std.specs.Prelude.{Some, None, if◌then◌else◌}
 use Rattle.std.specs.Option.{option_map}
 use Rattle.std.specs.Str.{bytes_eq}
 use Rattle.text_lines.specs.Fields.{decimal_of}
-use Rattle.command_line.specs.Operands.{StartAndSize}
+use Rattle.command_line.specs.Operands.{DictionaryNamed, StartAndSize}
 use Rattle.command_line.specs.declared.requests.Request.{Request}
 use Rattle.command_line.specs.declared.requests.Request.TheVariants.{Check, Make, Edit}
 
--- whether these words are options: none is built, so that they are so only where there are none
-abbrev pub are_options : List (List ℕ) → Bool
-are_options [] = true
-are_options (word ∷ words) = false
+-- what options say: which personal list is named, if one is
+pub record Options : Type 0 where
+  pub own : Option (List ℕ)
 
--- `check AFF DIC FILE`
+-- the options that these words are: `--own OWN`, or none
+abbrev pub options_in : List (List ℕ) → Option Options
+options_in [] = Some (record { own = None })
+options_in (name ∷ own ∷ []) =
+    if bytes_eq name (codes "--own") then Some (record { own = Some own }) else None
+options_in _ = None
+
+-- the files of a dictionary, with the personal list that options name
+abbrev pub named : List ℕ → List ℕ → Options → DictionaryNamed
+named aff dic options = record { aff = aff; dic = dic; own = options.own }
+
+-- `check AFF DIC FILE` and options
 abbrev pub check_in : List (List ℕ) → Option Request
 check_in (aff ∷ dic ∷ document ∷ options) =
-    if are_options options then Some (Check (record { aff = aff; dic = dic; document = document }))
-    else None
+    option_map
+    (λ said. Check (record { dictionary = named aff dic said; document = document }))
+    (options_in options)
 check_in _ = None
 
 -- the greatest size that is made
@@ -33,15 +44,14 @@ of_numbers _ _ = None
 
 -- `make START SIZE`
 abbrev pub make_in : List (List ℕ) → Option Request
-make_in (start ∷ size ∷ options) =
-    if are_options options then option_map Make (of_numbers (decimal_of start) (decimal_of size))
-    else None
+make_in (start ∷ size ∷ []) =
+    option_map Make (of_numbers (decimal_of start) (decimal_of size))
 make_in _ = None
 
--- `edit AFF DIC`
+-- `edit AFF DIC` and options
 abbrev pub edit_in : List (List ℕ) → Option Request
 edit_in (aff ∷ dic ∷ options) =
-    if are_options options then Some (Edit (record { aff = aff; dic = dic })) else None
+    option_map (λ said. Edit (named aff dic said)) (options_in options)
 edit_in _ = None
 
 -- what these words ask for, if they are of one of the forms

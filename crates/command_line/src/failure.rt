@@ -4,12 +4,13 @@ ghost use Rattle.std.specs.Prelude.{◌≡◌, ◌++◌, OnOk};
 ghost use Rattle.std.specs.String.{string_bytes};
 ghost use Rattle.command_line.specs.declared.failure.Failure.TheVariants.{NoMemory as OutOfMemory};
 ghost use Rattle.command_line.specs.Failures.{document_failure, document_line, document_status};
-ghost use Rattle.command_line.specs.Failures.{failure_of, fault_line, last_line, limit_line};
-ghost use Rattle.command_line.specs.Failures.{load_line, load_status, status_of};
+ghost use Rattle.command_line.specs.Failures.{failure_of, failure_of_own, fault_line, last_line};
+ghost use Rattle.command_line.specs.Failures.{limit_line, load_line, load_status, status_of};
 
 use dictionary_swap::LoadFault;
 use document_report::DocumentFault;
 use lists::NoMemory;
+use personal_words::{OwnFault, OwnWhy};
 use std::alloc::{AllocError, AllocFailed};
 
 /// Why a call failed. Lines count from 1.
@@ -19,6 +20,8 @@ pub enum Failure {
     Words,
     /// A file is not loaded, or a file of a dictionary has a fault.
     Load(LoadFault),
+    /// The personal list has a fault at this line.
+    Own { line: u64, why: OwnWhy },
     /// There is no report on the document.
     Document(DocumentFault),
     /// The input failed.
@@ -37,6 +40,7 @@ impl Failure {
         match self {
             Failure::Words => 2,
             Failure::Load(fault) => load_status(fault),
+            Failure::Own { .. } => 3,
             Failure::Document(fault) => document_status(fault),
             Failure::Input => 5,
             Failure::Limit { .. } => 8,
@@ -52,6 +56,7 @@ impl Failure {
         match self {
             Failure::Words => text.push_str("affedit: words\n"),
             Failure::Load(fault) => push_load_line(text, fault),
+            Failure::Own { line, why } => push_fault(text, "own", line, why.name()),
             Failure::Document(fault) => push_document_line(text, fault),
             Failure::Input => text.push_str("input\n"),
             Failure::Limit { limit } => push_limit(text, limit),
@@ -127,6 +132,17 @@ impl From<LoadFault> for Failure {
         match fault {
             LoadFault::NoMemory => Failure::NoMemory,
             other => Failure::Load(other),
+        }
+    }
+}
+
+impl From<OwnFault> for Failure {
+    ghost from_gives = { λ fault failure. failure ≡ failure_of_own fault };
+
+    fn from(fault: OwnFault) -> Failure {
+        match fault {
+            OwnFault::At { line, why } => Failure::Own { line, why },
+            OwnFault::NoMemory => Failure::NoMemory,
         }
     }
 }

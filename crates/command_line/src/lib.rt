@@ -7,6 +7,7 @@ mod failure;
 mod forms;
 mod limits;
 mod loading;
+mod names;
 mod no_input;
 mod requests;
 mod top_call;

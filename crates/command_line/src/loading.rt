@@ -1,18 +1,26 @@
 //! Loads the files that words name. Why a file is not loaded is a failure.
 
 ghost use Rattle.std.specs.Prelude.{◌≡◌, ◌<◌, ◌≤◌, ℕ, List, Option, IfOk, IsErrOf};
+ghost use Rattle.std.specs.Option.{option_copied};
 ghost use Rattle.lists.specs.Answers.{GivesDue};
 ghost use Rattle.console_board.specs.Transcripts.{IsThere};
 ghost use Rattle.dictionary_swap.specs.Loads.{DictionaryFiles};
 ghost use Rattle.dictionary_swap.specs.declared.fault.LoadFault.TheVariants.{Failed};
-ghost use Rattle.command_line.specs.Due.{IsFileThere, MayCome, bytes_due, dictionary_due};
+ghost use Rattle.own_dictionary.specs.Dictionaries.{IsBase, in_force};
+ghost use Rattle.command_line.specs.Due.{IsFileThere, IsListThere, IsOwnThere, MayCome, OwnFiles};
+ghost use Rattle.command_line.specs.Due.{base_due, bytes_due, dictionary_due, in_force_due};
+ghost use Rattle.command_line.specs.Due.{items_due, list_due, own_due};
 ghost use Rattle.command_line.specs.declared.failure.Failure.TheVariants.{Load};
 
 use crate::failure::Failure;
 use crate::limits::DOCUMENT_LIMIT;
-use dictionary_swap::{LoadFault, load};
+use crate::names::DictionaryNames;
+use dictionary_swap::{LoadFault, SIZE_LIMIT, load_lexicon};
 use lists::NoMemory;
 use outside::{Files, load_file};
+use own_dictionary::OwnDictionary;
+use personal_words::{OwnList, read_own};
+use spell_types::{Affixes, Lexicon};
 use std::alloc::Global;
 use std::sync::Arc;
 use verdict_cache::Cached;
@@ -21,63 +29,144 @@ use word_verdict::Speller;
 /// How many verdicts are remembered.
 const VERDICTS: usize = 4_096;
 
-/// The dictionary of these two files.
-pub fn load_speller<F: Files>(
+/// The dictionary that these names name: its two files, and the personal list behind them, if one is
+/// named.
+pub fn load_dictionary<F: Files>(
     alloc: Global,
     files: &mut F,
-    aff: &str,
-    dic: &str,
-) -> Result<Speller, Failure>
+    names: &DictionaryNames<'_>,
+) -> Result<OwnDictionary, Failure>
     // It is what is due of some files, which are those that are told, where some are.
-    ensures due { (there : DictionaryFiles) × IsThere (F.told files.old) aff.now dic.now there
-        × GivesDue MayCome (λ speller. speller) (dictionary_due there) result }
+    ensures due { (there : OwnFiles) × IsOwnThere (F.told files.old) names.now there
+        × GivesDue MayCome (λ dictionary. dictionary) (dictionary_due there) result }
     ensures failed { IsErrOf result (Load Failed) → F.faults files.old < F.faults files.new }
     ensures same { F.told files.new ≡ F.told files.old }
     ensures count { F.faults files.old ≤ F.faults files.new }
 {
-    match load(alloc, files, aff, dic) {
-        Ok(speller) => Ok(speller),
-        Err(fault) => Err(Failure::from(fault)),
-    }
+    let base = load_base(alloc, files, names.aff, names.dic)?;
+    let own = load_own(alloc, files, &base.affixes, names.own)?;
+    Ok(OwnDictionary::new(alloc, base, own)?)
 }
 
-/// The dictionary of these two files, to be asked. It is shared at once, since a function that
-/// holds a whole dictionary beside other values takes minutes to prove.
+/// The same, to be asked.
 pub fn load_judge<F: Files>(
     alloc: Global,
     files: &mut F,
-    aff: &str,
-    dic: &str,
+    names: &DictionaryNames<'_>,
 ) -> Result<Cached<Speller>, Failure>
-    ensures due { (there : DictionaryFiles) × IsThere (F.told files.old) aff.now dic.now there
-        × GivesDue MayCome (λ judge. judge) (dictionary_due there) result }
+    ensures due { (there : OwnFiles) × IsOwnThere (F.told files.old) names.now there
+        × GivesDue MayCome (λ judge. judge) (in_force_due there) result }
     ensures failed { IsErrOf result (Load Failed) → F.faults files.old < F.faults files.new }
     ensures same { F.told files.new ≡ F.told files.old }
     ensures count { F.faults files.old ≤ F.faults files.new }
 {
-    let speller = load_speller(alloc, files, aff, dic)?;
-    Ok(judge_of(alloc, speller)?)
+    let dictionary = load_dictionary(alloc, files, names)?;
+    Ok(judge_of(alloc, &dictionary)?)
 }
 
 /// A dictionary, to be asked. Its last verdicts are remembered: most words of a running text came
 /// before, and to find a word again costs a fraction of judging it.
-fn judge_of(alloc: Global, speller: Speller) -> Result<Cached<Speller>, NoMemory>
-    ensures { IfOk result (λ judge. judge ≡ speller) }
+fn judge_of(alloc: Global, dictionary: &OwnDictionary) -> Result<Cached<Speller>, NoMemory>
+    ensures { IfOk result (λ judge. judge ≡ in_force dictionary.now) }
 {
-    let shared = Arc::new(alloc, speller)?;
+    let shared = Arc::try_clone(dictionary.speller())?;
     Ok(Cached::new(alloc, shared, VERDICTS)?)
+}
+
+/// The dictionary of these two files alone.
+fn load_base<F: Files>(
+    alloc: Global,
+    files: &mut F,
+    aff: &str,
+    dic: &str,
+) -> Result<Lexicon, Failure>
+    ensures due { (there : DictionaryFiles) × IsThere (F.told files.old) aff.now dic.now there
+        × GivesDue MayCome (λ base. base) (base_due there) result }
+    ensures base { IfOk result IsBase }
+    ensures failed { IsErrOf result (Load Failed) → F.faults files.old < F.faults files.new }
+    ensures same { F.told files.new ≡ F.told files.old }
+    ensures count { F.faults files.old ≤ F.faults files.new }
+{
+    match load_lexicon(alloc, files, aff, dic) {
+        Ok(base) => Ok(base),
+        Err(fault) => Err(Failure::from(fault)),
+    }
+}
+
+/// The personal list of this name, if there is a name. Otherwise the list is empty.
+fn load_own<F: Files>(
+    alloc: Global,
+    files: &mut F,
+    affixes: &Affixes,
+    name: Option<&str>,
+) -> Result<OwnList, Failure>
+    ensures due { (there : Option (Option (List ℕ)))
+        × IsListThere (F.told files.old) (option_copied name.entry) there
+        × GivesDue MayCome (λ own. own) (own_due affixes.now there) result }
+    ensures failed { IsErrOf result (Load Failed) → F.faults files.old < F.faults files.new }
+    ensures same { F.told files.new ≡ F.told files.old }
+    ensures count { F.faults files.old ≤ F.faults files.new }
+{
+    match name {
+        None => Ok(OwnList::new(alloc)),
+        Some(name) => load_list(alloc, files, affixes, name),
+    }
+}
+
+/// The personal list of this name.
+fn load_list<F: Files>(
+    alloc: Global,
+    files: &mut F,
+    affixes: &Affixes,
+    name: &str,
+) -> Result<OwnList, Failure>
+    ensures due { (file : Option (List ℕ)) × IsFileThere (F.told files.old) name.now file
+        × GivesDue MayCome (λ own. own) (list_due affixes.now file) result }
+    ensures failed { IsErrOf result (Load Failed) → F.faults files.old < F.faults files.new }
+    ensures same { F.told files.new ≡ F.told files.old }
+    ensures count { F.faults files.old ≤ F.faults files.new }
+{
+    let bytes = load_bytes(alloc, files, name, SIZE_LIMIT)?;
+    read_list(alloc, affixes, &bytes)
+}
+
+/// What the bytes of a personal list say.
+fn read_list(alloc: Global, affixes: &Affixes, bytes: &[u8]) -> Result<OwnList, Failure>
+    ensures due { GivesDue MayCome (λ own. own) (items_due affixes.now bytes.now) result }
+    ensures failed { ¬ (IsErrOf result (Load Failed)) }
+{
+    match read_own(alloc, affixes, bytes) {
+        Ok(own) => Ok(own),
+        Err(fault) => Err(Failure::from(fault)),
+    }
 }
 
 /// The bytes of a document.
 pub fn load_document<F: Files>(alloc: Global, files: &mut F, name: &str) -> Result<Vec<u8>, Failure>
     ensures due { (file : Option (List ℕ)) × IsFileThere (F.told files.old) name.now file
-        × GivesDue MayCome (λ bytes. bytes.items) (bytes_due file) result }
+        × GivesDue MayCome (λ bytes. bytes.items) (bytes_due DOCUMENT_LIMIT file) result }
     ensures failed { IsErrOf result (Load Failed) → F.faults files.old < F.faults files.new }
     ensures same { F.told files.new ≡ F.told files.old }
     ensures count { F.faults files.old ≤ F.faults files.new }
 {
-    match load_file(alloc, files, name, DOCUMENT_LIMIT) {
+    load_bytes(alloc, files, name, DOCUMENT_LIMIT)
+}
+
+/// The bytes of a file, which may have so many.
+fn load_bytes<F: Files>(
+    alloc: Global,
+    files: &mut F,
+    name: &str,
+    limit: u64,
+) -> Result<Vec<u8>, Failure>
+    ensures due { (file : Option (List ℕ)) × IsFileThere (F.told files.old) name.now file
+        × GivesDue MayCome (λ bytes. bytes.items) (bytes_due limit file) result }
+    ensures failed { IsErrOf result (Load Failed) → F.faults files.old < F.faults files.new }
+    ensures same { F.told files.new ≡ F.told files.old }
+    ensures count { F.faults files.old ≤ F.faults files.new }
+{
+    match load_file(alloc, files, name, limit) {
         Ok(bytes) => Ok(bytes),
-        Err(fault) => Err(Failure::from(LoadFault::of_file(fault, DOCUMENT_LIMIT))),
+        Err(fault) => Err(Failure::from(LoadFault::of_file(fault, limit))),
     }
 }

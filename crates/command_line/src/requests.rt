@@ -3,11 +3,12 @@
 ghost use Rattle.std.specs.Prelude.{◌≡◌, map};
 ghost use Rattle.std.specs.String.{string_bytes};
 ghost use Rattle.command_line.specs.Forms.{without_input};
-ghost use Rattle.command_line.specs.Requests.{are_options, asked_in};
+ghost use Rattle.command_line.specs.Requests.{asked_in};
 
 use crate::forms::check::{CheckNames, check_of};
-use crate::forms::edit::{DictionaryNames, edit_of};
+use crate::forms::edit::edit_of;
 use crate::forms::make::{Making, make_of};
+use crate::names::DictionaryNames;
 
 /// What words may ask for, one variant for each form of words.
 #[derive(Drop)]
@@ -38,11 +39,4 @@ pub fn without_input(request: Option<Request<'_>>) -> Option<Request<'_>>
         Some(Request::Edit(_)) => None,
         other => other,
     }
-}
-
-/// Whether these words are options. None is built, so that they are so only where there are none.
-pub fn are_options(words: &[String]) -> bool
-    ensures { result ≡ are_options (map string_bytes words.now) }
-{
-    words.is_empty()
 }

@@ -19,10 +19,10 @@ use Rattle.std.proofs.lemmas.Option.{slice_get-get_or, slice_get-map, slice_get_
 use Rattle.std.proofs.lemmas.Option.{slice_get_within}
 use Rattle.std.proofs.lemmas.Str.{IsCharBoundary-start}
 use Rattle.lists.specs.Laws.{map-insert, map-remove}
-use Rattle.outside.specs.Files.{Folder}
 use Rattle.console_lang.specs.declared.command.Command.{Command}
 use Rattle.console_lang.specs.declared.command.Command.TheVariants.{Ins, Put, Sub, Del, Stop, Ask}
-use Rattle.console_lang.specs.declared.command.Command.TheVariants.{Load, Show, Settle, Quit}
+use Rattle.console_lang.specs.declared.command.Command.TheVariants.{Load, Own, Show, Settle}
+use Rattle.console_lang.specs.declared.command.Command.TheVariants.{Quit}
 use Rattle.console_lang.specs.declared.reply.Reply.{Reply}
 use Rattle.console_lang.specs.declared.reply.Reply.TheVariants.{Done, NoPlace, NoBadSpan, NoTooLong}
 use Rattle.console_lang.specs.declared.reply.Reply.TheVariants.{NoFull, NoFinished, NoParked}
@@ -162,7 +162,7 @@ edited console texts stands = record {
       { text_version = console.text_version + 1; texts = texts; states = stands };
 }
 
-module _ (told : Option Folder) (by : ℕ) (board after : Seen) (reply : Reply) where
+module _ (by : ℕ) (board after : Seen) (reply : Reply) where
   abbrev console : Console
   console = console_of board
 
@@ -457,7 +457,7 @@ module _ (told : Option Folder) (by : ℕ) (board after : Seen) (reply : Reply) 
     -- the command does what its event makes of the board
     pub event-does : (command : Command) (event : SeenEvent) → PutsWhole board command
         → event_for by board command ≡ Some event → Told event (first_refusal board event)
-        → IsReplyTo told console command reply (console_of after)
+        → IsReplyTo console command reply (console_of after)
     unfolding IsReplyTo
     event-does (Ins place text) event whole is answered =
         mapped _ (gap_at board place) event is (λ before at same.
@@ -492,12 +492,13 @@ module _ (told : Option Folder) (by : ℕ) (board after : Seen) (reply : Reply) 
   -- it is told that there is no such place, and nothing changes
   pub no-event-does : (command : Command) → names_place command ≡ true
       → event_for by board command ≡ None → reply ≡ NoPlace (length board.paragraphs)
-      → after ≡ board → IsReplyTo told console command reply (console_of after)
+      → after ≡ board → IsReplyTo console command reply (console_of after)
   unfolding IsReplyTo
   no-event-does (Ins place text) named none is stays =
       let past = unmapped _ (index_of place (length board.paragraphs + 1)) (unmapped _ _ none) in
       rw (length-map board.paragraphs (λ p. p.text), past) (is, ap console_of stays)
   no-event-does (Load aff dic) named none is stays = absurd (false≢true named)
+  no-event-does (Own text) named none is stays = absurd (false≢true named)
   no-event-does Show named none is stays = absurd (false≢true named)
   no-event-does Settle named none is stays = absurd (false≢true named)
   no-event-does Quit named none is stays = absurd (false≢true named)
@@ -516,6 +517,7 @@ event-asked by board (Ins place text) event whole is = asked-of _ _ event is (λ
 event-asked by board (Put place text) event whole is = asked-of _ _ event is (λ p. whole)
 event-asked by board (Sub place from to text) event whole is = asked-of _ _ event is (λ p. whole)
 event-asked by board (Load aff dic) event whole is = absurd (none-some event is)
+event-asked by board (Own text) event whole is = absurd (none-some event is)
 event-asked by board Show event whole is = absurd (none-some event is)
 event-asked by board Settle event whole is = absurd (none-some event is)
 event-asked by board Quit event whole is = absurd (none-some event is)

@@ -16,8 +16,9 @@ use Rattle.edit_core.specs.Steps.{Step, reloaded}
 use Rattle.edit_core.specs.declared.state.Standing.{Standing}
 use Rattle.edit_core.specs.declared.state.Standing.TheVariants as standing
 use Rattle.console_board.specs.Boards.{console_of, state_of}
-use Rattle.console_board.specs.Consoles.{Console, fault_reply, load_outcome, loaded, state_reloaded}
-use Rattle.console_board.specs.Transcripts.{HasOutcome, IsThere, Loads}
+use Rattle.console_board.specs.Consoles.{loaded, state_reloaded}
+use Rattle.console_board.specs.OwnConsoles.{OwnConsole, fault_reply, load_outcome, put_in_force}
+use Rattle.console_board.specs.Transcripts.{HasOutcome, HasOwnOutcome, IsThere, Loads}
 
 -- ---- a dictionary in force
 
@@ -54,17 +55,17 @@ found-files : (told : Option Folder) {aff dic : List ℕ} {result : Result Lexic
 found-files None due = (due.found.0, tt, due.found.1)
 found-files (Some folder) {aff} {dic} due = (found_in folder aff dic, refl, due.told_is)
 
--- a dictionary that is read comes into force
-pub loads-read : {told : Option Folder} {before after : Console} {aff dic : List ℕ} {reply : Reply}
-    {lexicon : Lexicon}
-    → IsDue told aff dic (Ok lexicon) → HasOutcome (loaded before lexicon) reply after
+-- a dictionary that is read comes into force, with the same personal words
+pub loads-read : {told : Option Folder} {before after : OwnConsole} {aff dic : List ℕ}
+    {reply : Reply} {base : Lexicon}
+    → IsDue told aff dic (Ok base) → HasOwnOutcome (put_in_force before base before.own) reply after
     → Loads told before aff dic reply after
 loads-read {told} {before} {after} {reply = reply} due is =
     let files = found-files told due in
     inl (
       files.0,
       files.1,
-      subst (λ read. HasOutcome (load_outcome before read) reply after)
+      subst (λ read. HasOwnOutcome (load_outcome before read) reply after)
           (sym files.2) is,
     )
 
@@ -77,7 +78,7 @@ failed-or-due NoMemory other (inl comes) = absurd (other refl)
 failed-or-due _ other (inl comes) = absurd comes
 
 -- what is wrong with the files is told, and nothing changes
-pub faults-load : {told : Option Folder} {before after : Console} {aff dic : List ℕ}
+pub faults-load : {told : Option Folder} {before after : OwnConsole} {aff dic : List ℕ}
     {fault : LoadFault} {reply : Reply}
     → IsDue told aff dic (Err fault) → ¬ (fault ≡ NoMemory) → reply ≡ fault_reply fault
     → after ≡ before
@@ -88,7 +89,7 @@ faults-load {told} {before} {after} {fault = fault} {reply} due other is stays =
     (λ read. inl (
       files.0,
       files.1,
-      subst (λ read. HasOutcome (load_outcome before read) reply after)
+      subst (λ read. HasOwnOutcome (load_outcome before read) reply after)
           (sym read) (is, stays),
     ))
     (failed-or-due fault other files.2)

@@ -4,3 +4,4 @@ pub mod ConsoleSettling
 pub mod ConsoleViews
 pub mod TranscriptLaws
 pub mod LineLemmas
+pub mod OwnLemmas

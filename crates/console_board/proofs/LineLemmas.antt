@@ -23,7 +23,7 @@ use Rattle.edit_core.specs.Runs.{furthest_point}
 use Rattle.edit_core.specs.Seen.{Seen}
 use Rattle.input_lines.specs.declared.limits.TheConstants.{LINE_LIMIT}
 use Rattle.console_board.specs.Boards.{lines_left}
-use Rattle.console_board.specs.Consoles.{Console}
+use Rattle.console_board.specs.OwnConsoles.{OwnConsole}
 use Rattle.console_board.specs.Starts.{asked-nothing}
 use Rattle.console_board.specs.Transcripts.{Answers, HasWholeText, IsReplied, IsRepliedTo, asked_by}
 use Rattle.console_board.specs.Transcripts.{asked_for, failures_in, is_no_files, is_quit, line_says}
@@ -125,7 +125,7 @@ unfolding asked_by
 asked-line line says = ap (λ said. cons_option (asked_for said) []) says
 
 -- what is replied to some commands, and then to others
-answers-append : (told : Option Folder) (before middle after : Console)
+answers-append : (told : Option Folder) (before middle after : OwnConsole)
     (commands others : List (Option Command))
     (replies more : List Reply)
     → Answers 0 told before commands replies middle → Answers 0 told middle others more after
@@ -149,7 +149,7 @@ answers-append told before middle after (command ∷ commands) others (reply ∷
 -- ---- what is replied to lines
 
 -- a line that asks for no command was replied to, if at all, and nothing was done
-pub idle-replied : {told : Option Folder} {failed : ℕ} {console : Console} {line : List ℕ}
+pub idle-replied : {told : Option Folder} {failed : ℕ} {console : OwnConsole} {line : List ℕ}
     {said : Result (Option Command) CommandFault} (replies : List Reply) → line_says line ≡ said
     → Answers 0 told console (cons_option (asked_for said) []) replies console
     → failures_in replies ≡ 0
@@ -162,7 +162,7 @@ idle-replied {line = line} replies says answers none = record {
   same = refl;
 }
 
-module _ {told told_now : Option Folder} {failed failed_now : ℕ} {before after : Console} where
+module _ {told told_now : Option Folder} {failed failed_now : ℕ} {before after : OwnConsole} where
   -- a line that asks for something was replied to
   pub line-replied : {line : List ℕ} {asked : Option Command} {text text_now : List ℕ}
       → asked_by (line ∷ []) ≡ asked ∷ [] → told_now ≡ told
@@ -189,7 +189,7 @@ module _ {told told_now : Option Folder} {failed failed_now : ℕ} {before after
   }
 
   -- more lines were replied to behind some
-  pub replied-more : {first : Option Folder} {count : ℕ} {opening : Console}
+  pub replied-more : {first : Option Folder} {count : ℕ} {opening : OwnConsole}
       {lines more : List (List ℕ)}
       {said added : List ℕ} → IsRepliedTo told told_now failed failed_now before after more added
       → IsRepliedTo first told count failed opening before lines said

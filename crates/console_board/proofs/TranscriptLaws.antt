@@ -6,11 +6,14 @@ use Rattle.dictionary_swap.specs.Loads.{found_in, lexicon_due}
 use Rattle.outside.specs.Files.{Folder}
 use Rattle.spell_types.specs.declared.Lexicon.{Lexicon}
 use Rattle.console_lang.specs.declared.command.Command.{Command}
-use Rattle.console_lang.specs.declared.command.Command.TheVariants.{Load, Quit}
+use Rattle.console_lang.specs.declared.command.Command.TheVariants.{Load, Own, Quit}
 use Rattle.console_lang.specs.declared.reply.Reply.{Reply}
-use Rattle.console_board.specs.Consoles.{Console, load_outcome, opened}
-use Rattle.console_board.specs.Transcripts.{HasOutcome, Loads, IsReplyTo, IsReplyToAsked, Answers}
-use Rattle.console_board.specs.Transcripts.{IsTranscript, asked_by, is_no_files, failures_in}
+use Rattle.personal_words.specs.declared.items.OwnItem.{OwnItem}
+use Rattle.console_board.specs.Consoles.{Console}
+use Rattle.console_board.specs.OwnConsoles.{OwnConsole, load_outcome, own_opened}
+use Rattle.console_board.specs.Transcripts.{HasOwnOutcome, Loads, IsReplyTo, IsOwnReplyTo, Answers}
+use Rattle.console_board.specs.Transcripts.{IsReplyToAsked, IsTranscript, asked_by, is_no_files}
+use Rattle.console_board.specs.Transcripts.{failures_in}
 
 -- where no files failed, none did at the first reply
 no-failure : (reply : Reply) (replies : List Reply) → failures_in (reply ∷ replies) ≡ 0
@@ -24,36 +27,50 @@ no-failure reply replies none =
     by true is sum = absurd (omega arith)
     by false is sum = (is, omega arith)
 
+-- a command that changes no dictionary determines the reply and the console behind it
+beside-once : (before : Console) (command : Command) {reply other : Reply} {after next : Console}
+    → IsReplyTo before command reply after → IsReplyTo before command other next
+    → (reply ≡ other) × (after ≡ next)
+unfolding IsReplyTo
+beside-once before (Load aff dic) is also = absurd is
+beside-once before (Own text) is also = absurd is
+beside-once before Quit is also = absurd is
+beside-once before _ is also = (is.0 ∙ sym also.0, is.1 ∙ sym also.1)
+
 module _ (folder : Folder) where
   -- of a load that is not told to have failed the outcome is that of the folder's files
-  loads-are : {before after : Console} {aff dic : List ℕ} {reply : Reply}
+  loads-are : {before after : OwnConsole} {aff dic : List ℕ} {reply : Reply}
       → Loads (Some folder) before aff dic reply after → is_no_files reply ≡ false
-      → HasOutcome (load_outcome before (lexicon_due (found_in folder aff dic))) reply after
+      → HasOwnOutcome (load_outcome before (lexicon_due (found_in folder aff dic))) reply after
   loads-are {before} {after} {reply = reply} (inl loaded) told =
-      subst (λ there. HasOutcome (load_outcome before (lexicon_due there)) reply after) loaded.1
+      subst (λ there. HasOwnOutcome (load_outcome before (lexicon_due there)) reply after) loaded.1
       loaded.2
   loads-are (inr failed) told =
       let same : true ≡ false = ap is_no_files (sym failed.0) ∙ told in
       absurd (cc)
 
   -- what is asked for determines the reply and the console behind it
-  replies-once : (before : Console) (asked : Option Command) {reply other : Reply}
-      {after next : Console}
+  replies-once : (before : OwnConsole) (asked : Option Command) {reply other : Reply}
+      {after next : OwnConsole}
       → IsReplyToAsked (Some folder) before asked reply after
       → IsReplyToAsked (Some folder) before asked other next
       → is_no_files reply ≡ false → is_no_files other ≡ false → (reply ≡ other) × (after ≡ next)
-  unfolding IsReplyTo
+  unfolding IsOwnReplyTo
   replies-once before None is also told told_too = (is.0 ∙ sym also.0, is.1 ∙ sym also.1)
   replies-once before (Some (Load aff dic)) is also told told_too =
       let one = loads-are is told in
       let two = loads-are also told_too in
       (one.0 ∙ sym two.0, one.1 ∙ sym two.1)
-  replies-once before (Some Quit) is also told told_too = absurd is
-  replies-once before (Some command) is also told told_too = (is.0 ∙ sym also.0, is.1 ∙ sym also.1)
+  replies-once before (Some (Own text)) is also told told_too =
+      (is.0 ∙ sym also.0, is.1 ∙ sym also.1)
+  replies-once before (Some command) is also told told_too =
+      let one = beside-once before.console command is.0 also.0 in
+      (one.0, is.1 ∙ ap (λ console. record before { console = console }) one.1 ∙ sym also.1)
 
   -- from one console on, what is asked for determines the replies
-  answers-once : (before : Console) (commands : List (Option Command)) (replies others : List Reply)
-      (after next : Console) → Answers 0 (Some folder) before commands replies after
+  answers-once : (before : OwnConsole) (commands : List (Option Command))
+      (replies others : List Reply)
+      (after next : OwnConsole) → Answers 0 (Some folder) before commands replies after
       → Answers 0 (Some folder) before commands others next
       → failures_in replies ≡ 0 → failures_in others ≡ 0 → replies ≡ others
   answers-once before [] replies others after next is also none too = is.0 ∙ sym also.0
@@ -70,11 +87,12 @@ module _ (folder : Folder) where
       (λ i. same.0 i ∷ answers-once is.2.0 commands replies others after next is.2.2 rest told.1
       told_too.1 i)
 
-  -- a console that opens with a dictionary replies to lines in one way
-  pub transcript-once : (lexicon : Lexicon) (lines : List (List ℕ)) (replies others : List Reply)
-      → IsTranscript 0 (Some folder) lexicon lines replies
-      → IsTranscript 0 (Some folder) lexicon lines others
+  -- a console that opens with a dictionary and personal words replies to lines in one way
+  pub transcript-once : (base : Lexicon) (own : List OwnItem) (lines : List (List ℕ))
+      (replies others : List Reply)
+      → IsTranscript 0 (Some folder) base own lines replies
+      → IsTranscript 0 (Some folder) base own lines others
       → failures_in replies ≡ 0 → failures_in others ≡ 0 → replies ≡ others
-  transcript-once lexicon lines replies others is also =
-      answers-once (opened lexicon) (asked_by lines) replies others is.last also.last is.answers
+  transcript-once base own lines replies others is also =
+      answers-once (own_opened base own) (asked_by lines) replies others is.last also.last is.answers
       also.answers

@@ -4,7 +4,7 @@ use Rattle.std.specs.Prelude.{Some, is_some, option_and_then}
 use Rattle.std.specs.Option.{ForSome, option_map, option_map_or}
 use Rattle.console_lang.specs.declared.command.Command.{Command}
 use Rattle.console_lang.specs.declared.command.Command.TheVariants.{Ins, Put, Sub, Del, Load, Stop}
-use Rattle.console_lang.specs.declared.command.Command.TheVariants.{Ask, Show, Settle, Quit}
+use Rattle.console_lang.specs.declared.command.Command.TheVariants.{Ask, Own, Show, Settle, Quit}
 use Rattle.console_lang.specs.declared.reply.Reply.{Reply}
 use Rattle.console_lang.specs.declared.reply.Reply.TheVariants.{Done, Shown, NoGone, NoBehind}
 use Rattle.console_lang.specs.declared.reply.Reply.TheVariants.{NoBadSpan, NoTooLong, NoFull}
@@ -71,6 +71,7 @@ event_for by board _ = None
 -- whether a command names a place: then it is an event, or there is no such place
 abbrev pub names_place : Command → Bool
 names_place (Load aff dic) = false
+names_place (Own text) = false
 names_place Show = false
 names_place Settle = false
 names_place Quit = false

@@ -5,6 +5,8 @@ use Rattle.edit_core.specs.Runs.{furthest_point}
 use Rattle.edit_core.specs.Seen.{Seen}
 use Rattle.edit_core.specs.declared.state.Standing.{Standing}
 use Rattle.edit_core.specs.declared.state.Standing.TheVariants as standing
+use Rattle.own_dictionary.specs.Dictionaries.{OwnSeen}
+use Rattle.console_board.specs.OwnConsoles.{OwnConsole}
 use Rattle.console_board.specs.Consoles.{Console, TextState, Waiting, Finished, Parked}
 use Rattle.edit_core.specs.declared.limits.TheConstants.{MOST_MOVED}
 
@@ -23,6 +25,16 @@ console_of board = record {
   texts = map (λ paragraph. paragraph.text) board.paragraphs;
   states = map state_of board.standings;
 }
+
+-- a board as a console, by its base and its personal words
+abbrev pub own_console_of : OwnSeen → Seen → OwnConsole
+own_console_of dictionary board =
+    record { console = console_of board; base = dictionary.base; own = dictionary.own }
+
+-- the dictionary behind a command, with its personal words: the next one, or where there is none
+-- the one before it
+abbrev pub dictionary_after : OwnSeen → Option OwnSeen → OwnSeen
+dictionary_after before next = unwrap_or next before
 
 -- the board behind a command: the next one, or where there is none the one before it
 abbrev pub board_after : Seen → Option Seen → Seen

@@ -1,20 +1,15 @@
 -- A console: texts that are edited, checked and shown one command after another. It knows nothing
 -- of ids, of revs, or of who checks.
 use Rattle.std.specs.Prelude.{ℕ, ◌+◌, ◌-◌, ◌&&◌, List, [], ◌∷◌, length, map, nat_le, nat_lt, set}
-use Rattle.std.specs.Prelude.{slice_get, Option, Some, None, Result, Ok, Err, if◌then◌else◌}
+use Rattle.std.specs.Prelude.{slice_get, Option, Some, None, if◌then◌else◌}
 use Rattle.std.specs.Option.{option_map_or, unwrap_or}
 use Rattle.std.specs.Str.{chars}
 use Rattle.console_lang.specs.declared.reply.Reply.{Reply}
 use Rattle.console_lang.specs.declared.reply.Reply.TheVariants.{Done, Dict, Shown, NoPlace}
 use Rattle.console_lang.specs.declared.reply.Reply.TheVariants.{NoBadSpan, NoTooLong, NoFull}
 use Rattle.console_lang.specs.declared.reply.Reply.TheVariants.{NoFinished, NoParked, NoNotParked}
-use Rattle.console_lang.specs.declared.reply.Reply.TheVariants.{NoMissing, NoAff, NoDic, NoFiles}
-use Rattle.console_lang.specs.declared.reply.Reply.TheVariants.{NoLarge}
 use Rattle.console_lang.specs.declared.reply.ShownPara.{ShownPara}
 use Rattle.console_lang.specs.declared.reply.ShownPara.TheVariants.{Pending, Finished as Marked}
-use Rattle.dictionary_swap.specs.declared.fault.LoadFault.{LoadFault}
-use Rattle.dictionary_swap.specs.declared.fault.LoadFault.TheVariants.{Failed, Missing, TooLong}
-use Rattle.dictionary_swap.specs.declared.fault.LoadFault.TheVariants.{Aff, Dic, NoMemory}
 use Rattle.lists.specs.Changes.{Change, SetAt, InsertAt, RemoveAt, changed}
 use Rattle.edit_core.specs.Views.{marks_numbered}
 use Rattle.paragraph_text.specs.Edits.{is_span, spliced}
@@ -204,18 +199,3 @@ loaded console lexicon = record {
     states = map state_reloaded console.states;
   };
 }
-
--- The reply to a dictionary's fault. Want of memory is never due, and has no reply: it ends the
--- console.
-abbrev pub fault_reply : LoadFault → Reply
-fault_reply Missing = NoMissing
-fault_reply (TooLong limit) = NoLarge
-fault_reply (Aff line why) = NoAff line why
-fault_reply (Dic line why) = NoDic line why
-fault_reply Failed = NoFiles
-fault_reply NoMemory = NoFiles
-
--- what is due of a dictionary comes into force, or is told
-abbrev pub load_outcome : Console → Result Lexicon LoadFault → Outcome
-load_outcome console (Ok lexicon) = loaded console lexicon
-load_outcome console (Err fault) = refused console (fault_reply fault)

@@ -1,4 +1,5 @@
 pub mod Consoles
+pub mod OwnConsoles
 pub mod Boards
 pub mod BoardAnswers
 pub mod Transcripts

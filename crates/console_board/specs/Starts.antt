@@ -4,7 +4,7 @@ use Rattle.std.proofs.Common.{refl, sym, subst, add-zero}
 use Rattle.std.proofs.Math.Nat.{le_refl}
 use Rattle.outside.specs.Files.{Folder}
 use Rattle.console_lang.specs.declared.command.Command.{Command}
-use Rattle.console_board.specs.Consoles.{Console}
+use Rattle.console_board.specs.OwnConsoles.{OwnConsole}
 use Rattle.console_board.specs.Transcripts.{Answers, IsRepliedTo, asked_by}
 
 -- no lines ask for nothing
@@ -13,7 +13,7 @@ unfolding asked_by
 asked-nothing = refl
 
 -- nothing is replied to them
-pub replied-none : (told : Option Folder) (failed : ℕ) (console : Console)
+pub replied-none : (told : Option Folder) (failed : ℕ) (console : OwnConsole)
     → IsRepliedTo told told failed failed console console [] []
 replied-none told failed console = record {
   replies = [];

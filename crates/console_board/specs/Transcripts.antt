@@ -8,18 +8,20 @@ use Rattle.console_lang.specs.Commands.{said_by}
 use Rattle.console_lang.specs.Replies.{reply_text}
 use Rattle.console_lang.specs.declared.command.Command.{Command}
 use Rattle.console_lang.specs.declared.command.Command.TheVariants.{Ins, Put, Sub, Del, Load, Stop}
-use Rattle.console_lang.specs.declared.command.Command.TheVariants.{Ask, Show, Settle, Quit}
+use Rattle.console_lang.specs.declared.command.Command.TheVariants.{Ask, Own, Show, Settle, Quit}
 use Rattle.console_lang.specs.declared.command.CommandFault.{CommandFault}
 use Rattle.console_lang.specs.declared.command.CommandFault.TheVariants.{BadCommand}
 use Rattle.console_lang.specs.declared.reply.Reply.{Reply}
 use Rattle.console_lang.specs.declared.reply.Reply.TheVariants.{NoCommand, NoFiles}
 use Rattle.dictionary_swap.specs.Loads.{DictionaryFiles, lexicon_due, found_in}
 use Rattle.outside.specs.Files.{Folder}
+use Rattle.personal_words.specs.declared.items.OwnItem.{OwnItem}
 use Rattle.paragraph_text.specs.Paragraphs.{HasNoBreak}
 use Rattle.spell_types.specs.declared.Lexicon.{Lexicon}
 use Rattle.console_board.specs.Consoles.{Console, Outcome, TextState, Waiting, Finished, Parked}
-use Rattle.console_board.specs.Consoles.{opened, inserted, replaced, substituted, removed, stopped}
-use Rattle.console_board.specs.Consoles.{asked, settled, shown, load_outcome}
+use Rattle.console_board.specs.Consoles.{inserted, replaced, substituted, removed, stopped, asked}
+use Rattle.console_board.specs.Consoles.{settled, shown}
+use Rattle.console_board.specs.OwnConsoles.{OwnConsole, OwnOutcome, load_outcome, own_opened, owned}
 
 -- ---- what lines ask for
 
@@ -70,33 +72,51 @@ IsThere (Some folder) aff dic there = there ≡ found_in folder aff dic
 abbrev pub HasOutcome : Outcome → Reply → Console → Type 0
 HasOutcome outcome reply after = (reply ≡ outcome.reply) × (after ≡ outcome.after)
 
+-- what a console replies to a command that changes no dictionary, and what it has then come to;
+-- `quit` is not replied to
+unfoldable pub IsReplyTo : Console → Command → Reply → Console → Type 0
+IsReplyTo before (Ins place text) reply after = HasOutcome (inserted before place text) reply after
+IsReplyTo before (Put place text) reply after = HasOutcome (replaced before place text) reply after
+IsReplyTo before (Sub place from to text) reply after =
+    HasOutcome (substituted before place from to text) reply after
+IsReplyTo before (Del place) reply after = HasOutcome (removed before place) reply after
+IsReplyTo before (Load aff dic) reply after = ⊥
+IsReplyTo before (Own text) reply after = ⊥
+IsReplyTo before (Stop place) reply after = HasOutcome (stopped before place) reply after
+IsReplyTo before (Ask place) reply after = HasOutcome (asked before place) reply after
+IsReplyTo before Show reply after = HasOutcome (shown before) reply after
+IsReplyTo before Settle reply after = HasOutcome (settled before) reply after
+IsReplyTo before Quit reply after = ⊥
+
+-- a command that is of a base or of a list of personal words has this outcome
+abbrev pub HasOwnOutcome : OwnOutcome → Reply → OwnConsole → Type 0
+HasOwnOutcome outcome reply after = (reply ≡ outcome.reply) × (after ≡ outcome.after)
+
 -- a load has the outcome that its files say, or it is told that the files failed
-abbrev pub Loads : Option Folder → Console → List ℕ → List ℕ → Reply → Console → Type 0
+abbrev pub Loads : Option Folder → OwnConsole → List ℕ → List ℕ → Reply → OwnConsole → Type 0
 Loads told before aff dic reply after =
     ((there : DictionaryFiles) × IsThere told aff dic there
-    × HasOutcome (load_outcome before (lexicon_due there)) reply after)
+    × HasOwnOutcome (load_outcome before (lexicon_due there)) reply after)
     ⊎ ((reply ≡ NoFiles) × (after ≡ before))
 
--- what a console replies to a command, and what it has then come to; `quit` is not replied to
-unfoldable pub IsReplyTo : Option Folder → Console → Command → Reply → Console → Type 0
-IsReplyTo told before (Ins place text) reply after =
-    HasOutcome (inserted before place text) reply after
-IsReplyTo told before (Put place text) reply after =
-    HasOutcome (replaced before place text) reply after
-IsReplyTo told before (Sub place from to text) reply after =
-    HasOutcome (substituted before place from to text) reply after
-IsReplyTo told before (Del place) reply after = HasOutcome (removed before place) reply after
-IsReplyTo told before (Load aff dic) reply after = Loads told before aff dic reply after
-IsReplyTo told before (Stop place) reply after = HasOutcome (stopped before place) reply after
-IsReplyTo told before (Ask place) reply after = HasOutcome (asked before place) reply after
-IsReplyTo told before Show reply after = HasOutcome (shown before) reply after
-IsReplyTo told before Settle reply after = HasOutcome (settled before) reply after
-IsReplyTo told before Quit reply after = ⊥
+-- a command that is of neither changes the console alone
+abbrev pub RepliesBeside : OwnConsole → Command → Reply → OwnConsole → Type 0
+RepliesBeside before command reply after =
+    IsReplyTo before.console command reply after.console
+    × (after ≡ record before { console = after.console })
+
+-- what is replied to a command, and what the console with its base and its list has then come to
+unfoldable pub IsOwnReplyTo : Option Folder → OwnConsole → Command → Reply → OwnConsole → Type 0
+IsOwnReplyTo told before (Load aff dic) reply after = Loads told before aff dic reply after
+IsOwnReplyTo told before (Own text) reply after = HasOwnOutcome (owned before text) reply after
+IsOwnReplyTo told before command reply after = RepliesBeside before command reply after
 
 -- what is replied where a command is asked for, or none
-abbrev pub IsReplyToAsked : Option Folder → Console → Option Command → Reply → Console → Type 0
+abbrev pub IsReplyToAsked : Option Folder → OwnConsole → Option Command → Reply → OwnConsole → Type
+    0
 IsReplyToAsked told before None reply after = (reply ≡ NoCommand) × (after ≡ before)
-IsReplyToAsked told before (Some command) reply after = IsReplyTo told before command reply after
+IsReplyToAsked told before (Some command) reply after =
+    IsOwnReplyTo told before command reply after
 
 -- ---- what is checked meanwhile
 
@@ -107,33 +127,35 @@ MayFinish Finished after = after ≡ Finished
 MayFinish Parked after = after ≡ Parked
 
 -- some of what waits, none or all of it, is finished
-pub record IsChecked (before after : Console) : Type 0 where
+pub record IsChecked (before after : OwnConsole) : Type 0 where
   pub states : List TextState
-  pub after_is : after ≡ record before { states = states }
-  pub each : AllZip MayFinish before.states states
+  pub after_is : after
+      ≡ record before { console = record before.console { states = states } }
+  pub each : AllZip MayFinish before.console.states states
 
 -- between two commands so many workers check: where there is none, nothing changes
-abbrev pub IsMeanwhile : ℕ → Console → Console → Type 0
+abbrev pub IsMeanwhile : ℕ → OwnConsole → OwnConsole → Type 0
 IsMeanwhile zero before after = after ≡ before
 IsMeanwhile (suc workers) before after = IsChecked before after
 
 -- ---- one after another
 
 -- a console replies once to each that is asked for, in order
-abbrev pub Answers : ℕ → Option Folder → Console → List (Option Command) → List Reply → Console
-    → Type 0
+abbrev pub Answers : ℕ → Option Folder → OwnConsole → List (Option Command) → List Reply
+    → OwnConsole → Type 0
 Answers workers told before [] replies after = (replies ≡ []) × (after ≡ before)
 Answers workers told before (command ∷ commands) [] after = ⊥
 Answers workers told before (command ∷ commands) (reply ∷ replies) after =
-    (ready : Console) × IsMeanwhile workers before ready
-    × ((next : Console) × IsReplyToAsked told ready command reply next
+    (ready : OwnConsole) × IsMeanwhile workers before ready
+    × ((next : OwnConsole) × IsReplyToAsked told ready command reply next
     × Answers workers told next commands replies after)
 
--- a console that opens with a dictionary replies so to these lines, none of which is `quit`
-pub record IsTranscript (workers : ℕ) (told : Option Folder) (lexicon : Lexicon)
+-- a console that opens by a dictionary and a list of personal words replies so to these lines, none
+-- of which is `quit`
+pub record IsTranscript (workers : ℕ) (told : Option Folder) (base : Lexicon) (own : List OwnItem)
     (lines : List (List ℕ)) (replies : List Reply) : Type 0 where
-  pub last : Console
-  pub answers : Answers workers told (opened lexicon) (asked_by lines) replies last
+  pub last : OwnConsole
+  pub answers : Answers workers told (own_opened base own) (asked_by lines) replies last
 
 -- what is written of replies
 abbrev pub written_of : List Reply → List ℕ
@@ -149,7 +171,7 @@ failures_in replies = count_by is_no_files replies
 
 -- what is asked for was replied to, and the reply was added to a text; the files, which tell this,
 -- failed as often at least as it says
-pub record IsReplied (told : Option Folder) (failed failed_now : ℕ) (before after : Console)
+pub record IsReplied (told : Option Folder) (failed failed_now : ℕ) (before after : OwnConsole)
     (asked : Option Command) (text text_now : List ℕ) : Type 0 where
   pub reply : Reply
   pub replies : IsReplyToAsked told before asked reply after
@@ -159,7 +181,7 @@ pub record IsReplied (told : Option Folder) (failed failed_now : ℕ) (before af
 -- From one console on these lines were replied to with this text, and then it is another console.
 -- The files tell the same as before, and failed as often at least as was said.
 pub record IsRepliedTo (told told_now : Option Folder) (failed failed_now : ℕ)
-    (before after : Console) (lines : List (List ℕ)) (text : List ℕ) : Type 0 where
+    (before after : OwnConsole) (lines : List (List ℕ)) (text : List ℕ) : Type 0 where
   pub replies : List Reply
   pub answers : Answers 0 told before (asked_by lines) replies after
   pub text_is : text ≡ written_of replies

@@ -2,6 +2,7 @@
 
 ghost use Rattle.std.specs.Prelude.{◌≡◌, ◌≤◌, ℕ, List, Some, length, true};
 ghost use Rattle.outside.specs.Files.{Folder};
+ghost use Rattle.personal_words.specs.declared.items.OwnItem.{OwnItem};
 ghost use Rattle.spell_types.specs.declared.Lexicon.{Lexicon};
 ghost use Rattle.console_lang.specs.declared.reply.Reply.{Reply};
 ghost use Rattle.console_board.specs.Transcripts.{IsTranscript, failures_in, is_quit};
@@ -9,13 +10,13 @@ ghost use Rattle.input_lines.specs.declared.limits.TheConstants.{LINE_LIMIT};
 
 use console_lang::commands_have_their_lines;
 
-/// Where no worker checks and the files do not fail, a folder that is told, a dictionary and the
-/// lines of an input determine all replies.
+/// Where no worker checks and the files do not fail, a folder that is told, a dictionary, a list of
+/// personal words and the lines of an input determine all replies.
 pub fn transcripts_are_functions()
-    ensures { (folder : Folder) (lexicon : Lexicon) (lines : List (List ℕ))
+    ensures { (folder : Folder) (base : Lexicon) (own : List OwnItem) (lines : List (List ℕ))
         (replies others : List Reply)
-        → IsTranscript 0 (Some folder) lexicon lines replies
-        → IsTranscript 0 (Some folder) lexicon lines others
+        → IsTranscript 0 (Some folder) base own lines replies
+        → IsTranscript 0 (Some folder) base own lines others
         → failures_in replies ≡ 0 → failures_in others ≡ 0 → replies ≡ others }
 {}
 

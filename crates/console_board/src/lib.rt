@@ -3,7 +3,8 @@
 
 mod console;
 mod laws;
+mod own_console;
 mod responding;
 
-pub use console::Console;
 pub use laws::{quits_are_short, transcripts_are_functions};
+pub use own_console::OwnConsole;

@@ -6,13 +6,13 @@ ghost use Rattle.std.specs.String.{string_bytes};
 ghost use Rattle.console_lang.specs.Commands.{IsAnswer};
 ghost use Rattle.console_lang.specs.declared.command.Command.{Command};
 ghost use Rattle.edit_core.specs.Runs.{furthest_point};
-ghost use Rattle.console_board.specs.Boards.{console_of, lines_left};
+ghost use Rattle.console_board.specs.Boards.{lines_left, own_console_of};
 ghost use Rattle.console_board.specs.Starts.{replied-none};
 ghost use Rattle.console_board.specs.Transcripts.{HasWholeText, IsReplied, IsRepliedTo, is_quit};
 ghost use Rattle.console_board.specs.Transcripts.{line_says, written_of};
 ghost use Rattle.edit_core.specs.declared.limits.TheConstants.{MOST_MOVED};
 
-use crate::console::{Console, Response};
+use crate::own_console::{OwnConsole, OwnResponse};
 use console_lang::{
     Command, CommandFault, Reply, commands_have_their_lines, read_command, write_reply,
 };
@@ -20,15 +20,14 @@ use input_lines::{Flow, Responder};
 use lists::NoMemory;
 use outside::Files;
 use std::alloc::Global;
-use word_verdict::Speller;
 
-impl<F: Files> Responder<F> for Console<Speller> {
+impl<F: Files> Responder<F> for OwnConsole {
     ghost quits = { is_quit };
 
-    ghost room = { λ console. lines_left console.board };
+    ghost room = { λ own. lines_left own.console.board };
 
     ghost Leads = { λ first beside_first lines said now beside.
-        IsRepliedTo (F.told beside_first) (F.told beside) (F.faults beside_first) (F.faults beside) (console_of first.board) (console_of now.board) lines said };
+        IsRepliedTo (F.told beside_first) (F.told beside) (F.faults beside_first) (F.faults beside) (own_console_of first.dictionary first.console.board) (own_console_of now.dictionary now.console.board) lines said };
 
     fn answer(
         &mut self,
@@ -56,10 +55,10 @@ impl<F: Files> Responder<F> for Console<Speller> {
     }
 
     ghost starts = { λ first beside. replied-none (F.told beside) (F.faults beside)
-        (console_of first.board) };
+        (own_console_of first.dictionary first.console.board) };
 }
 
-impl Console<Speller> {
+impl OwnConsole {
     /// Does what a command asks for and adds its reply to the others; or, where memory is wanting,
     /// neither. `quit` is no command for it.
     fn reply<F: Files>(
@@ -71,20 +70,28 @@ impl Console<Speller> {
     ) -> Result<(), NoMemory>
         requires asked { ¬ (command ≡ Command.Quit) }
         requires whole { HasWholeText command }
-        requires room { furthest_point self.old.board + MOST_MOVED ≤ 2 ^ 62 }
+        requires room { furthest_point self.old.console.board + MOST_MOVED ≤ 2 ^ 62 }
         ensures replied { OnOk result
             (IsReplied (F.told files.old) (F.faults files.old) (F.faults files.new)
-            (console_of self.old.board) (console_of self.new.board)
+            (own_console_of self.old.dictionary self.old.console.board)
+            (own_console_of self.new.dictionary self.new.console.board)
             (Some command) (string_bytes replies.old) (string_bytes replies.new)) }
-        ensures kept { OnErr result (self.new.board ≡ self.old.board) }
+        ensures kept { OnErr result
+            (own_console_of self.new.dictionary self.new.console.board
+            ≡ own_console_of self.old.dictionary self.old.console.board) }
         ensures silent { OnErr result (string_bytes replies.new ≡ string_bytes replies.old) }
-        ensures room { furthest_point self.new.board ≤ furthest_point self.old.board + MOST_MOVED }
+        ensures room { furthest_point self.new.console.board
+            ≤ furthest_point self.old.console.board + MOST_MOVED }
         ensures same { F.told files.new ≡ F.told files.old }
         ensures count { F.faults files.old ≤ F.faults files.new }
     {
-        let Response { reply, next } = self.respond(alloc, files, command)?;
+        let OwnResponse {
+            reply,
+            next,
+            dictionary,
+        } = self.respond(alloc, files, command)?;
         push_reply(alloc, &reply, replies)?;
-        self.advance(next);
+        self.advance(next, dictionary);
         Ok(())
     }
 }

@@ -19,7 +19,7 @@ use Rattle.text_lines.specs.Fields.{has_bytes, is_decimal}
 use Rattle.std.proofs.lemmas.Option.{same_Some}
 use Rattle.console_lang.specs.declared.command.Command.{Command}
 use Rattle.console_lang.specs.declared.command.Command.TheVariants.{Ins, Put, Sub, Del, Load, Stop}
-use Rattle.console_lang.specs.declared.command.Command.TheVariants.{Ask, Show, Settle, Quit}
+use Rattle.console_lang.specs.declared.command.Command.TheVariants.{Ask, Own, Show, Settle, Quit}
 use Rattle.console_lang.specs.Words.{is_space, is_blank_line, words_of, text_of, number_of}
 use Rattle.console_lang.specs.Commands.{placed_text, of_numbers, placed_span, lone_place, two_names}
 use Rattle.console_lang.specs.Commands.{alone, command_named, command_in, command_of}
@@ -169,6 +169,10 @@ command_is (Del place) line is =
 command_is (Load aff dic) line is = ap command_of is.line_is
     ∙ ap (option_map (λ (said : List ℕ × List ℕ). Load said.0 said.1))
     (names_are aff dic is.aff_name is.dic_name)
+command_is (Own text) line is =
+    let found =
+    tail_words (codes "own") text is.tail (name_lacks (codes "own") refl) is.ends in
+    ap command_of is.line_is ∙ ap command_in found.1 ∙ ap (λ t. Some (Own t)) found.2
 command_is (Stop place) line is =
     ap command_of is.line_is ∙ ap (option_map Stop) (place_is is.digits place is.writes)
 command_is (Ask place) line is =
@@ -293,6 +297,16 @@ pair_line (aff ∷ dic ∷ []) command lack is = by (has_bytes aff) (has_bytes d
     by false other some some' found = absurd (cc)
     by true false some some' found = absurd (cc)
 
+text_line : (words : List (List ℕ)) (command : Command)
+    → Some (Own (text_of words)) ≡ Some command → IsLineOf command (text_of (codes "own" ∷ words))
+text_line words command is =
+    subst (λ k. IsLineOf k (text_of (codes "own" ∷ words))) (same_Some _ _ is)
+    (record {
+      tail = tail_of words;
+      ends = tail_ends words;
+      line_is = tail_behind (codes "own") words;
+    })
+
 alone_line : (name : List ℕ) (made : Command) (words : List (List ℕ)) (command : Command)
     → IsLineOf made name
     → alone made words ≡ Some command → IsLineOf command (text_of (name ∷ words))
@@ -339,10 +353,14 @@ abbrev from_stop : List ℕ → List (List ℕ) → Option Command
 from_stop name words =
     if bytes_eq name (codes "stop") then option_map Stop (lone_place words) else from_ask name words
 
+abbrev from_own : List ℕ → List (List ℕ) → Option Command
+from_own name words =
+    if bytes_eq name (codes "own") then Some (Own (text_of words)) else from_stop name words
+
 abbrev from_load : List ℕ → List (List ℕ) → Option Command
 from_load name words =
     if bytes_eq name (codes "load") then option_map (λ (said : List ℕ × List ℕ). Load said.0 said.1)
-    (two_names words) else from_stop name words
+    (two_names words) else from_own name words
 
 abbrev from_del : List ℕ → List (List ℕ) → Option Command
 from_del name words =
@@ -397,11 +415,16 @@ named_line name words command lack is = ins (either name (codes "ins") _ _ comma
         (place_line (codes "stop") Stop words command (λ place line h. h) k.1)
     stop (inr k) = ask (either name (codes "ask") _ _ command k)
 
+    own : Either name (codes "own") (Some (Own (text_of words))) (from_stop name words) command
+        → Named
+    own (inl k) = renamed name _ words command k.0 (text_line words command k.1)
+    own (inr k) = stop (either name (codes "stop") _ _ command k)
+
     load : Either name (codes "load")
         (option_map (λ (said : List ℕ × List ℕ). Load said.0 said.1) (two_names words))
-        (from_stop name words) command → Named
+        (from_own name words) command → Named
     load (inl k) = renamed name _ words command k.0 (pair_line words command lack k.1)
-    load (inr k) = stop (either name (codes "stop") _ _ command k)
+    load (inr k) = own (either name (codes "own") _ _ command k)
 
     del : Either name (codes "del") (option_map Del (lone_place words)) (from_load name words)
         command → Named

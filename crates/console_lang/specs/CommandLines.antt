@@ -5,7 +5,7 @@ use Rattle.std.specs.Str.Parse.{digits_value}
 use Rattle.text_lines.specs.Fields.{has_bytes, is_decimal}
 use Rattle.console_lang.specs.declared.command.Command.{Command}
 use Rattle.console_lang.specs.declared.command.Command.TheVariants.{Ins, Put, Sub, Del, Load, Stop}
-use Rattle.console_lang.specs.declared.command.Command.TheVariants.{Ask, Show, Settle, Quit}
+use Rattle.console_lang.specs.declared.command.Command.TheVariants.{Ask, Own, Show, Settle, Quit}
 use Rattle.console_lang.specs.Words.{is_space}
 
 -- 1 to 9 digits that write this number
@@ -14,8 +14,8 @@ pub record Writes (digits : List ℕ) (number : ℕ) : Type 0 where
   pub short : length digits ≤ 9
   pub value : digits_value 10 digits ≡ number
 
--- what stands behind a number for this text: a space and the text, or also nothing where the text
--- is empty
+-- what stands behind a number or a name for this text: a space and the text, or also nothing where
+-- the text is empty
 abbrev pub IsTail : List ℕ → List ℕ → Type 0
 IsTail text tail = (tail ≡ codes " " ++ text) ⊎ ((text ≡ []) × (tail ≡ []))
 
@@ -58,6 +58,12 @@ pub record IsPair (name aff dic line : List ℕ) : Type 0 where
   pub dic_name : IsName dic
   pub line_is : line ≡ name ++ (codes " " ++ (aff ++ (codes " " ++ dic)))
 
+-- `NAME TEXT`
+pub record IsWithText (name text line : List ℕ) : Type 0 where
+  pub tail : List ℕ
+  pub ends : IsTail text tail
+  pub line_is : line ≡ name ++ tail
+
 -- the line is one of the command's
 abbrev pub IsLineOf : Command → List ℕ → Type 0
 IsLineOf (Ins place text) line = IsPlacedText (codes "ins") place text line
@@ -65,6 +71,7 @@ IsLineOf (Put place text) line = IsPlacedText (codes "put") place text line
 IsLineOf (Sub place from to text) line = IsPlacedSpan (codes "sub") place from to text line
 IsLineOf (Del place) line = IsPlaced (codes "del") place line
 IsLineOf (Load aff dic) line = IsPair (codes "load") aff dic line
+IsLineOf (Own text) line = IsWithText (codes "own") text line
 IsLineOf (Stop place) line = IsPlaced (codes "stop") place line
 IsLineOf (Ask place) line = IsPlaced (codes "ask") place line
 IsLineOf Show line = line ≡ codes "show"

@@ -7,7 +7,7 @@ use Rattle.std.specs.Str.{bytes_eq}
 use Rattle.text_lines.specs.Fields.{has_bytes}
 use Rattle.console_lang.specs.declared.command.Command.{Command}
 use Rattle.console_lang.specs.declared.command.Command.TheVariants.{Ins, Put, Sub, Del, Load, Stop}
-use Rattle.console_lang.specs.declared.command.Command.TheVariants.{Ask, Show, Settle, Quit}
+use Rattle.console_lang.specs.declared.command.Command.TheVariants.{Ask, Own, Show, Settle, Quit}
 use Rattle.console_lang.specs.declared.command.CommandFault.{CommandFault}
 use Rattle.console_lang.specs.declared.command.CommandFault.TheVariants.{BadCommand, NoMemory}
 use Rattle.console_lang.specs.Words.{is_blank_line, words_of, text_of, number_of}
@@ -53,12 +53,13 @@ command_named name words =
     else (if bytes_eq name (codes "del") then option_map Del (lone_place words)
     else (if bytes_eq name (codes "load")
     then option_map (λ said. Load said.0 said.1) (two_names words)
+    else (if bytes_eq name (codes "own") then Some (Own (text_of words))
     else (if bytes_eq name (codes "stop") then option_map Stop (lone_place words)
     else (if bytes_eq name (codes "ask") then option_map Ask (lone_place words)
     else (if bytes_eq name (codes "show") then alone Show words
     else (if bytes_eq name (codes "settle") then alone Settle words
     else (if bytes_eq name (codes "quit") then alone Quit words
-    else None)))))))))
+    else None))))))))))
 
 abbrev pub command_in : List (List ℕ) → Option Command
 command_in [] = None

@@ -4,6 +4,7 @@ use Rattle.std.specs.Fmt.{decimal}
 use Rattle.std.specs.List.{flat_map}
 use Rattle.aff_lines.specs.Faults.{why_name as aff_why_name}
 use Rattle.dic_reader.specs.Faults.{why_name as dic_why_name}
+use Rattle.personal_words.specs.Faults.{line_why_name as own_why_name}
 use Rattle.mark_types.specs.declared.Mark.{Mark}
 use Rattle.console_lang.specs.declared.reply.ShownPara.{ShownPara}
 use Rattle.console_lang.specs.declared.reply.ShownPara.TheVariants.{Pending, Finished}
@@ -13,7 +14,7 @@ use Rattle.console_lang.specs.declared.reply.Reply.TheVariants.{NoPlace, NoGone,
 use Rattle.console_lang.specs.declared.reply.Reply.TheVariants.{NoBadSpan, NoTooLong, NoFull}
 use Rattle.console_lang.specs.declared.reply.Reply.TheVariants.{NoFinished, NoParked, NoNotParked}
 use Rattle.console_lang.specs.declared.reply.Reply.TheVariants.{NoMissing, NoAff, NoDic, NoFiles}
-use Rattle.console_lang.specs.declared.reply.Reply.TheVariants.{NoLarge}
+use Rattle.console_lang.specs.declared.reply.Reply.TheVariants.{NoOwn, NoLarge}
 
 -- words and a number
 abbrev pub number_line : List ℕ → ℕ → List ℕ
@@ -23,6 +24,10 @@ number_line words number = words ++ (codes " " ++ (decimal number ++ codes "\n")
 abbrev pub fault_line : List ℕ → ℕ → List ℕ → List ℕ
 fault_line words line why =
     words ++ (codes " " ++ (decimal line ++ (codes " " ++ (why ++ codes "\n"))))
+
+-- words and a cause
+abbrev pub cause_line : List ℕ → List ℕ → List ℕ
+cause_line words why = words ++ (codes " " ++ (why ++ codes "\n"))
 
 -- a mark: the paragraph's number, the first byte and the byte past the end, and the word
 abbrev pub mark_line : ℕ → Mark → List ℕ
@@ -65,5 +70,6 @@ reply_text NoNotParked = codes "no NotParked\n"
 reply_text NoMissing = codes "no Missing\n"
 reply_text (NoAff line why) = fault_line (codes "no aff") line (aff_why_name why)
 reply_text (NoDic line why) = fault_line (codes "no dic") line (dic_why_name why)
+reply_text (NoOwn why) = cause_line (codes "no own") (own_why_name why)
 reply_text NoFiles = codes "no Files\n"
 reply_text NoLarge = codes "no Large 16777216\n"

@@ -38,6 +38,10 @@ pub enum Command {
         aff: Text,
         dic: Text,
     },
+    /// `own TEXT`: one more item of the list of personal words, as a line of such a list.
+    Own {
+        text: Text,
+    },
     /// `stop P`: the paragraph is not to be checked.
     Stop {
         place: u32,

@@ -3,10 +3,12 @@
 ghost use Rattle.std.specs.Prelude.{◌≡◌, Some};
 ghost use Rattle.std.specs.Option.{option_map};
 ghost use Rattle.console_lang.specs.declared.command.Command.TheVariants.{Ins, Put, Sub, Load};
+ghost use Rattle.console_lang.specs.declared.command.Command.TheVariants.{Own};
 ghost use Rattle.console_lang.specs.Commands.{placed_text, placed_span, lone_place, two_names};
 ghost use Rattle.console_lang.specs.Commands.{alone, command_named, command_in, said_by, IsAnswer};
 ghost use Rattle.console_lang.specs.Commands.{IsFound};
 ghost use Rattle.console_lang.specs.Handed.{words_left};
+ghost use Rattle.console_lang.specs.Words.{text_of};
 
 use crate::command::{Command, CommandFault};
 use crate::forms::{lone_place, placed_span, placed_text, two_names};
@@ -50,6 +52,7 @@ fn read_named(alloc: Global, name: &str, words: Words<'_>) -> Result<Command, Co
             place: place_alone(words)?,
         }),
         "load" => read_load(alloc, words),
+        "own" => read_own(alloc, words),
         "stop" => Ok(Command::Stop {
             place: place_alone(words)?,
         }),
@@ -112,6 +115,13 @@ fn read_load(alloc: Global, words: Words<'_>) -> Result<Command, CommandFault>
         aff: Text::from_str(alloc, aff)?,
         dic: Text::from_str(alloc, dic)?,
     })
+}
+
+fn read_own(alloc: Global, words: Words<'_>) -> Result<Command, CommandFault>
+    ensures { IsFound (Some (Own (text_of (words_left words.entry)))) result }
+{
+    let text = Text::from_str(alloc, words.text())?;
+    Ok(Command::Own { text })
 }
 
 fn place_alone(words: Words<'_>) -> Result<u32, CommandFault>

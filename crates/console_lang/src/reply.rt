@@ -4,12 +4,14 @@ ghost use Rattle.std.specs.Prelude.{◌≡◌, ◌++◌, IfOk, OnOk};
 ghost use Rattle.std.specs.List.{flat_map};
 ghost use Rattle.std.specs.String.{string_bytes};
 ghost use Rattle.console_lang.specs.Replies.{reply_text, number_line, fault_line, mark_line};
+ghost use Rattle.console_lang.specs.Replies.{cause_line};
 ghost use Rattle.console_lang.specs.Replies.{paragraph_lines, paragraphs_from};
 
 use aff_lines::AffWhy;
 use dic_reader::DicWhy;
 use lists::{Copied, NoMemory};
 use mark_types::{Mark, Marks};
+use personal_words::OwnLineWhy;
 use std::alloc::{AllocError, Global};
 use text_lines::Text;
 
@@ -90,6 +92,10 @@ pub enum Reply {
         line: u64,
         why: DicWhy,
     },
+    /// What is wrong with a line of personal words.
+    NoOwn {
+        why: OwnLineWhy,
+    },
     /// The files failed.
     NoFiles,
     /// A file of the dictionary is larger than is allowed.
@@ -135,6 +141,7 @@ fn push_reply(written: &mut String, reply: &Reply) -> Result<(), AllocError>
         Reply::NoMissing => written.push_str("no Missing\n"),
         Reply::NoAff { line, why } => push_fault(written, "no aff", line, why.name()),
         Reply::NoDic { line, why } => push_fault(written, "no dic", line, why.name()),
+        Reply::NoOwn { why } => push_cause(written, "no own", why.name()),
         Reply::NoFiles => written.push_str("no Files\n"),
         Reply::NoLarge => written.push_str("no Large 16777216\n"),
     }
@@ -154,6 +161,14 @@ fn push_fault(written: &mut String, words: &str, line: u64, why: &str) -> Result
         (string_bytes written.new ≡ string_bytes written.old ++ fault_line words.now line why.now) }
 {
     write!(written, "{words} {line} {why}\n")
+}
+
+/// Adds a line of words and a cause.
+fn push_cause(written: &mut String, words: &str, why: &str) -> Result<(), AllocError>
+    ensures { OnOk result
+        (string_bytes written.new ≡ string_bytes written.old ++ cause_line words.now why.now) }
+{
+    write!(written, "{words} {why}\n")
 }
 
 /// Adds the lines of all paragraphs.

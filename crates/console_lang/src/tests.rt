@@ -5,6 +5,7 @@ use aff_lines::AffWhy;
 use dic_reader::DicWhy;
 use lists::Items;
 use mark_types::{Mark, Marks};
+use personal_words::OwnLineWhy;
 use std::alloc::{AllocError, Global};
 use std::process::Abort;
 use std::test::Fail;
@@ -48,6 +49,12 @@ load  a=>bad
 load a  b=>bad
 load a b =>bad
 load a b c=>bad
+own word=>own [word]
+own two words/a model =>own [two words/a model ]
+own  x=>own [ x]
+own =>own []
+own=>own []
+own\tx=>bad
 stop 5=>stop 5
 stop 5 =>bad
 ask 999999999=>ask 999999999
@@ -89,6 +96,8 @@ no NotParked
 no Missing
 no aff 3 BadFlag
 no dic 1 BadCount
+no own EmptyWord
+no own TooMany
 no Files
 no Large 16777216
 ";
@@ -114,6 +123,7 @@ fn shown(alloc: Global, read: Option<Command>) -> Result<String, AllocError> {
         Some(Command::Load { aff, dic }) => {
             format!(in alloc; "load [{}] [{}]", aff.as_str(), dic.as_str())
         }
+        Some(Command::Own { text }) => format!(in alloc; "own [{}]", text.as_str()),
         Some(Command::Stop { place }) => format!(in alloc; "stop {place}"),
         Some(Command::Ask { place }) => format!(in alloc; "ask {place}"),
         Some(Command::Show) => format!(in alloc; "show"),
@@ -140,7 +150,7 @@ fn reads_what_is_wanted(rt: HostRuntime) -> Result<(), Fail> {
         assert_eq!(rt; read.as_str(), want, "{line}");
         rows = rows.wrapping_add(1);
     }
-    assert_eq!(rt; rows, 53);
+    assert_eq!(rt; rows, 59);
     Ok(())
 }
 
@@ -196,6 +206,12 @@ fn replies(alloc: Global) -> Result<Items<Reply>, lists::NoMemory> {
     replies.push(Reply::NoDic {
         line: 1,
         why: DicWhy::BadCount,
+    })?;
+    replies.push(Reply::NoOwn {
+        why: OwnLineWhy::EmptyWord,
+    })?;
+    replies.push(Reply::NoOwn {
+        why: OwnLineWhy::TooMany,
     })?;
     replies.push(Reply::NoFiles)?;
     replies.push(Reply::NoLarge)?;

@@ -44,6 +44,7 @@ pub mod missing_and_failing;
 pub mod needaffix;
 pub mod numbers;
 pub mod onlyincompound;
+pub mod own;
 pub mod pfx_sfx;
 pub mod put_and_sub;
 pub mod quit;

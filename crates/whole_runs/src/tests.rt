@@ -115,6 +115,13 @@ fn words_and_files(rt: HostRuntime) -> Result<(), Fail> {
     Ok(())
 }
 
+/// Personal words.
+#[test]
+fn personal_words(rt: HostRuntime) -> Result<(), Fail> {
+    run_rows(&rt, rt.alloc(), rows::own::ROWS)?;
+    Ok(())
+}
+
 /// Dialogues of `edit`.
 #[test]
 fn dialogues(rt: HostRuntime) -> Result<(), Fail> {

@@ -16,7 +16,8 @@ ghost use Rattle.dictionary_swap.specs.declared.fault.LoadFault.TheVariants.{Fai
 use crate::ending::put_outcome;
 use crate::failure::Failure;
 use crate::loading::{load_document, load_judge};
-use crate::requests::{Request, are_options};
+use crate::names::{DictionaryNames, names_of};
+use crate::requests::Request;
 use document_report::{Output, Report, report};
 use outside::{Files, Sink};
 use std::alloc::Global;
@@ -24,11 +25,11 @@ use std::marker::Model;
 use verdict_cache::Cached;
 use word_verdict::Speller;
 
-/// The files that the words `check AFF DIC FILE` name. Contracts see their names.
+/// The files that the words `check AFF DIC FILE` name, with the options behind them. Contracts see
+/// their names.
 #[derive(Drop)]
 pub struct CheckNames<'a> {
-    aff: &'a str,
-    dic: &'a str,
+    dictionary: DictionaryNames<'a>,
     document: &'a str,
 }
 
@@ -38,7 +39,7 @@ impl<'a> Model for CheckNames<'a> {
     ghost Value = { CheckedFiles };
 
     ghost view = { λ inside.
-        record { aff = inside.aff.now; dic = inside.dic.now; document = inside.document.now } };
+        record { dictionary = inside.dictionary; document = inside.document.now } };
 }
 
 /// What the operands of `check` ask for.
@@ -46,10 +47,10 @@ pub fn check_of(operands: &[String]) -> Option<Request<'_>>
     ensures { result ≡ check_in (map string_bytes operands.now) }
 {
     match operands {
-        [aff, dic, document, options @ ..] if are_options(options) => {
+        [aff, dic, document, options @ ..] => {
+            let dictionary = names_of(aff, dic, options)?;
             Some(Request::Check(CheckNames {
-                aff: aff.as_str(),
-                dic: dic.as_str(),
+                dictionary,
                 document: document.as_str(),
             }))
         }
@@ -101,7 +102,7 @@ fn outcome_of<F: Files>(
     ensures same { F.told files.new ≡ F.told files.old }
     ensures count { F.faults files.old ≤ F.faults files.new }
 {
-    let mut judge = load_judge(alloc, files, names.aff, names.dic)?;
+    let mut judge = load_judge(alloc, files, &names.dictionary)?;
     let document = load_document(alloc, files, names.document)?;
     report_by(alloc, &mut judge, Output::Marks, &document)
 }

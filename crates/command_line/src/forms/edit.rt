@@ -6,12 +6,10 @@ ghost use Rattle.std.specs.String.{string_bytes};
 ghost use Rattle.lists.specs.Answers.{GivesDue};
 ghost use Rattle.outside.specs.Files.{Folder};
 ghost use Rattle.edit_core.specs.Runs.{furthest_point};
-ghost use Rattle.console_board.specs.Boards.{console_of};
-ghost use Rattle.console_board.specs.Consoles.{opened};
-ghost use Rattle.console_board.specs.Transcripts.{IsThere};
-ghost use Rattle.dictionary_swap.specs.Loads.{DictionaryFiles};
+ghost use Rattle.console_board.specs.Boards.{own_console_of};
+ghost use Rattle.console_board.specs.OwnConsoles.{own_opened};
 ghost use Rattle.dictionary_swap.specs.declared.fault.LoadFault.TheVariants.{Failed};
-ghost use Rattle.command_line.specs.Due.{MayCome, dictionary_due};
+ghost use Rattle.command_line.specs.Due.{IsOwnThere, MayCome, OwnFiles, dictionary_due};
 ghost use Rattle.command_line.specs.Ends.{EndsAs};
 ghost use Rattle.command_line.specs.Forms.{IsAnswerTo, IsDialogue, Met, end_of, form_of};
 ghost use Rattle.command_line.specs.Requests.{edit_in};
@@ -20,39 +18,23 @@ ghost use Rattle.command_line.specs.declared.requests.Request.TheVariants.{Edit}
 
 use crate::ending::{End, SINK_FAILED, put_end};
 use crate::failure::Failure;
-use crate::loading::load_speller;
-use crate::requests::{Request, are_options};
-use console_board::{Console, quits_are_short};
+use crate::loading::load_dictionary;
+use crate::names::{DictionaryNames, names_of};
+use crate::requests::Request;
+use console_board::{OwnConsole, quits_are_short};
 use input_lines::{INPUT_LIMIT, LINE_LIMIT, ReadingEnd, answer_lines, fitting_inputs_are_read};
 use outside::{Files, Sink, Source};
 use std::alloc::Global;
-use std::marker::Model;
-use word_verdict::Speller;
-
-/// The files of a dictionary, as the words `edit AFF DIC` name them. Contracts see their names.
-#[derive(Drop)]
-pub struct DictionaryNames<'a> {
-    aff: &'a str,
-    dic: &'a str,
-}
-
-impl<'a> Model for DictionaryNames<'a> {
-    ghost use Rattle.command_line.specs.Operands.{DictionaryNamed};
-
-    ghost Value = { DictionaryNamed };
-
-    ghost view = { λ inside. record { aff = inside.aff.now; dic = inside.dic.now } };
-}
 
 /// What the operands of `edit` ask for.
 pub fn edit_of(operands: &[String]) -> Option<Request<'_>>
     ensures { result ≡ edit_in (map string_bytes operands.now) }
 {
     match operands {
-        [aff, dic, options @ ..] if are_options(options) => Some(Request::Edit(DictionaryNames {
-            aff: aff.as_str(),
-            dic: dic.as_str(),
-        })),
+        [aff, dic, options @ ..] => {
+            let names = names_of(aff, dic, options)?;
+            Some(Request::Edit(names))
+        }
         _ => None,
     }
 }
@@ -103,38 +85,38 @@ pub fn edit<F: Files, S: Source, K: Sink>(
     }
 }
 
-/// A console by the dictionary of these files.
+/// A console by the dictionary of these files, with its personal words.
 fn open_console<F: Files>(
     alloc: Global,
     names: DictionaryNames<'_>,
     files: &mut F,
-) -> Result<Console<Speller>, Failure>
+) -> Result<OwnConsole, Failure>
     // Its dictionary is what is due of some files, which are those that are told, where some are.
-    ensures due { (there : DictionaryFiles)
-        × IsThere (F.told files.old) names.entry.aff names.entry.dic there
-        × GivesDue MayCome (λ (console : Console Speller). (console_of console.board).lexicon)
-        (dictionary_due there) result }
+    ensures due { (there : OwnFiles) × IsOwnThere (F.told files.old) names.entry there
+        × GivesDue MayCome (λ (own : OwnConsole). own.dictionary) (dictionary_due there) result }
     ensures opens { IfOk result
-        (λ console. console_of console.board ≡ opened (console_of console.board).lexicon) }
-    ensures fresh { IfOk result (λ console. furthest_point console.board ≡ 0) }
+        (λ own. own_console_of own.dictionary own.console.board
+        ≡ own_opened own.dictionary.base own.dictionary.own) }
+    ensures fresh { IfOk result (λ own. furthest_point own.console.board ≡ 0) }
     ensures failed { IsErrOf result (Load Failed) → F.faults files.old < F.faults files.new }
     ensures same { F.told files.new ≡ F.told files.old }
     ensures count { F.faults files.old ≤ F.faults files.new }
 {
-    let speller = load_speller(alloc, files, names.aff, names.dic)?;
-    Ok(Console::open(alloc, speller)?)
+    let dictionary = load_dictionary(alloc, files, &names)?;
+    Ok(OwnConsole::open(alloc, dictionary)?)
 }
 
 /// Lets a console reply to the lines of the input, and writes how it ends.
 fn converse<F: Files, S: Source, K: Sink>(
     alloc: Global,
-    console: &mut Console<Speller>,
+    console: &mut OwnConsole,
     files: &mut F,
     input: &mut S,
     out: &mut K,
 ) -> u8
-    requires opens { console_of console.old.board ≡ opened (console_of console.old.board).lexicon }
-    requires room { furthest_point console.old.board ≡ 0 }
+    requires opens { own_console_of console.old.dictionary console.old.console.board
+        ≡ own_opened console.old.dictionary.base console.old.dictionary.own }
+    requires room { furthest_point console.old.console.board ≡ 0 }
     // The files may have failed before.
     ensures dialogue { (folder : Option Folder) (files_before : ℕ) → folder ≡ F.told files.old
         → files_before ≤ F.Files.faults files.old
@@ -148,7 +130,7 @@ fn converse<F: Files, S: Source, K: Sink>(
             faults_before = S.Source.faults input.old;
             faults_after = S.Source.faults input.new;
           };
-        }) (console_of console.old.board).lexicon) (K.Sink.faults out.old < K.Sink.faults out.new)
+        }) console.old.dictionary) (K.Sink.faults out.old < K.Sink.faults out.new)
         (K.written out.old) (K.written out.new) result }
     ensures same { F.told files.new ≡ F.told files.old }
     ensures files_count { F.Files.faults files.old ≤ F.Files.faults files.new }

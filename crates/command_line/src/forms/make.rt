@@ -18,7 +18,8 @@ use crate::ending::put_outcome;
 use crate::failure::Failure;
 use crate::forms::check::report_by;
 use crate::loading::load_judge;
-use crate::requests::{Request, are_options};
+use crate::names::DictionaryNames;
+use crate::requests::Request;
 use document_report::{Output, Report};
 use lists::NoMemory;
 use outside::{Files, Sink, SureFiles};
@@ -56,7 +57,7 @@ pub fn make_of(operands: &[String]) -> Option<Request<'_>>
     ensures { result ≡ make_in (map string_bytes operands.now) }
 {
     match operands {
-        [start, size, options @ ..] if are_options(options) => {
+        [start, size] => {
             let making = of_numbers(decimal(start.as_str()), decimal(size.as_str()))?;
             Some(Request::Make(making))
         }
@@ -102,7 +103,12 @@ fn outcome_of(alloc: Global, making: Making) -> Result<Report, Failure>
     ensures failed { ¬ (IsErrOf result (Load Failed)) }
 {
     let mut files = made_files(alloc, making.size)?;
-    let mut judge = load_judge(alloc, &mut files, "made.aff", "made.dic")?;
+    let names = DictionaryNames {
+        aff: "made.aff",
+        dic: "made.dic",
+        own: None,
+    };
+    let mut judge = load_judge(alloc, &mut files, &names)?;
     let text = make_text(alloc, making.start, making.size)?;
     let output = Output::Summary {
         entries: making.size,

@@ -1,9 +1,8 @@
 //! What is replied to the commands that are events of a board.
 
-ghost use Rattle.std.specs.Prelude.{◌≡◌, ◌+◌, ◌≤◌, ◌^◌, true, false, length, None, Option, Some};
+ghost use Rattle.std.specs.Prelude.{◌≡◌, ◌+◌, ◌≤◌, ◌^◌, true, false, length, None, Some};
 ghost use Rattle.std.specs.Prelude.{IfOk, IsSome};
 ghost use Rattle.console_lang.specs.declared.reply.Reply.TheVariants.{NoPlace};
-ghost use Rattle.outside.specs.Files.{Folder};
 ghost use Rattle.edit_core.specs.Events.{event_of};
 ghost use Rattle.edit_core.specs.Runs.{furthest_point};
 ghost use Rattle.edit_core.specs.Steps.{IsFit, Step, first_refusal};
@@ -22,13 +21,12 @@ use std::alloc::Global;
 impl<J: Judge + Drop> Console<J> {
     /// What a command comes to that names a place: what its event makes of the board, or that there
     /// is no such place.
-    pub(super) fn carry_out(&self, alloc: Global, command: Command) -> Result<Response<J>, NoMemory>
+    pub(crate) fn carry_out(&self, alloc: Global, command: Command) -> Result<Response<J>, NoMemory>
         requires named { names_place command ≡ true }
         requires whole { HasWholeText command }
         requires room { furthest_point self.now.board + MOST_MOVED ≤ 2 ^ 62 }
-        ensures does { (told : Option Folder)
-            → IfOk result
-            (λ response. IsReplyTo told (console_of self.now.board) command response.reply
+        ensures does { IfOk result
+            (λ response. IsReplyTo (console_of self.now.board) command response.reply
             (console_of (board_after self.now.board response.next))) }
         ensures files { IfOk result (λ response. is_no_files response.reply ≡ false) }
         ensures room { IfOk result
@@ -94,7 +92,11 @@ fn place_in(command: &Command) -> usize {
         | Command::Del { place }
         | Command::Stop { place }
         | Command::Ask { place } => place.saturating_sub(1) as usize,
-        Command::Load { .. } | Command::Show | Command::Settle | Command::Quit => 0,
+        Command::Load { .. }
+        | Command::Own { .. }
+        | Command::Show
+        | Command::Settle
+        | Command::Quit => 0,
     }
 }
 

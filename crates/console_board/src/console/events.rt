@@ -87,7 +87,11 @@ impl<J: Judge + Drop> Console<J> {
                 None => None,
                 Some(Named { id, .. }) => Some(Event::Ask { session, id }),
             },
-            Command::Load { .. } | Command::Show | Command::Settle | Command::Quit => None,
+            Command::Load { .. }
+            | Command::Own { .. }
+            | Command::Show
+            | Command::Settle
+            | Command::Quit => None,
         }
     }
 

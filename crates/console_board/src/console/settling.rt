@@ -24,7 +24,7 @@ use text_lines::Text;
 impl<J: Judge + Drop> Console<J> {
     /// `settle`: checks each text that waits. Each check is an event of its own, whose paragraph is
     /// found at its place.
-    pub(super) fn settle(&self, alloc: Global) -> Result<Response<J>, NoMemory>
+    pub(crate) fn settle(&self, alloc: Global) -> Result<Response<J>, NoMemory>
         requires room { furthest_point self.now.board + MOST_MOVED ≤ 2 ^ 62 }
         ensures does { IfOk result
             (λ response. HasOutcome (settled (console_of self.now.board)) response.reply

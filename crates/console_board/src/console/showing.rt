@@ -17,7 +17,7 @@ use std::alloc::Global;
 impl<J: Judge + Drop> Console<J> {
     /// `show`: the versions, and for each text its marks, or that it is not checked.
     #[tactic(auto, using(std::proofs::lemmas::Grind::common_steps, std::proofs::lemmas::Option::gets))]
-    pub(super) fn show(&self, alloc: Global) -> Result<Response<J>, NoMemory>
+    pub(crate) fn show(&self, alloc: Global) -> Result<Response<J>, NoMemory>
         ensures look { IfOk result (λ response. response.reply ≡ look_reply self.now.board) }
         ensures does { IfOk result
             (λ response. response.reply ≡ (shown (console_of self.now.board)).reply) }

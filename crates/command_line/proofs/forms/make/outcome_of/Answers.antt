@@ -6,7 +6,7 @@ use Rattle.outside.specs.Memory.{file_of}
 use Rattle.document_report.specs.Given.{printed_by}
 use Rattle.document_report.specs.Reports.{summary_of}
 use Rattle.work_maker.specs.Made.{text_bytes}
-use Rattle.command_line.specs.Due.{MayCome, checked_due, dictionary_due, make_due, printed_due}
+use Rattle.command_line.specs.Due.{MayCome, checked_due, in_force_due, make_due, printed_due}
 use Rattle.command_line.specs.Operands.{StartAndSize}
 use Rattle.command_line.specs.declared.failure.Failure.TheVariants.{NoMemory}
 use Rattle.command_line.proofs.DueLemmas.{bytes-made}
@@ -22,7 +22,7 @@ returns-in_err-judge-clause-due c =
     let made = made-there c.making.inside.size told c.in_ok-files.ensures there.1 in
     subst (λ (asked : StartAndSize). GivesDue MayCome printed_by (make_due asked) result)
     c.making.view_is (gives-fault MayCome printed_by result (fails-then MayCome _
-    (subst (λ there. FailsAs MayCome (dictionary_due there) c.in_err-judge.field-0.0) made there.2))
+    (subst (λ there. FailsAs MayCome (in_force_due there) c.in_err-judge.field-0.0) made there.2))
     c.from_residual-in_err-judge.ensures.1)
 
 pub returns-in_err-text-clause-due : goal.returns-in_err-text-clause-due
@@ -43,7 +43,7 @@ returns-clause-due c =
     let bytes = text_bytes c.making.inside.start size in
     subst (λ (asked : StartAndSize). GivesDue MayCome printed_by (make_due asked) result)
     c.making.view_is (gives-then MayCome _ printed_by result
-    (subst (λ there. dictionary_due there ≡ Ok c.in_ok-judge.judge) made there.2)
+    (subst (λ there. in_force_due there ≡ Ok c.in_ok-judge.judge) made there.2)
     (gives-then MayCome _ printed_by result
     (bytes-made bytes c.in_ok-text.text.items c.in_ok-text.ensures.bytes (omega arith))
     (subst (λ document. GivesDue MayCome printed_by

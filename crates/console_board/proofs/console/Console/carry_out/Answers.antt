@@ -19,17 +19,17 @@ answer-requires g c =
     }
 
 pub returns-in-None-clause-does : goal.returns-in-None-clause-does
-returns-in-None-clause-does g c told =
+returns-in-None-clause-does g c =
     let board = c.args.self.now.board in
-    no-event-does told 0 board (board_after board c.no_place.result.next) c.no_place.result.reply
+    no-event-does 0 board (board_after board c.no_place.result.next) c.no_place.result.reply
     c.args.command c.requires.named (sym c.in-None.ensures.event)
     c.no_place.ensures.place (ap (board_after board) c.no_place.ensures.stays)
 
 pub returns-in-Some-clause-does : goal.returns-in-Some-clause-does
-returns-in-Some-clause-does g c told =
+returns-in-Some-clause-does g c =
     let board = c.args.self.now.board in
     if-ok c.answer.result
-    (λ response. event-does told 0 board (board_after board response.next) response.reply
+    (λ response. event-does 0 board (board_after board response.next) response.reply
     c.ids_name_paragraphs.ensures.place c.board_is_valid.ensures
     c.args.command (event_of g.J.Judge.lexicon c.in-Some.event) c.in-Some.ensures.whole
     (sym c.in-Some.ensures.event))

@@ -4,13 +4,12 @@ use Rattle.std.proofs.lemmas.Result.{err_from_is_err_and}
 use Rattle.console_lang.specs.Commands.{IsAnswer}
 use Rattle.console_lang.specs.declared.reply.Reply.TheVariants.{NoCommand}
 use Rattle.input_lines.specs.Answers.{AnswersLine}
-use Rattle.console_board.specs.Boards.{console_of}
 use Rattle.console_board.specs.Starts.{replied-none}
 use Rattle.console_board.specs.Transcripts.{line_says, quits}
 use Rattle.console_board.proofs.LineLemmas.{asked-line, idle-replied, line-replied, nothing-replied}
 use Rattle.console_board.proofs.LineLemmas.{one-left, one-taken, other-goes-on, replied-more}
 use Rattle.console_board.proofs.LineLemmas.{whole-text}
-use Rattle.console_board.proofs.responding.ConsoleSpellerResponder.answer.Goals as goal
+use Rattle.console_board.proofs.responding.OwnConsoleResponder.answer.Goals as goal
 
 pub reply-requires : goal.reply-requires
 reply-requires g c =
@@ -18,7 +17,7 @@ reply-requires g c =
       asked = c.if-is_quit.ensures.other;
       whole = whole-text c.commands_have_their_lines.ensures.lines c.args.line.now c.requires.whole
           says;
-      room = one-left c.args.self.now.board c.requires.room;
+      room = one-left c.args.self.now.console.board c.requires.room;
     }
 
 pub returns-in_err-reply-in-Ok-Some : goal.returns-in_err-reply-in-Ok-Some
@@ -26,9 +25,9 @@ unfolding AnswersLine
 returns-in_err-reply-in-Ok-Some g c =
     let wanting = c.in_err-reply-in-Ok-Some.ensures in
     let exit = err_from_is_err_and c.from_residual.result c.from_residual.ensures.1 in
-    let stays = nothing-replied wanting.same wanting.count (ap console_of wanting.kept) in record {
+    let stays = nothing-replied wanting.same wanting.count wanting.kept in record {
       answers = rw exit.1 (wanting.silent, λ _ _ _ _ led. replied-more stays led);
-      room = one-taken c.args.self.now.board c.reply.new.self.board wanting.room;
+      room = one-taken c.args.self.now.console.board c.reply.new.self.console.board wanting.room;
     }
 
 pub returns-in_ok-reply-in-Ok-Some : goal.returns-in_ok-reply-in-Ok-Some
@@ -42,7 +41,7 @@ returns-in_ok-reply-in-Ok-Some g c =
         ap quits says ∙ other-goes-on c.in-Ok-Some.command c.if-is_quit.ensures.other,
         (_, replied.replied.text_is, λ _ _ _ _ led. replied-more done led),
       );
-      room = one-taken c.args.self.now.board c.reply.new.self.board replied.room;
+      room = one-taken c.args.self.now.console.board c.reply.new.self.console.board replied.room;
     }
 
 pub returns-in-Ok-None-clause-answers : goal.returns-in-Ok-None-clause-answers
