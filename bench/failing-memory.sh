@@ -1,9 +1,10 @@
 #!/usr/bin/env bash
 # Makes each allocation of `check` fail in turn, until a run has none that fails: on the sample's dictionary, on one with
 # aliases, classes and a twofold suffix, on one with ICONV, IGNORE and BREAK, on one with compounds by flags and by rules, and
-# on one that is refused in its last line. And each allocation of `edit` in two dialogues: one with edits, a paragraph that is
-# stopped and asked for, and marks that are shown; and one in which a dictionary is loaded, and another one is refused. And each
-# of a test of desks, which says itself whether it passes. Prints what the runs ended with and how often, and ends with status 1 if one of them ended otherwise than as the run without a failing
+# on one that is refused in its last line. And each allocation of `edit` in three dialogues: one with edits, a paragraph that is
+# stopped and asked for, and marks that are shown; one in which a dictionary is loaded, and another one is refused; and one by a
+# personal list, to which words are added. And each of a test of desks, which says itself whether it passes. Prints what the runs
+# ended with and how often, and ends with status 1 if one of them ended otherwise than as the run without a failing
 # allocation, or with status 7 and `memory`: alone, or behind whole first replies of a dialogue. Needs gcc.
 set -euo pipefail
 top=$(cd "$(dirname "$0")/.." && pwd)
@@ -160,6 +161,21 @@ load c.aff b.dic
 show
 LINES
 
+# A dialogue by a personal list, to which words are added, and which is kept for the next dictionary.
+mkdir "$work/personal"
+cp "$work/loads/"*.aff "$work/loads/"*.dic "$work/personal"
+printf 'wurk\n*hello\n' > "$work/personal/words"
+cat > "$work/personal/lines" <<'LINES'
+ins 1 hello wurk rejig
+own jig/work
+own *
+settle
+show
+load b.aff b.dic
+settle
+show
+LINES
+
 # The launcher builds the program where it is missing. The sample with this text has one mark, which is status 1.
 "$top/affedit" check "$work/sample/a.aff" "$work/sample/a.dic" "$work/sample/text" > /dev/null || [ $? -eq 1 ]
 program=$top/out/affedit
@@ -170,6 +186,9 @@ ending() {
     if [ -e "$1/lines" ]; then
         words=(edit a.aff a.dic)
         input=lines
+    fi
+    if [ -e "$1/words" ]; then
+        words+=(--own words)
     fi
     (cd "$1" && LD_PRELOAD=$work/fail.so "$program" "${words[@]}" < "$input" > "$work/out" 2> "$work/told") || status=$?
     echo "status $status: $(tr '\n' '|' < "$work/out")"
@@ -184,7 +203,7 @@ wanting() {
 }
 
 wrong=0
-for name in sample affixes conversions compounds refused edits loads; do
+for name in sample affixes conversions compounds refused edits loads personal; do
     : > "$work/seen"
     whole=$(FAIL_ALLOCATION=0 ending "$work/$name")
     { echo "$whole"; wanting "$work/$name"; } > "$work/allowed"
