@@ -39,6 +39,20 @@ block "$dialogue" > "$work/block"
 [ -s "$work/block" ] || { echo 'README.md has no block behind the dialogue'; failed=1; }
 expect 'a dialogue' 0 bash -c "$dialogue" < "$work/block"
 
+# The personal list that README.md shows.
+grep -qF './affedit check examples/sample.aff examples/sample.dic examples/sample.txt --own words' README.md || { echo 'README.md shows no personal list'; failed=1; }
+echo citys > "$work/words"
+expect 'a personal list' 0 ./affedit check examples/sample.aff examples/sample.dic examples/sample.txt --own "$work/words" <<< '0 of 15'
+
+# What the linter tells of one.
+printf 'citys\n*\n' > "$work/words"
+expect 'a bad personal list' 1 tools/lint-dictionary examples/sample.aff examples/sample.dic "$work/words" << TOLD
+$work/words:2: EmptyWord
+    the line:    *
+    a bad line:  \`*\`; \`word/\`; with \`IGNORE -\`, \`--\`
+    mended:      \`*word\`; \`word/model\` or \`word\`; the line left out
+TOLD
+
 # The block of docs/LIBRARY.md behind the example's name, and what the example prints.
 awk '/^`examples\/two-writers`/ { found = 1 } found && /^    / { print substr($0, 5) }' docs/LIBRARY.md > "$work/block"
 [ -s "$work/block" ] || { echo 'docs/LIBRARY.md has no block behind the example'; failed=1; }
