@@ -1,6 +1,7 @@
 -- One paragraph of a board is settled after another.
 use Rattle.std.proofs.Common.{◌≡◌, ◌∙◌, refl, sym, ap, subst, ℕ, ◌+◌, ◌<◌, ◌≤◌, true, false}
 use Rattle.std.proofs.Common.{List, [], ◌∷◌, ◌++◌, length, slice_get, Some, arith, inl, inr}
+use Rattle.std.proofs.Common.{Result, Ok, Err, IfErr}
 use Rattle.std.proofs.Common.{append_assoc}
 use Rattle.std.proofs.lemmas.Bool.{cases_lt}
 use Rattle.std.proofs.lemmas.List.{append-nil}
@@ -11,8 +12,11 @@ use Rattle.edit_core.specs.Seen.{Seen}
 use Rattle.edit_core.specs.Steps.{is_open}
 use Rattle.edit_core.specs.declared.state.Standing.{Standing}
 use Rattle.board_share.specs.Eyes.{EyeSeen, IsLater, last_of}
+use Rattle.board_share.specs.declared.claim.ClaimFault.{ClaimFault}
+use Rattle.board_share.specs.declared.claim.ClaimFault.TheVariants as fault
 use Rattle.check_workers.specs.Settled.{AreClosedIn, IsClosedAt, IsClosedIn, IsSettled}
-use Rattle.check_workers.specs.Settled.{IsSettledFrom, is_open_for}
+use Rattle.check_workers.specs.Settled.{HasOpen, IsBoardFault, IsSettledFrom, is_open_for}
+use Rattle.check_workers.specs.Ends.{IsCutShort}
 use Rattle.check_workers.proofs.Prefixes.{prefix-self, prefix-trans}
 
 -- what was open on a board at one of so many first places is closed behind what the eye knew
@@ -147,3 +151,10 @@ settled-since old seen middle new board first is so-far later =
           closed-longer so-far.behind later.begins.0
           (so-far.settled place paragraph stands at beside free));
     }
+
+-- ---- where not all could be settled
+pub spent-over : (board now : Seen) (answer : Result (Unit {0}) ClaimFault) → HasOpen board
+    → IfErr answer (IsCutShort now) → IfErr answer (IsBoardFault board now)
+spent-over board now (Ok done) had short = tt
+spent-over board now (Err (fault.Spent point)) had short = record { last = short; had = had }
+spent-over board now (Err fault.NoMemory) had short = tt

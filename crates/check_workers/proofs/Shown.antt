@@ -1,5 +1,5 @@
 -- How a paragraph stands, by what a board shows of it.
-use Rattle.std.proofs.Common.{◌≡◌, ◌∙◌, refl, sym, ap, ℕ, zero, suc, ◌+◌, ◌==◌, Bool, List, [], ◌∷◌}
+use Rattle.std.proofs.Common.{◌≡◌, ◌∙◌, refl, sym, ap, ℕ, zero, suc, ◌+◌, ◌==◌, Bool, true, List, [], ◌∷◌}
 use Rattle.std.proofs.Common.{slice_get, Option, None, Some}
 use Rattle.std.specs.Option.{option_map_or}
 use Rattle.std.proofs.lemmas.Option.{cond_some, same_Some}
@@ -14,6 +14,7 @@ use Rattle.edit_core.specs.declared.state.Standing.TheVariants as standing
 use Rattle.edit_core.specs.declared.view.ParaView.{ParaView}
 use Rattle.board_share.specs.declared.claim.Claim.{Claim}
 use Rattle.check_workers.specs.Ends.{why_for, why_of}
+use Rattle.check_workers.specs.Settled.{HasOpen}
 use Rattle.check_workers.specs.Showing.{is_open_in, is_parked_in}
 use Rattle.check_workers.specs.declared.ends.Why.{Why}
 use Rattle.check_workers.specs.declared.ends.Why.TheVariants.{Gone}
@@ -90,3 +91,11 @@ pub open-shown : (board : Seen) (place : ℕ) (shown : ShownMarks) (stands : Sta
 open-shown board place shown stands at beside =
     let kept = stands-as board 1 board.standings place shown at in
     kept.free ∙ ap is_open (same_Some kept.stands stands (sym kept.at ∙ beside))
+
+-- a paragraph that is shown as open is open
+pub has-open : (board : Seen) (place : ℕ) (shown : ShownMarks)
+    → slice_get (view_of board).shown place ≡ Some shown → is_open_in shown ≡ true
+    → HasOpen board
+has-open board place shown at free =
+    let kept = stands-as board 1 board.standings place shown at in
+    record { place = place; stands = kept.stands; at = kept.at; free = sym kept.free ∙ free }

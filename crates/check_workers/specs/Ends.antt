@@ -1,11 +1,13 @@
 -- Why the check of a claim stops, and why a worker does.
-use Rattle.std.specs.Prelude.{◌≡◌, ℕ, ◌^◌, Bool, ◌==◌, if◌then◌else◌, Option, None, Some}
+use Rattle.std.specs.Prelude.{◌≡◌, ℕ, ◌<◌, ◌^◌, ◌⊎◌, Bool, ◌==◌, if◌then◌else◌, Option, None, Some}
 use Rattle.std.specs.Option.{option_map_or}
 use Rattle.edit_core.specs.Seen.{Seen}
 use Rattle.edit_core.specs.Steps.{found}
 use Rattle.edit_core.specs.Views.{is_parked}
 use Rattle.edit_core.specs.declared.refusal.Refusal.{Refusal}
 use Rattle.edit_core.specs.declared.refusal.Refusal.TheVariants as refusal
+use Rattle.board_share.specs.Events.{IsSpent}
+use Rattle.board_share.specs.Eyes.{EyeSeen, last_of}
 use Rattle.board_share.specs.declared.claim.Claim.{Claim}
 use Rattle.board_share.specs.declared.claim.ClaimFault.{ClaimFault}
 use Rattle.board_share.specs.declared.claim.ClaimFault.TheVariants as fault
@@ -57,8 +59,22 @@ pub record IsPassedOver (told : Refusal) : Type 0 where
   pub spent : (point : ℕ) → ¬ (told ≡ refusal.Spent point)
   pub wanting : ¬ (told ≡ refusal.NoMemory)
 
--- why a worker ends: a note is found in the bell, or no event may come
-abbrev pub IsWorkEnd : {T : Type 0} → Seen → WorkEnd T → Type 0
-IsWorkEnd board (work.Closed note) = Unit {0}
-IsWorkEnd board (work.Spent point) = IsLastPoint board point
-IsWorkEnd board work.NoMemory = Unit {0}
+-- ---- what a worker's turns end with
+
+-- An event of the worker's may not come any more: a claim of a paragraph that waits, or, behind a
+-- claim or a finish that was counted, another event.
+abbrev pub IsSpentWorking : (old new : EyeSeen) → (point : ℕ) → Type 0
+IsSpentWorking old new point =
+    IsSpent (last_of new.run) point
+    ⊎ (IsLastPoint (last_of new.run) point × (old.counts.checks < new.counts.checks))
+
+-- why a turn of a worker fails
+abbrev pub IsTurnFault : EyeSeen → EyeSeen → ClaimFault → Type 0
+IsTurnFault old new (fault.Spent point) = IsSpentWorking old new point
+IsTurnFault old new fault.NoMemory = Unit {0}
+
+-- why a worker ends: a note is found in the bell, or an event of its own may not come any more
+abbrev pub IsWorkEnd : {T : Type 0} → EyeSeen → EyeSeen → WorkEnd T → Type 0
+IsWorkEnd old new (work.Closed note) = Unit {0}
+IsWorkEnd old new (work.Spent point) = IsSpentWorking old new point
+IsWorkEnd old new work.NoMemory = Unit {0}

@@ -1,5 +1,9 @@
 //! What workers wait at where nothing waits for them.
 
+ghost use Rattle.std.specs.Prelude.{◌≡◌, ◌==◌, ◌&&◌, Some, is_some, not};
+ghost use Rattle.std.specs.Option.{option_or};
+ghost use Rattle.check_workers.specs.Bells.{IsHeard};
+
 use lists::NoMemory;
 use std::alloc::Global;
 use std::sync::{Arc, Condvar, Mutex, Wait};
@@ -72,17 +76,28 @@ impl<T: Drop + Send + Sync> Bell<T> {
 }
 
 impl<T: Drop> Rings<T> {
-    fn ring(&mut self) {
+    /// Counts a ring, whose number is not the one before.
+    fn ring(&mut self)
+        ensures rung { ¬ (self.new.count ≡ self.old.count) }
+        ensures note { self.new.note ≡ self.old.note }
+    {
         self.count = self.count.wrapping_add(1);
     }
 
-    fn close(&mut self, note: Arc<T>) {
+    /// Leaves a note, where there is none.
+    fn close(&mut self, note: Arc<T>)
+        ensures note { self.new.note ≡ option_or self.old.note (Some note) }
+        ensures count { self.new.count ≡ self.old.count }
+    {
         if self.note.is_none() {
             self.note = Some(note);
         }
     }
 
-    fn heard(&self) -> Heard<T> {
+    /// What has happened so far.
+    fn heard(&self) -> Heard<T>
+        ensures { IsHeard self.now result }
+    {
         let Some(note) = &self.note else {
             return Heard::Open { count: self.count };
         };
@@ -93,7 +108,9 @@ impl<T: Drop> Rings<T> {
     }
 
     /// Whether nothing has happened behind so many rings.
-    fn is_as_heard(&self, count: u64) -> bool {
+    fn is_as_heard(&self, count: u64) -> bool
+        ensures { result ≡ (not (is_some self.now.note) && (self.now.count == count)) }
+    {
         self.note.is_none() && self.count == count
     }
 }

@@ -53,6 +53,6 @@ pub enum WorkEnd<T> {
     Closed { note: Arc<T> },
     /// The history has come to its last point, which is this one: 2^62.
     Spent { point: u64 },
-    /// Memory for a claim, for its check or for the note could not be had.
+    /// Memory for a claim, for its check, for a finish or for the note could not be had.
     NoMemory,
 }

@@ -5,9 +5,9 @@ ghost use Rattle.std.specs.Arc.{arc_value};
 ghost use Rattle.edit_core.specs.Runs.{Run};
 ghost use Rattle.edit_core.specs.Views.{Shows, shown_in};
 ghost use Rattle.board_share.specs.Eyes.{IsLater, last_of};
-ghost use Rattle.check_workers.specs.Ends.{IsCutShort};
 ghost use Rattle.check_workers.specs.Knowing.{CountsChecks, KnowsBoard, KnowsClaim};
-ghost use Rattle.check_workers.specs.Settled.{IsClosedAt, IsSettled, IsSettledFrom, told_at};
+ghost use Rattle.check_workers.specs.Settled.{IsBoardFault, IsClosedAt, IsSettleFault, IsSettled};
+ghost use Rattle.check_workers.specs.Settled.{IsSettledFrom, told_at};
 ghost use Rattle.check_workers.specs.Showing.{is_open_in};
 
 use crate::finishing::finish_if_wanted;
@@ -33,7 +33,7 @@ pub fn settle<J: Judge + Drop, D: Naming, W: Wait + Drop>(
     ensures counts { CountsChecks eye.old eye.new }
     ensures settled { OnOk result (IsSettled eye.old eye.new) }
     ensures told { IfOk result (λ told. told ≡ told_at (last_of eye.new.run)) }
-    ensures short { IfErr result (IsCutShort (last_of eye.new.run)) }
+    ensures short { IfErr result (IsSettleFault eye.old eye.new) }
 {
     let board = eye.look()?;
     settle_board(rt, alloc, desk, eye, &board)?;
@@ -58,7 +58,7 @@ fn settle_board<J: Judge + Drop, D: Naming, W: Wait + Drop>(
     ensures later { IsLater eye.old eye.new }
     ensures counts { CountsChecks eye.old eye.new }
     ensures settled { OnOk result (IsSettledFrom board.now eye.old eye.new) }
-    ensures short { IfErr result (IsCutShort (last_of eye.new.run)) }
+    ensures short { IfErr result (IsBoardFault board.now (last_of eye.new.run)) }
 {
     for place in 0..board.versions().paragraphs as usize {
         settle_place(rt, alloc, desk, eye, board, place)?;
@@ -79,7 +79,7 @@ fn settle_place<J: Judge + Drop, D: Naming, W: Wait + Drop>(
     ensures later { IsLater eye.old eye.new }
     ensures counts { CountsChecks eye.old eye.new }
     ensures closed { OnOk result (IsClosedAt board.now place (last_of eye.new.run)) }
-    ensures short { IfErr result (IsCutShort (last_of eye.new.run)) }
+    ensures short { IfErr result (IsBoardFault board.now (last_of eye.new.run)) }
 {
     let Some(view) = board.para(place) else {
         return Ok(());

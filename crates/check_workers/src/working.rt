@@ -1,8 +1,8 @@
 //! A worker that goes on until its bell is closed.
 
 ghost use Rattle.std.specs.Prelude.{◌≡◌, IfErr};
-ghost use Rattle.board_share.specs.Eyes.{IsLater, last_of};
-ghost use Rattle.check_workers.specs.Ends.{IsCutShort, IsWorkEnd};
+ghost use Rattle.board_share.specs.Eyes.{IsLater};
+ghost use Rattle.check_workers.specs.Ends.{IsTurnFault, IsWorkEnd};
 ghost use Rattle.check_workers.specs.Knowing.{CountsChecks};
 
 use crate::bell::{Bell, Heard};
@@ -36,7 +36,7 @@ impl<J: Judge + Drop, D: Naming, R: Wait + Drop> Worker<'_, J, D, Desk<J, D, R>>
         ensures number { self.new.number ≡ self.old.number }
         ensures later { IsLater self.old.eye self.new.eye }
         ensures counts { CountsChecks self.old.eye self.new.eye }
-        ensures end { IsWorkEnd (last_of self.new.eye.run) result }
+        ensures end { IsWorkEnd self.old.eye self.new.eye result }
     {
         for _ in rt.forever() {
             let count = match bell.hear(rt) {
@@ -59,7 +59,7 @@ impl<J: Judge + Drop, D: Naming, R: Wait + Drop> Worker<'_, J, D, Desk<J, D, R>>
         ensures number { self.new.number ≡ self.old.number }
         ensures later { IsLater self.old.eye self.new.eye }
         ensures counts { CountsChecks self.old.eye self.new.eye }
-        ensures short { IfErr result (IsCutShort (last_of self.new.eye.run)) }
+        ensures short { IfErr result (IsTurnFault self.old.eye self.new.eye) }
     {
         let Some(claim) = self.claim(rt, alloc)? else {
             return Ok(Turn::Idle);
