@@ -18,7 +18,7 @@ use paragraph_text::Edit;
 use std::alloc::Global;
 use std::sync::{Arc, Wait};
 
-/// How many edits and how many dictionaries of a session were published.
+/// How many edits and how many dictionaries were published through a session's eye.
 #[derive(Clone, Copy, Debug, PartialEq, Eq)]
 pub struct Made {
     pub edits: u64,
