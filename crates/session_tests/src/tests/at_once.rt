@@ -42,21 +42,24 @@ fn load_all<J: Judge + Drop, D: Naming, W: Wait + Drop, R: Wait>(
     Some(last)
 }
 
-/// Parks the first paragraph and asks for its check again, where there is one.
+/// Parks the first paragraph and asks for its check again, each time, and sees no version fall.
 fn park_all<J: Judge + Drop, D: Naming, W: Wait + Drop, R: Wait>(
     rt: &R,
     alloc: Global,
     session: &mut Own<'_, J, D, W>,
 ) -> Option<(u64, u64)> {
+    let mut last = (0, 0);
     for _ in 0..EACH {
         let board = session.look().ok()?;
-        if let Some(view) = board.para(0) {
-            session.park(rt, alloc, view.id).ok()?;
-            session.ask(rt, alloc, view.id).ok()?;
+        let id = board.para(0)?.id;
+        session.park(rt, alloc, id).ok()?;
+        let told = session.ask(rt, alloc, id).ok()?;
+        if told.text < last.0 || told.dict < last.1 {
+            return None;
         }
+        last = (told.text, told.dict);
     }
-    let progress = session.progress();
-    Some((progress.text, progress.dict))
+    Some(last)
 }
 
 /// Looks, and sees no version fall.
@@ -152,25 +155,45 @@ fn assert_at_once<
     let mut seats = seats_of(alloc, eyes)?;
     act_at_once(rt, alloc, &desk, judge, &mut seats);
     assert_seats(rt, &seats)?;
+    let greatest = greatest_told(&seats);
     let closed = closed(rt, alloc, desk, eyes_of(alloc, seats)?)?;
     assert_eq!(rt; (closed.edits(), closed.loads()), (100, 50));
+    assert_eq!(rt; greatest, (closed.edits(), closed.loads()));
     let versions = closed.board().versions();
     assert_eq!(rt;
         (versions.text, versions.dict, versions.paragraphs),
-        (100, 50, 100)
+        (100, 50, 101)
     );
     Ok(())
 }
 
-/// Each thread did all, and was told no more than the whole history has.
+/// The greatest text version and dictionary version that a session was told of its own events.
+fn greatest_told<J: Judge + Drop, D: Naming>(seats: &[Seat<J, D>]) -> (u64, u64) {
+    let mut greatest = (0, 0);
+    for (place, seat) in seats.iter().enumerate() {
+        // The last one only looks.
+        if place < 4 {
+            greatest = (seat.last.0.max(greatest.0), seat.last.1.max(greatest.1));
+        }
+    }
+    greatest
+}
+
+/// Each thread did all, and was told no more than the whole history has. One parked and asked, so
+/// often each, and the others never.
 fn assert_seats<J: Judge + Drop, D: Naming>(
     rt: &impl Abort,
     seats: &[Seat<J, D>],
 ) -> Result<(), Fail> {
     let mut made = Made { edits: 0, loads: 0 };
-    for seat in seats {
+    for (place, seat) in seats.iter().enumerate() {
         assert!(rt; seat.is_done);
         assert!(rt; seat.last.0 <= 100 && seat.last.1 <= 50);
+        let [eye] = seat.eyes.as_slice() else {
+            return Err("one eye")?;
+        };
+        let asks = if place == 3 { 100 } else { 0 };
+        assert_eq!(rt; eye.counts().asks, asks);
         made.edits = made.edits.wrapping_add(seat.made.edits);
         made.loads = made.loads.wrapping_add(seat.made.loads);
     }
@@ -188,6 +211,6 @@ fn assert_seats<J: Judge + Drop, D: Naming>(
 fn five_sessions_at_once(rt: HostRuntime) -> Result<(), Fail> {
     let alloc = rt.alloc();
     let judge = speller_of(alloc)?;
-    let opening = opening_of(alloc, Arc::try_clone(&judge)?, &[])?;
+    let opening = opening_of(alloc, Arc::try_clone(&judge)?, &["hello"])?;
     assert_at_once::<_, Brand, _>(&rt, alloc, opening, &judge, Blank::new(5))
 }
