@@ -1,5 +1,6 @@
 //! The tests, a file for each part.
 
+mod before;
 mod bells;
 mod caches;
 mod desks;
