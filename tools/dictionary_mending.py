@@ -192,7 +192,8 @@ class Flags:
         self.kind, self.changes = kind, changes
         # How many rows AF has, or None.
         self.aliases = None
-        self.used, self.renamed = set(), {}
+        # The flags of both files, those of the .aff file alone, and new names of those that the type cannot have.
+        self.used, self.known, self.renamed = set(), set(), {}
         self.sets = {}
 
     def collect(self, aff, dic):
@@ -206,7 +207,8 @@ class Flags:
                 if sort == 'rule':
                     self.collect_rule(line.text[start:end], bad)
                 elif sort != 'set' or self.aliases is None:
-                    self.used.update(grammar.flags_of(line.text[start:end], self.kind))
+                    self.known.update(grammar.flags_of(line.text[start:end], self.kind))
+        self.used.update(self.known, self.passed_over(aff))
         if self.aliases is None:
             fields = set()
             for line in dic[1:]:
@@ -220,10 +222,17 @@ class Flags:
         free = grammar.free_flags(self.used | set(bad), self.kind)
         self.renamed = {flag: next(free) for flag in bad}
 
+    def passed_over(self, aff):
+        """The flags of options that are passed over, which no other flag may take."""
+        for line in aff:
+            words = line.text.split()
+            if len(words) > 1 and words[0] in grammar.FLAGS_PASSED_OVER:
+                yield from grammar.flags_of(words[1], self.kind)
+
     def collect_rule(self, text, bad):
         for start, end, in_parentheses in grammar.rule_flags(text, self.kind) or ():
             flag = text[start:end]
-            self.used.update(grammar.flags_of(flag, self.kind))
+            self.known.update(grammar.flags_of(flag, self.kind))
             if not in_parentheses and flag in '()':
                 bad[flag] = None
 
@@ -309,7 +318,7 @@ class Losses:
     def take(self, line, what, effect):
         """Whether a line may be left out, with what that means for words."""
         if not self.lossy:
-            self.reasons.append((line.number, f'{what} cannot be judged: without it {effect}'))
+            self.reasons.append((line.number, f'{what} is not judged: without it {effect}'))
             return False
         self.changes.add('aff', line.number, f'{what} left out: {effect}')
         self.dropped.append(f'{what} ({effect})')
@@ -385,7 +394,7 @@ class AffMending:
         if before[0] is not line:
             if before[1] == fields[1]:
                 self.drop(line, f'{name} left out: it says what line {before[0].number} says')
-            elif self.losses.take(line, name, f'line {before[0].number} counts, which says otherwise'):
+            elif self.losses.take(line, name, f'line {before[0].number} counts, which has another value'):
                 self.drop(line, None)
             return
         value = self.value_of(line, name, fields[1])
@@ -460,7 +469,7 @@ class AffMending:
         text = line.text[start:end]
         flags = grammar.rule_flags(text, self.flags.kind)
         if flags is None:
-            if self.losses.take(line, f'the compound rule `{shown(text)}`', 'compounds of that rule alone are marked'):
+            if self.losses.take(line, f'the compound rule `{shown(text)}`, which is none of hunspell(5),', 'compounds of that rule alone are marked'):
                 self.drop(line, None)
             return False
         for first, last, _ in flags:
@@ -670,10 +679,16 @@ class Shrinking:
         if self.flags.aliases is not None:
             return
         counts = {}
-        for line, start, end in self.places_of_flags():
+        for line, start, end in list(self.places_of_flags()):
             text = line.text[start:end]
-            counts[text] = counts.get(text, 0) + 1
-        if len(counts) > grammar.ROWS_MOST or any(' ' in text or '\t' in text for text in counts):
+            if ' ' in text:
+                # Flags that the .aff file has not change nothing.
+                flags = grammar.flags_of(text, self.flags.kind)
+                text = grammar.join_flags([flag for flag in flags if flag in self.flags.known], self.flags.kind)
+                line.text = (line.text[:start] + text if text else line.text[:start - 1]) + line.text[end:]
+            if text:
+                counts[text] = counts.get(text, 0) + 1
+        if len(counts) > grammar.ROWS_MOST or any(' ' in text for text in counts):
             return
         rows = sorted(counts, key=lambda text: (-counts[text], text))
         numbers = {text: str(number) for number, text in enumerate(rows, 1)}
