@@ -136,6 +136,13 @@ def is_flag(text, kind):
     return len(text) == (2 if kind == 'long' else 1)
 
 
+def is_value(text, name, kind):
+    """Whether a text is a value of an option with a flag or a number, or of FLAG."""
+    if name in FLAG_OPTIONS:
+        return is_flag(text, kind)
+    return is_decimal(text) if name in NUMBER_OPTIONS else text.upper() in ('UTF-8', 'LONG', 'NUM')
+
+
 def flags_of(text, kind):
     """The flags of a flag field, as hunspell reads them: what stands behind the digits of a number is none of it."""
     if kind == 'num':
@@ -151,11 +158,8 @@ def join_flags(flags, kind):
 
 
 def flag_kind(value):
-    """The type of flags that a line FLAG names, which may have something behind it; None if there is no such type."""
-    for name, kind in (('UTF-8', 'char'), ('LONG', 'long'), ('NUM', 'num')):
-        if value.upper().startswith(name):
-            return kind
-    return None
+    """The type of flags that a line FLAG names, before a comment; None if there is no such type."""
+    return {'UTF-8': 'char', 'LONG': 'long', 'NUM': 'num'}.get(value.upper().split('#')[0])
 
 
 def free_flags(used, kind):

@@ -10,6 +10,7 @@ MARK = b'\xef\xbb\xbf'
 SET_LINE = re.compile(rb'^[ \t]*SET[ \t]+([^ \t\r\n]+)', re.MULTILINE)
 FLAG_LINE = re.compile(rb'^[ \t]*FLAG[ \t]', re.MULTILINE)
 ADDRESS = re.compile(r'[a-z]+://')
+RULE_EFFECT = 'compounds of that rule alone are marked'
 COUNT = re.compile(r'([0-9]+)(#.*)?')
 
 
@@ -98,6 +99,9 @@ class Decoding:
     def __init__(self, aff, dic, changes):
         self.files = {'aff': aff.removeprefix(MARK), 'dic': dic.removeprefix(MARK)}
         self.changes = changes
+        for file, data in (('aff', aff), ('dic', dic)):
+            if data.startswith(MARK):
+                changes.add(file, 1, 'a byte order mark left out')
         found = SET_LINE.search(self.files['aff'])
         self.name = found.group(1).decode('latin-1') if found else None
         if self.name is None:
@@ -246,10 +250,6 @@ class Flags:
 
     def one(self, file, number, text):
         """The one flag that a text stands for, mended; None where it stands for none."""
-        front = text.split('#')[0]
-        if not grammar.is_flag(text, self.kind) and grammar.is_flag(front, self.kind):
-            self.changes.add(file, number, 'a comment behind a flag dropped', 'comment')
-            text = front
         flags = grammar.flags_of(text, self.kind)
         if not flags:
             return None
@@ -315,10 +315,10 @@ class Losses:
         self.lossy, self.changes = lossy, changes
         self.reasons, self.dropped = [], []
 
-    def take(self, line, what, effect):
+    def take(self, line, what, why, effect):
         """Whether a line may be left out, with what that means for words."""
         if not self.lossy:
-            self.reasons.append((line.number, f'{what} is not judged: without it {effect}'))
+            self.reasons.append((line.number, f'{what} {why}: without it {effect}'))
             return False
         self.changes.add('aff', line.number, f'{what} left out: {effect}')
         self.dropped.append(f'{what} ({effect})')
@@ -331,7 +331,9 @@ class AffMending:
     def __init__(self, lines, flags, changes, losses):
         self.lines, self.flags, self.changes, self.losses = lines, flags, changes, losses
         self.roles = list(roles_of(lines))
-        self.values, self.edits, self.before, self.gone = {}, {}, {}, set()
+        self.values, self.edits, self.before = {}, {}, {}
+        # Lines that are left out, and those that end at a comment.
+        self.gone, self.cut = set(), set()
 
     def told(self, line, message, key=None):
         self.changes.add('aff', line.number, message, key)
@@ -381,7 +383,7 @@ class AffMending:
         has_most = any(name == 'COMPOUNDWORDMAX' for _, name, _, _, _ in self.roles)
         if name != 'COMPLEXPREFIXES' and not has_most:
             self.drop(line, f'{name} left out: it changes nothing without COMPOUNDWORDMAX')
-        elif self.losses.take(line, name, grammar.LEFT_OUT[name]):
+        elif self.losses.take(line, name, 'is not judged', grammar.LEFT_OUT[name]):
             self.drop(line, None)
 
     def mend_option(self, line, name, spans, fields):
@@ -390,18 +392,36 @@ class AffMending:
             self.drop(line, f'{name} left out: nothing stands behind it')
             return
         option = grammar.ONE_OPTION.get(name, name)
-        before = self.values.setdefault(option, (line, fields[1]))
-        if before[0] is not line:
+        before = self.values.get(option)
+        if before:
+            number = before[0].number
             if before[1] == fields[1]:
-                self.drop(line, f'{name} left out: it says what line {before[0].number} says')
-            elif self.losses.take(line, name, f'line {before[0].number} counts, which has another value'):
+                self.drop(line, f'{name} left out: it says what line {number} says')
+            elif self.losses.take(line, name, f'has another value than line {number}', f'line {number} counts'):
                 self.drop(line, None)
             return
-        value = self.value_of(line, name, fields[1])
+        value = self.value_of(line, name, self.without_comment(line, name, spans[1], fields[1]))
         if value is None:
             self.drop(line, f'{name} left out: `{shown(fields[1])}` is nothing that it may have')
         else:
-            self.edit(line, *spans[1], value)
+            self.edit(line, spans[1][0], spans[1][0] + len(fields[1].split('#')[0]) if line in self.cut else spans[1][1], value)
+            self.values[option] = line, fields[1]
+
+    def without_comment(self, line, name, span, text):
+        """A text without the comment that stands directly behind it, where the text is nothing with it; the line ends there then."""
+        front = text.split('#')[0]
+        if name in grammar.TEXT_OPTIONS or name == 'SET' or grammar.is_value(text, name, self.flags.kind):
+            return text
+        if not grammar.is_value(front, name, self.flags.kind):
+            return text
+        self.cut_comment(line, span[0] + len(front))
+        return front
+
+    def cut_comment(self, line, start):
+        """Ends a line at START, where a comment begins."""
+        self.told(line, 'a comment behind a field dropped', 'comment')
+        self.cut.add(line)
+        self.edit(line, start, len(line.text), '')
 
     def value_of(self, line, name, text):
         """The value that a text stands for, or None."""
@@ -411,7 +431,7 @@ class AffMending:
                 return 'UTF-8'
             return text
         if name == 'FLAG':
-            return self.type_of(line, text)
+            return text if grammar.flag_kind(text) else None
         if name in grammar.FLAG_OPTIONS:
             return self.flags.one('aff', line.number, text)
         if name in grammar.NUMBER_OPTIONS and not grammar.is_decimal(text):
@@ -419,16 +439,6 @@ class AffMending:
             if found:
                 self.told(line, f'text behind the number of {name} dropped: `{shown(text)}`')
             return found and found.group()
-        return text
-
-    def type_of(self, line, text):
-        """The type of flags, by its whole name."""
-        if grammar.flag_kind(text) is None:
-            return None
-        for name in ('UTF-8', 'long', 'num'):
-            if text.upper().startswith(name.upper()) and len(text) > len(name):
-                self.told(line, f'text behind FLAG {name} dropped: `{shown(text)}`')
-                return name
         return text
 
     def mend_table(self, name, rows):
@@ -443,11 +453,10 @@ class AffMending:
         line, spans, fields, _ = header
         said, comment = COUNT.fullmatch(fields[1]).groups()
         if comment:
-            self.told(line, f'a comment behind the count of {name} dropped')
+            self.cut_comment(line, spans[1][0] + len(said))
         if int(said) != kept:
             self.told(line, f'{name} announces {said} rows and has {kept}: the count mended')
-            said = str(kept)
-        self.edit(line, *spans[1], said)
+            self.edit(line, spans[1][0], spans[1][0] + len(said), str(kept))
 
     def mend_row(self, name, line, spans, fields):
         """Whether a row of a table stays."""
@@ -469,7 +478,7 @@ class AffMending:
         text = line.text[start:end]
         flags = grammar.rule_flags(text, self.flags.kind)
         if flags is None:
-            if self.losses.take(line, f'the compound rule `{shown(text)}`, which is none of hunspell(5),', 'compounds of that rule alone are marked'):
+            if self.losses.take(line, f'the compound rule `{shown(text)}`', 'is none of hunspell(5)', RULE_EFFECT):
                 self.drop(line, None)
             return False
         for first, last, _ in flags:
@@ -523,11 +532,13 @@ class AffMending:
             self.edit(line, spans[2][1], spans[2][1], f' {kept}')
             return
         found = COUNT.fullmatch(fields[3])
+        start, end = spans[3]
+        if found and found.group(2):
+            end = start + len(found.group(1))
+            self.cut_comment(line, end)
         if not found or int(found.group(1)) != kept:
-            self.told(line, f'a class announces {shown(fields[3])} rules and has {kept}: the count mended')
-        elif found.group(2):
-            self.told(line, 'a comment behind the count of a class dropped')
-        self.edit(line, *spans[3], found.group(1) if found and int(found.group(1)) == kept else str(kept))
+            self.told(line, f'a class announces {shown(line.text[start:end])} rules and has {kept}: the count mended')
+            self.edit(line, start, end, str(kept))
 
     def mend_affix(self, line, spans, fields):
         """Whether a rule of a class stays."""
@@ -639,6 +650,7 @@ class Shrinking:
             return
         words = self.bare_words()
         counts = {}
+        # Only entries without flags, or further affixes would be lost.
         for word in words:
             if word[:-1] in words:
                 counts[word[-1]] = counts.get(word[-1], 0) + 1
@@ -650,7 +662,8 @@ class Shrinking:
             if word[-1] in names and word[:-1] in words and word[:-1] not in gone:
                 folded.setdefault(word[:-1], []).append(names[word[-1]])
                 gone.add(word)
-        self.write_folded(words, folded, gone, names)
+        if folded:
+            self.write_folded(words, folded, gone, names)
 
     def write_folded(self, words, folded, gone, names):
         lines = {words[word] for word in gone}
@@ -720,8 +733,8 @@ def prepare(aff, dic, lossy):
     aff, dic = decoding.lines()
     if not dic:
         raise Refused('the .dic file has no lines')
-    named = [fields for _, name, _, fields, _ in roles_of(aff) if name == 'FLAG' and len(fields) > 1]
-    flags = Flags((grammar.flag_kind(named[0][1]) if named else None) or 'char', changes)
+    kinds = [grammar.flag_kind(fields[1]) for _, name, _, fields, _ in roles_of(aff) if name == 'FLAG' and len(fields) > 1]
+    flags = Flags(next(filter(None, kinds), 'char'), changes)
     flags.collect(aff, dic)
     has_set = any(name == 'SET' and len(fields) > 1 for _, name, _, fields, _ in roles_of(aff))
     mending = AffMending(aff, flags, changes, losses)
