@@ -42,8 +42,7 @@ echo '| dictionary | text | words | load | thousand words a second | memory | hu
 echo '|---|---|---|---|---|---|---|---|---|'
 while read -r package name; do
     unpack "$package"
-    convert "$(find "$package" -name "$name.aff" -type f)" dictionary
-    mend "$name" dictionary || true
+    prepare "$(find "$package" -name "$name.aff" -type f)" dictionary
     manual=$(text_package "$name")
     unpack "$manual"
     running_text "$manual" | LC_ALL=C tr -s ' \t' ' ' | LC_ALL=C fold -s -w 150 | iconv -c -f UTF-8 -t UTF-8 > lines

@@ -24,40 +24,17 @@ unpack() {
 # version PACKAGE: that of what was fetched.
 version() { dpkg-deb -f "$store/$1"_*.deb Version; }
 
-# The encoding that an .aff file names, if it is not UTF-8.
+# The encoding of a dictionary, by its .aff file.
 encoding_of() {
-    awk 'NR == 1 { sub(/^\357\273\277/, "") } $1 == "SET" { sub(/\r$/, "", $2); if ($2 != "UTF-8") print $2; exit }' "$1"
+    LC_ALL=C awk 'NR == 1 { sub(/^\357\273\277/, "") } $1 == "SET" { sub(/\r$/, "", $2); print $2; found = 1; exit } END { if (!found) print "ISO8859-1" }' "$1"
 }
 
-# convert AFF TO: both files of a dictionary in UTF-8, as TO.aff and TO.dic, by the two commands of docs/DICTIONARIES.md where
-# they are in another encoding. Fails where a file has bytes that its encoding has not.
-convert() {
-    local aff=$1 to=$2 encoding
-    encoding=$(encoding_of "$aff")
-    if [ -n "$encoding" ]; then
-        iconv -f "$encoding" -t UTF-8 "$aff" | sed 's/^SET .*/SET UTF-8/' > "$to.aff"
-        iconv -f "$encoding" -t UTF-8 "${aff%.aff}.dic" > "$to.dic"
-    else
-        cp "$aff" "$to.aff"
-        cp "${aff%.aff}.dic" "$to.dic"
-    fi
-}
-
-# mend NAME TO: takes out of TO.aff and TO.dic what stops the program, by the commands of docs/DICTIONARIES.md, which tells what is
-# lost by each. Fails where there is nothing to mend for that name.
-mend() {
-    case $1 in
-        da_DK) sed -i '/^"/d; /^ /d' "$2.dic" ;;
-        gl_ES) sed -i '/^ /d' "$2.dic" ;;
-        hy_AM) sed -i 's,http://start.ubuntu.com/9.04/,,' "$2.aff" ;;
-        ne_NP) sed -i '/^SFX/s,\([0-9]\)X,\1,g' "$2.aff" ;;
-        sv_*) sed -i '/^COMPOUNDRULE )k/d; s/^COMPOUNDRULE 12/COMPOUNDRULE 11/' "$2.aff" ;;
-        tr_TR)
-            sed -i 's/^SFX 0 /SFX 60000 /' "$2.aff"
-            sed -i -E 's#(/|,)0(,|$|[[:space:]])#\160000\2#' "$2.dic"
-            ;;
-        *) return 1 ;;
-    esac
+# prepare AFF TO: writes TO.aff and TO.dic, which the program reads, by tools/prepare-dictionary, with --lossy where it refuses them
+# otherwise. What was changed, or why they are refused, is kept in TO.changes, and the last reason to refuse them in TO.refused.
+prepare() {
+    local files=("$1" "${1%.aff}.dic" "$2")
+    "${top:?}/tools/prepare-dictionary" "${files[@]}" > "$2.changes" 2> "$2.refused" \
+        || "${top:?}/tools/prepare-dictionary" --lossy "${files[@]}" > "$2.changes" 2> "$2.refused.lossy" || { cat "$2.refused.lossy" > "$2.changes"; return 1; }
 }
 
 # The package with a text in the language of a dictionary, if there is one: LibreOffice's help, or manual pages.

@@ -1,12 +1,13 @@
 #!/usr/bin/env bash
-# Tries every hunspell dictionary that Debian packages, and prints two tables in Markdown. The first says of each pair of files
-# whether it is read as it is packaged, whether it is once it is converted to UTF-8 by the two commands of docs/DICTIONARIES.md,
-# in which processor seconds and with how much memory at most, and which line stops it otherwise. The second says how its answers
-# compare with those of hunspell's library on the different words of a text in its language, by the converted files, without the lines
-# that docs/DICTIONARIES.md tells to leave out; each word that only one of the two refuses is put under a reason, which
-# docs/DECISIONS.md has, or is listed as one without. Texts are those of LibreOffice's help and of manual pages, without markup.
-# The status is 1 where a difference has no reason. Packages are fetched and unpacked, not installed. Needs libhunspell-dev and
-# g++. With a folder as its argument, packages are kept in it, and fetched only where they are not there.
+# Tries every hunspell dictionary that Debian packages, and prints tables in Markdown. The first says of each pair of files whether it is
+# read as it is packaged, or which line stops it; what tools/prepare-dictionary changes, with `--lossy` where it is refused without; and
+# whether the prepared pair is read, in which processor seconds and with how much memory at most. The second says how answers by the
+# prepared pair compare with those of hunspell's library by the pair as it is packaged. The words are the different ones of a text in its
+# language, without those that the encoding of the dictionary has no characters for. Each word that only one of the two refuses is put
+# under a reason, which docs/DECISIONS.md has, or is listed as one without. Texts are those of LibreOffice's help and of manual pages,
+# without markup. The status is 1 where a difference has no reason, but for pairs that needed --lossy, which are compared alone.
+# Packages are fetched and unpacked, not installed. Needs libhunspell-dev and g++. With a folder as its argument, packages are kept in
+# it, and fetched only where they are not there.
 set -euo pipefail
 top=$(cd "$(dirname "$0")/.." && pwd)
 work=$(mktemp -d)
@@ -27,14 +28,20 @@ words_of() {
 # Prints those of the words on standard input that hunspell's library refuses.
 cat > judge.cc << 'CODE'
 #include <hunspell/hunspell.hxx>
+#include <iconv.h>
 #include <iostream>
 #include <string>
 int main(int, char **names) {
     Hunspell dictionary(names[1], names[2]);
+    iconv_t converter = iconv_open(names[3], "UTF-8");
     std::ios::sync_with_stdio(false);
     std::string word;
-    while (std::getline(std::cin, word))
-        if (!dictionary.spell(word)) std::cout << word << '\n';
+    while (std::getline(std::cin, word)) {
+        char bytes[4096], *from = word.data(), *to = bytes;
+        size_t left = word.size(), room = sizeof bytes;
+        iconv(converter, nullptr, nullptr, nullptr, nullptr);
+        if (iconv(converter, &from, &left, &to, &room) == (size_t)-1 || !dictionary.spell(std::string(bytes, to))) std::cout << word << '\n';
+    }
 }
 CODE
 # shellcheck disable=SC2046
@@ -62,47 +69,51 @@ tried() {
 
 mapfile -t packages < <({ apt-cache search '^hunspell-'; apt-cache search '^myspell-'; } | cut -d ' ' -f 1 | grep -E '^(hunspell|myspell)-' | LC_ALL=C sort -u)
 fetch "${packages[@]}"
-mkdir converted
-echo '| package | dictionary | as it is packaged | converted | mended | load | memory |'
+# What was changed, in short: each kind of change once, without its place and its number of lines.
+short() {
+    if grep -q 'byte for byte' "$1"; then
+        echo none
+    else
+        sed -n "s/^[^ ]*:[0-9]*: //p" "$1" | sed '/^SET UTF-8 in place/d; s/converted from \(.*\) to UTF-8/from \1/; s/ ([0-9]* lines, of which.*//; s/: `.*//; s/: the count mended/, mended/' \
+            | sed 's/`//g; s/the compound rule .* left out: /compound rules left out: /' | tr '|' '/' | awk '!seen[$0]++' | paste -s -d ';' | sed 's/;/; /g'
+    fi
+}
+
+mkdir prepared
+echo '| package | dictionary | as it is packaged | changes | prepared | load | memory |'
 echo '|---|---|---|---|---|---|---|'
 count=0
+plain=0
 loaded=0
-mended=0
 names=()
 for package in "${packages[@]}"; do
     unpack "$package"
     while read -r aff; do
         name=$(basename "$aff" .aff)
-        to=converted/$package-$name
+        to=prepared/$package-$name
         packaged=$(tried "$aff")
-        now=
-        fixed=
-        if [ -n "$(encoding_of "$aff")" ]; then
-            convert "$aff" "$to"
-            now=$(tried "$to.aff")
-        else
-            convert "$aff" "$to"
-        fi
         count=$((count + 1))
-        [ "${now:-$packaged}" != read ] || loaded=$((loaded + 1))
-        if [ "${now:-$packaged}" != read ] && mend "$name" "$to"; then
-            fixed=$(tried "$to.aff")
-        fi
         load='|'
-        if [ "${fixed:-${now:-$packaged}}" = read ]; then
-            mended=$((mended + 1))
-            names+=("$package $name")
+        now=refused
+        if prepare "$aff" "$to"; then
+            now=$(tried "$to.aff")
+            [ ! -s "$to.refused" ] || now+=", with \`--lossy\`"
+        fi
+        if [ "${now#read}" != "$now" ]; then
+            loaded=$((loaded + 1))
+            [ -s "$to.refused" ] || plain=$((plain + 1))
+            names+=("$package $name $aff")
             load=$(awk '{ printf "%.2f s | %d MB", $1 + $2, $3 / 1024 }' cost)
         fi
-        echo "| $package $(version "$package") | $name | $packaged | $now | $fixed | $load |"
+        echo "| $package $(version "$package") | $name | $packaged | $(short "$to.changes") | $now | $load |"
     done < <(find "$package" -name '*.aff' -type f | LC_ALL=C sort)
 done
 echo
-echo "Of $count pairs of files $loaded are read once they are converted, and $mended once they are mended."
+echo "Of $count pairs of files $plain are read once they are prepared, and $loaded with \`--lossy\`."
 echo
 
-# refused BY BASE: those of the words in the file `words` that are refused here or by hunspell, by BASE.aff and BASE.dic. A text
-# that is checked has at most 20,000 lines, so of more words as many are checked at once.
+# refused BY BASE PACKAGED: those of the words in the file `words` that are refused here by BASE.aff and BASE.dic, or by hunspell by
+# PACKAGED.aff and PACKAGED.dic. A text that is checked has at most 20,000 lines, so of more words as many are checked at once.
 refused() {
     local part
     if [ "$1" = here ]; then
@@ -113,14 +124,14 @@ refused() {
             head -n -1 out | cut -d ' ' -f 1 | uniq | awk 'NR == FNR { marked[$1]; next } FNR in marked' - "$part"
         done | LC_ALL=C sort
     else
-        ./judge "$2.aff" "$2.dic" < words | LC_ALL=C sort
+        ./judge "$3.aff" "$3.dic" "$encoding" < words 2> /dev/null | LC_ALL=C sort
     fi
 }
 
 # Judges the words by both, into the files `only.here` and `only.hunspell`.
 compare() {
-    refused here "$1" > refused.here
-    refused hunspell "$1" > refused.hunspell
+    refused here "$1" "$2" > refused.here
+    refused hunspell "$1" "$2" > refused.hunspell
     LC_ALL=C comm -23 refused.here refused.hunspell > only.here
     LC_ALL=C comm -13 refused.here refused.hunspell > only.hunspell
 }
@@ -141,8 +152,8 @@ take_form() {
     local kind=$1 side=$2 pattern=$3 change=$4 accepted=$5
     grep -P "$pattern" "left.$side" > fitting || true
     sed "$change" fitting > words
-    refused here "$base" > refused.here
-    refused hunspell "$base" > refused.hunspell
+    refused here "$base" "$original" > refused.here
+    refused hunspell "$base" "$original" > refused.hunspell
     paste -d ' ' fitting words | awk -v "accepted=$accepted" '
         FILENAME == "refused.here" { here[$1]; next }
         FILENAME == "refused.hunspell" { there[$1]; next }
@@ -156,9 +167,11 @@ take_option() {
     [ -s "left.$side" ] || return 0
     sed "$change" "$base.aff" > changed.aff
     cmp -s "$base.aff" changed.aff && return 0
+    LC_ALL=C sed "$change" "$original.aff" > original.aff
     ln -sf "$base.dic" changed.dic
+    ln -sf "$original.dic" original.dic
     cp "left.$side" words
-    compare changed
+    compare changed original
     LC_ALL=C sort only.here only.hunspell | LC_ALL=C comm -23 words - > taken
     take "$kind"
 }
@@ -167,17 +180,25 @@ echo '| dictionary | text | different words | refused | by hunspell | only one o
 echo '|---|---|---|---|---|---|'
 : > all
 for pair in "${names[@]}"; do
-    read -r package name <<< "$pair"
+    read -r package name aff <<< "$pair"
     text=$(text_package "$name")
     [ -n "$text" ] || continue
-    base=converted/$package-$name
-    words_of "$text" > "text.words"
+    base=prepared/$package-$name
+    original=${aff%.aff}
+    encoding=$(encoding_of "$aff")
+    words_of "$text" > all.words
+    # The words that the encoding has.
+    iconv -c -f UTF-8 -t "$encoding" all.words | iconv -f "$encoding" -t UTF-8 | paste -d ' ' - all.words | awk '$1 == $2 { print $1 }' > text.words
     cp text.words words
-    compare "$base"
+    compare "$base" "$original"
     row="| \`$package $name\` | $text $(version "$text") | $(wc -l < words) | $(wc -l < refused.here) | $(wc -l < refused.hunspell) |"
     cp only.here left.here
     cp only.hunspell left.hunspell
     : > kinds
+    if [ -s "$base.refused" ]; then
+        echo "$row $(wc -l < only.here) here, $(wc -l < only.hunspell) by hunspell: with \`--lossy\` |"
+        continue
+    fi
     take_form capitals here '^[^\p{Ll}]+$' 's/.*/\L&/' ''
     take_form front hunspell '^\p{Lu}' 's/^./\l&/' 1
     take_form sharp hunspell 'ẞ' 's/^\(.\)\(.*\)/\1\L\2/' 1

@@ -17,7 +17,7 @@ trap 'rm -rf "$work"' EXIT
 cd "$work"
 . "$top/bench/packages.bash"
 unpack hunspell-en-us
-convert hunspell-en-us/usr/share/hunspell/en_US.aff en_US
+prepare hunspell-en-us/usr/share/hunspell/en_US.aff en_US
 
 # The words of small letters, at places that go on by a step without a divisor in common with their count, so that each comes in its turn.
 awk -F/ 'NR > 1 && $1 ~ /^[a-z]+$/ { words[n++] = $1 }
