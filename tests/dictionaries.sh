@@ -153,7 +153,7 @@ foé/1
 SAID
 row 'flags of entries that are bytes' 'SET UTF-8\nSFX \xc3\xa9 Y 1\nSFX \xc3\xa9 0 \xc3\xa9 .\n' '1\nfo\xc3\xa9/\xe9\xc3\xa9\n' << 'SAID'
 a.aff:2: flags that are single bytes read as Latin-1 (2 lines, of which this is the first)
-a.aff:2: text behind the flag Ã dropped: `Ã©`
+a.aff:2: text behind the flag Ã dropped: `Ã©` (2 lines, of which this is the first)
 a.dic:2: flags that are single bytes read as Latin-1
 out.aff, out.dic: written
 -- out.aff
@@ -352,6 +352,26 @@ SFX A 0 u .
 -- out.dic
 1
 foo/A
+SAID
+row_refused 'a second header with another cross' 'SFX A Y 1\nSFX A 0 s .\nSFX A N 1\nSFX A 0 t .\n' '1\nfoo/A\n' << 'SAID'
+prepare-dictionary: a.aff:3: a further header of a class has another cross: without it its rules have the cross of the first
+prepare-dictionary: nothing is written; with --lossy these lines are left out
+SAID
+row 'a row of AF without flags' 'AF\nAF 3\nAF A\nAF\n' '1\nfoo/2\n' << 'SAID'
+a.aff:1: a line of AF before its header left out, which lacks a text
+a.aff:2: AF announces 3 rows and has 2: the count mended
+a.aff:4: a row of AF without flags gets one that stands nowhere
+out.aff, out.dic: written
+-- out.aff
+AF 2
+AF A
+AF B
+-- out.dic
+1
+foo/2
+SAID
+row_refused 'a class without a header' 'SFX A 0 s .\n' '1\nfoo/A\n' << 'SAID'
+prepare-dictionary: a.aff:1: BadNumber cannot be mended: `SFX A 0 s .`
 SAID
 row 'duplicate options' 'COMPOUNDLAST x\nCOMPOUNDEND x\nWORDCHARS a\nWORDCHARS a\n' '1\nfoo\n' << 'SAID'
 a.aff:2: COMPOUNDEND left out: it says what line 1 says

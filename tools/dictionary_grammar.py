@@ -89,6 +89,12 @@ def is_decimal(text):
     return DECIMAL.fullmatch(text) is not None
 
 
+def number_of(text):
+    """The value of a decimal; above every limit, any large number stands for it."""
+    digits = text.lstrip('0')
+    return int(digits or '0') if len(digits) < 19 else 10 ** 18
+
+
 def entry_of(line):
     """START, SLASH and END of the entry of a line; SLASH is END where no flags follow. None for a line without an entry."""
     if not line or line[0] == '\t' or not line.strip(' \t'):
@@ -147,7 +153,7 @@ def flags_of(text, kind):
     """The flags of a flag field, as hunspell reads them: what stands behind the digits of a number is none of it."""
     if kind == 'num':
         found = [DECIMAL.match(item) for item in text.split(',')]
-        return [str(int(item.group())) for item in found if item]
+        return [str(number_of(item.group())) for item in found if item]
     if kind == 'long':
         return [text[place:place + 2] for place in range(0, len(text) - 1, 2)]
     return list(text)

@@ -63,9 +63,10 @@ def roles_of(lines):
         if name not in grammar.READ:
             continue
         key = (name, fields[1] if name in grammar.CLASSES and len(fields) > 1 else None)
-        first = key not in seen
-        seen.add(key)
-        if first and name in grammar.TABLES and len(fields) > 1:
+        first = key not in seen and len(fields) > 1
+        if len(fields) > 1:
+            seen.add(key)
+        if first and name in grammar.TABLES:
             first = COUNT.fullmatch(fields[1]) is not None
         yield line, name, spans, fields, first
 
@@ -240,6 +241,10 @@ class Flags:
             if not in_parentheses and flag in '()':
                 bad[flag] = None
 
+    def unused(self):
+        """A flag that stands in neither file."""
+        return next(grammar.free_flags(self.used | set(self.renamed.values()), self.kind))
+
     def name_of(self, file, number, flag):
         """The name that a flag has in what is written."""
         new = self.renamed.get(flag)
@@ -292,7 +297,7 @@ class Flags:
 
     def mend_alias(self, text):
         found = grammar.DECIMAL.match(text)
-        if found and 0 < int(found.group()) <= self.aliases:
+        if found and 0 < grammar.number_of(found.group()) <= self.aliases:
             return found.group(), [] if found.end() == len(text) else [dropped(text)]
         return '', [(f'flags left out that are no row of AF: `{shown(text)}`', 'no alias')] if text else []
 
@@ -355,7 +360,7 @@ class AffMending:
             if name in grammar.TABLES:
                 tables.setdefault(name, []).append((line, spans, fields, first))
             elif name in grammar.CLASSES:
-                flag = fields[1] if len(fields) > 1 else None
+                flag = next(iter(grammar.flags_of(fields[1], self.flags.kind)), None) if len(fields) > 1 else None
                 classes.setdefault((name, flag), []).append((line, spans, fields))
             elif name in grammar.LEFT_OUT:
                 self.mend_left_out(line, name)
@@ -363,8 +368,8 @@ class AffMending:
                 self.mend_option(line, name, spans, fields)
         for name, rows in tables.items():
             self.mend_table(name, rows)
-        for (name, flag), rules in classes.items():
-            self.mend_class(name, flag, rules)
+        for (name, flag), lines in classes.items():
+            self.mend_class(name, flag, lines)
         return self.written()
 
     def written(self):
@@ -443,6 +448,8 @@ class AffMending:
 
     def mend_table(self, name, rows):
         """A table: its rows, and the number that its header announces."""
+        while len(rows) > 1 and len(rows[0][2]) == 1 and any(first for *_, first in rows):
+            self.drop(rows.pop(0)[0], f'a line of {name} before its header left out, which lacks a text')
         header = rows.pop(0) if rows[0][3] else None
         kept = sum(self.mend_row(name, *row[:3]) for row in rows)
         if header is None:
@@ -454,7 +461,7 @@ class AffMending:
         said, comment = COUNT.fullmatch(fields[1]).groups()
         if comment:
             self.cut_comment(line, spans[1][0] + len(said))
-        if int(said) != kept:
+        if grammar.number_of(said) != kept:
             self.told(line, f'{name} announces {said} rows and has {kept}: the count mended')
             self.edit(line, spans[1][0], spans[1][0] + len(said), str(kept))
 
@@ -463,11 +470,15 @@ class AffMending:
         if len(fields) <= grammar.TABLES[name] and name != 'AF':
             self.drop(line, f'a row of {name} left out, which lacks a text', f'short {name}')
             return False
+        if len(fields) == 1:
+            self.told(line, 'a row of AF without flags gets one that stands nowhere')
+            self.edit(line, spans[0][1], spans[0][1], ' ' + self.flags.unused())
         if name == 'COMPOUNDRULE':
             return self.mend_rule(line, *spans[1])
         for start, end, sort in flag_spans(line.text, name, spans, False):
             if sort == 'row':
-                self.edit(line, start, end, self.flags.set_of('aff', line.number, line.text[start:end], True))
+                # A row keeps its number, so one without flags gets one that stands nowhere.
+                self.edit(line, start, end, self.flags.set_of('aff', line.number, line.text[start:end], True) or self.flags.unused())
             else:
                 flag = self.flags.one('aff', line.number, line.text[start:end])
                 self.edit(line, start - (flag is None), end, flag or '')
@@ -483,39 +494,39 @@ class AffMending:
             return False
         for first, last, _ in flags:
             name = text[first:last]
-            name = str(int(name)) if self.flags.kind == 'num' else name
+            name = str(grammar.number_of(name)) if self.flags.kind == 'num' else name
             if name in self.flags.renamed:
                 self.edit(line, start + first, start + last, self.flags.name_of('aff', line.number, name))
         return True
 
-    def mend_class(self, side, flag, rules):
+    def mend_class(self, side, flag, lines):
         """A class: its flag, its header, and its rules."""
-        name = None if flag is None else self.flags.one('aff', rules[0][0].number, flag)
-        if name is None:
-            for line, _, _ in rules:
+        if flag is None:
+            for line, _, _ in lines:
                 self.drop(line, f'a line of {side} left out, which has no flag', f'no flag {side}')
             return
-        for line, spans, _ in rules:
-            self.edit(line, *spans[1], name)
-            if line is not rules[0][0] and name != flag:
-                self.flags.name_of('aff', line.number, flag)
-        header, rules = rules[0], rules[1:]
-        rules = self.without_headers(header, rules)
-        self.mend_header(header, sum([self.mend_affix(*rule) for rule in rules]))
+        for line, spans, fields in lines:
+            self.edit(line, *spans[1], self.flags.one('aff', line.number, fields[1]))
+        rules = self.without_headers(lines[0], lines[1:])
+        self.mend_header(lines[0], sum([self.mend_affix(*rule) for rule in rules]))
 
     def without_headers(self, header, rules):
         """The rules of a class without further headers of it, which have the cross of the first."""
         fields = header[2]
-        place = int(fields[3]) if len(fields) > 3 and grammar.is_decimal(fields[3]) else len(rules)
+        place = grammar.number_of(fields[3]) if len(fields) > 3 and grammar.is_decimal(fields[3]) else len(rules)
         found = rules[:place]
         while place < len(rules):
             line, _, fields = rules[place]
-            is_header = len(fields) > 3 and fields[2] == header[2][2] and grammar.is_decimal(fields[3])
+            is_header = len(fields) > 3 and fields[2] in ('Y', 'N') and grammar.is_decimal(fields[3])
             if not is_header or (len(fields) > 4 and fields[4][0] != '#'):
                 return found + rules[place:]
-            self.drop(line, 'a further header of a class left out: its rules join those above')
-            found += rules[place + 1:place + 1 + int(fields[3])]
-            place += 1 + int(fields[3])
+            if fields[2] == header[2][2]:
+                self.drop(line, 'a further header of a class left out: its rules join those above')
+            elif self.losses.take(line, 'a further header of a class', 'has another cross', 'its rules have the cross of the first'):
+                self.drop(line, None)
+            count = grammar.number_of(fields[3])
+            found += rules[place + 1:place + 1 + count]
+            place += 1 + count
         return found
 
     def mend_header(self, header, kept):
@@ -536,7 +547,7 @@ class AffMending:
         if found and found.group(2):
             end = start + len(found.group(1))
             self.cut_comment(line, end)
-        if not found or int(found.group(1)) != kept:
+        if not found or grammar.number_of(found.group(1)) != kept:
             self.told(line, f'a class announces {shown(line.text[start:end])} rules and has {kept}: the count mended')
             self.edit(line, start, end, str(kept))
 
