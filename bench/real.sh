@@ -74,8 +74,8 @@ short() {
     if grep -q 'byte for byte' "$1"; then
         echo none
     else
-        sed -n "s/^[^ ]*:[0-9]*: //p" "$1" | sed '/^SET UTF-8 in place/d; s/converted from \(.*\) to UTF-8/from \1/; s/ ([0-9]* lines, of which.*//; s/: `.*//; s/: the count mended/, mended/' \
-            | sed 's/`//g; s/the compound rule .* left out: /compound rules left out: /' | tr '|' '/' | awk '!seen[$0]++' | paste -s -d ';' | sed 's/;/; /g'
+        sed -n "s/^[^ ]*:[0-9]*: //p" "$1" | sed '/^SET UTF-8 in place/d; s/converted from \(.*\) to UTF-8/from \1/; s/ ([0-9]* lines, of which.*//; s/: `.*//; s/: the count mended/, mended/; s/ left out: .*/ left out/; s/, to make the file small enough//' \
+            | sed 's/the compound rule .* left out/compound rules left out/' | tr '|' '/' | awk '!seen[$0]++' | paste -s -d ';' | sed 's/;/; /g'
     fi
 }
 
