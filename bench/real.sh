@@ -1,11 +1,11 @@
 #!/usr/bin/env bash
-# Tries every hunspell dictionary that Debian packages, and prints tables in Markdown. The first says of each pair of files whether it is
-# read as it is packaged, or which line stops it; what tools/prepare-dictionary changes, with `--lossy` where it is refused without; and
-# whether the prepared pair is read, in which processor seconds and with how much memory at most. The second says how answers by the
-# prepared pair compare with those of hunspell's library by the pair as it is packaged. The words are the different ones of a text in its
-# language, without those that the encoding of the dictionary has no characters for. Each word that only one of the two refuses is put
-# under a reason, which docs/DECISIONS.md has, or is listed as one without. Texts are those of LibreOffice's help and of manual pages,
-# without markup. The status is 1 where a difference has no reason, but for pairs that needed --lossy, which are compared alone.
+# Tries every hunspell dictionary that Debian packages, and prints tables in Markdown. The first has a row for each pair of files. It says
+# whether the pair is read as it is packaged, or which line stops it. It says what tools/prepare-dictionary changes, with `--lossy`
+# where it is refused without, and whether that pair is read, in which processor seconds and with how much memory at most.
+# The second compares answers by the prepared pair with those of hunspell's library by the pair as it is packaged. The words are the
+# different ones of a text in its language, without those that the dictionary's encoding has no characters for. Each word that only one of
+# the two refuses is put under a reason, which docs/DECISIONS.md has, or is listed as one without. Pairs that need --lossy have no reasons.
+# Texts are those of LibreOffice's help and of manual pages, without markup. The status is 1 where a difference has no reason.
 # Packages are fetched and unpacked, not installed. Needs libhunspell-dev and g++. With a folder as its argument, packages are kept in
 # it, and fetched only where they are not there.
 set -euo pipefail
