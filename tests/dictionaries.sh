@@ -614,6 +614,15 @@ prepare-dictionary: the .dic file has 17,000,574 bytes in UTF-8, and 16,777,216 
 SAID
 [ ! -e "$work/in/out.dic" ] || { echo 'a file that stays too large: written'; failed=1; }
 
+made '' '1\nfoo/A\n'
+{ letters 170 | sed "s/^/# $long/"; printf 'SFX A Y 1\nSFX A 0 s .\n'; } > "$work/in/a.aff"
+large 'comments' 0 << 'SAID'
+a.aff:1: lines that are passed over left out: 170
+out.aff, out.dic: written
+SAID
+judged 'comments' 'foo foos foot' <<< 'foot'
+made '' ''
+
 { echo 1; letters 170 | sed "s/.*/foo& po:$long/"; } > "$work/in/a.dic"
 large 'morphology' 0 << 'SAID'
 a.dic:2: fields of morphology left out, to make the file small enough (170 lines, of which this is the first)
