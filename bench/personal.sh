@@ -36,7 +36,7 @@ echo '| dictionary | entries | load | one `own` | memory | a list of 10,000 word
 echo '|---|---|---|---|---|---|'
 while read -r package name; do
     unpack "$package"
-    convert "$package/usr/share/hunspell/$name.aff" "$name"
+    prepare "$package/usr/share/hunspell/$name.aff" "$name"
     read -r load _ <<< "$(measure none "$program" edit "$name.aff" "$name.dic")"
     read -r spent memory <<< "$(measure twenty "$program" edit "$name.aff" "$name.dic")"
     read -r plain _ <<< "$(measure none "$program" check "$name.aff" "$name.dic" text)"
