@@ -19,7 +19,7 @@ use std::alloc::Global;
 pub struct OwnItem {
     /// The word by its characters.
     pub word: Chars,
-    /// The word whose affixes the word takes too, if one is named.
+    /// The word whose flags the word takes too, if one is named.
     pub model: Option<Chars>,
     /// Whether the word is prohibited, and not added.
     pub prohibits: bool,

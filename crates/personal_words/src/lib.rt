@@ -3,7 +3,7 @@
 //! Each line has one item, except lines that are blank; spaces at its ends are dropped. A star at
 //! its front prohibits the word. The word ends before its first slash that is not its first
 //! character and that no backslash precedes; `\/` is a slash of the word. Behind that slash stands
-//! the model, a word whose affixes the word takes too. The characters to ignore are left out of
+//! the model, a word whose flags the word takes too. The characters to ignore are left out of
 //! both.
 #![tactic(auto)]
 
