@@ -96,12 +96,12 @@ dialogue-cut sink_failed _ said is written told = absurd (cc)
 -- ---- the words of `edit`
 
 -- the console opened
-pub dialogue-answers : {met : Met} {names : DictionaryNamed} {dictionary : OwnSeen} {text : List ℕ}
-    {end : End}
+pub dialogue-answers : {met : Met} {names : DictionaryNamed} {workers : ℕ} {dictionary : OwnSeen}
+    {text : List ℕ} {end : End}
     → (there : OwnFiles) × IsOwnThere met.folder names there
     × (dictionary_due there ≡ Ok dictionary) → IsDialogue met dictionary text end
-    → IsAnswerTo (Some (Edit names)) met text end
-dialogue-answers {met} {names} {dictionary} {text} {end} (there, is, due) dialogue = record {
+    → IsAnswerTo (Some (Edit names workers)) met text end
+dialogue-answers {met} {names} {workers} {dictionary} {text} {end} (there, is, due) dialogue = record {
   answer = Opened there dictionary is due dialogue;
   caused = by dialogue.ended dialogue.end_is dialogue.is;
   input = tt;
@@ -109,18 +109,18 @@ dialogue-answers {met} {names} {dictionary} {text} {end} (there, is, due) dialog
 }
   where
     by : (ended : ReadingEnd) → end_of ended ≡ Some end → HasReplied met dictionary ended text
-        → IsCaused (Some (Edit names)) met text end
+        → IsCaused (Some (Edit names workers)) met text end
     by reading.Interrupted is ended = goes-on (cc) (λ input. ended.failed)
     by reading.SinkFailed is ended = absurd (cc)
     by _ is ended = goes-on (cc) (λ input. absurd (cc))
 
 -- it did not
-pub not-opened : {met : Met} {names : DictionaryNamed} {failure : Failure}
+pub not-opened : {met : Met} {names : DictionaryNamed} {workers : ℕ} {failure : Failure}
     → (there : OwnFiles) × IsOwnThere met.folder names there
     × FailsAs MayCome (dictionary_due there) failure
     → (failure ≡ Load FailedLoad → met.files_before < met.files_after) → IsUntouched met.reading
-    → IsAnswerTo (Some (Edit names)) met [] (Failed failure)
-not-opened {met} {names} {failure} (there, is, fails) rose untouched =
+    → IsAnswerTo (Some (Edit names workers)) met [] (Failed failure)
+not-opened {met} {names} {workers} {failure} (there, is, fails) rose untouched =
     let told = failure-told (dictionary-told there) fails in
     record { answer = by fails; caused = failure-caused told rose; input = tt; files = tt }
   where
@@ -142,12 +142,12 @@ fit-due {names = names} there fit is =
     ap dictionary_due found ∙ fit.is_due
 
 -- a dictionary that is fit is loaded, unless the files fail first
-pub not-opened-whole : {met : Met} {names : DictionaryNamed} {failure : Failure}
+pub not-opened-whole : (workers : ℕ) {met : Met} {names : DictionaryNamed} {failure : Failure}
     → (there : OwnFiles) × IsOwnThere met.folder names there
     × FailsAs MayCome (dictionary_due there) failure
     → (failure ≡ Load FailedLoad → met.files_before < met.files_after) → IsUntouched met.reading
-    → (form_of (Some (Edit names))).whole met [] (Failed failure)
-not-opened-whole {met} {names} {failure} (there, is, fails) rose untouched =
+    → (form_of (Some (Edit names workers))).whole met [] (Failed failure)
+not-opened-whole workers {met} {names} {failure} (there, is, fails) rose untouched =
     λ dictionary fit first reads. by dictionary fit first fails
   where
     by : (dictionary : OwnSeen) → IsFit met names dictionary
@@ -172,13 +172,14 @@ AreRead = (quits : List ℕ → Bool) (read : Reading) (input said : List ℕ) (
     ⊎ ((ended ≡ reading.NoMemory) ⊎ (ended ≡ reading.SinkFailed))
 
 -- a dialogue over an input that is fit replies to all its lines
-pub dialogue-whole : {met : Met} {names : DictionaryNamed} {dictionary : OwnSeen} {text : List ℕ}
-    {end : End} → AreRead
+pub dialogue-whole : (workers : ℕ) {met : Met} {names : DictionaryNamed} {dictionary : OwnSeen}
+    {text : List ℕ} {end : End} → AreRead
     → ((line : List ℕ) → is_quit line ≡ true → IsShort line)
     → (there : OwnFiles) × IsOwnThere met.folder names there
     × (dictionary_due there ≡ Ok dictionary) → IsDialogue met dictionary text end
-    → (form_of (Some (Edit names))).whole met text end
-dialogue-whole {met} {names} {dictionary} {text} {end} read quits_short (there, is, due) dialogue =
+    → (form_of (Some (Edit names workers))).whole met text end
+dialogue-whole workers {met} {names} {dictionary} {text} {end} read quits_short (there, is, due)
+    dialogue =
     λ other fit first reads.
     let also : dictionary_due there ≡ Ok other = fit-due there fit is in
     let same : dictionary ≡ other = cc in

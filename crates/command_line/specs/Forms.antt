@@ -182,13 +182,13 @@ form_of None = record {
   whole = λ met text end. Unit {0};
 }
 -- `check AFF DIC FILE` and options
-form_of (Some (Check names)) =
+form_of (Some (Check names workers)) =
     report_form true
     (λ met due. (found : Found) × IsFound met.folder names found × (due ≡ check_due found))
 -- `make START SIZE`
 form_of (Some (Make asked)) = report_form false (λ met due. due ≡ make_due asked)
 -- `edit AFF DIC` and options
-form_of (Some (Edit names)) = record {
+form_of (Some (Edit names workers)) = record {
   names_files = true;
   reads_input = true;
   answers = λ met text end. IsEdited met names text end;

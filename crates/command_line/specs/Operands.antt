@@ -1,6 +1,11 @@
 -- What the operands of a form of words say, with the options behind them.
 use Rattle.std.specs.Prelude.{ℕ, List, Option}
 
+-- what options say: how many workers there are, and which personal list is named, if one is
+pub record Said : Type 0 where
+  pub workers : ℕ
+  pub own : Option (List ℕ)
+
 -- the files of a dictionary, by their names, and that of a personal list, if one is named
 pub record DictionaryNamed : Type 0 where
   pub aff : List ℕ

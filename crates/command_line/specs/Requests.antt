@@ -1,34 +1,57 @@
 -- What the words of a command line ask for: one form of words for each command, a name, its
 -- operands, and options behind them.
-use Rattle.std.specs.Prelude.{ℕ, nat_le, ◌&&◌, List, [], ◌∷◌, codes, Option}
-use Rattle.std.specs.Prelude.{Some, None, if◌then◌else◌}
+use Rattle.std.specs.Prelude.{ℕ, nat_le, ◌&&◌, List, [], ◌∷◌, length, codes, Option}
+use Rattle.std.specs.Prelude.{Some, None, if◌then◌else◌, option_and_then}
 use Rattle.std.specs.Option.{option_map}
 use Rattle.std.specs.Str.{bytes_eq}
 use Rattle.text_lines.specs.Fields.{decimal_of}
-use Rattle.command_line.specs.Operands.{DictionaryNamed, StartAndSize}
+use Rattle.command_line.specs.Operands.{DictionaryNamed, Said, StartAndSize}
 use Rattle.command_line.specs.declared.requests.Request.{Request}
 use Rattle.command_line.specs.declared.requests.Request.TheVariants.{Check, Make, Edit}
+use Rattle.command_line.specs.declared.limits.TheConstants.{MOST_WORKERS, MOST_EDIT_WORKERS}
 
--- what options say: which personal list is named, if one is
-pub record Options : Type 0 where
-  pub own : Option (List ℕ)
+-- ---- options
 
--- the options that these words are: `--own OWN`, or none
-abbrev pub options_in : List (List ℕ) → Option Options
-options_in [] = Some (record { own = None })
-options_in (name ∷ own ∷ []) =
-    if bytes_eq name (codes "--own") then Some (record { own = Some own }) else None
-options_in _ = None
+-- a number that is not above a limit
+abbrev pub up_to : ℕ → Option ℕ → Option ℕ
+up_to limit None = None
+up_to limit (Some number) = if nat_le number limit then Some number else None
+
+-- how many workers a word says: one or two ASCII digits, of which no number above 16 is made
+abbrev pub workers_in : List ℕ → Option ℕ
+workers_in number =
+    if nat_le (length number) 2 then up_to MOST_WORKERS (decimal_of number) else None
+
+-- the personal list that these words name, if they are `--own OWN`; none where there are no words
+abbrev pub own_in : List (List ℕ) → Option (Option (List ℕ))
+own_in [] = Some None
+own_in (name ∷ own ∷ []) = if bytes_eq name (codes "--own") then Some (Some own) else None
+own_in _ = None
+
+-- what both options say
+abbrev pub said_of : Option ℕ → Option (Option (List ℕ)) → Option Said
+said_of (Some workers) (Some own) = Some (record { workers = workers; own = own })
+said_of _ _ = None
+
+-- the options that these words are: `--workers N`, or nothing for no workers, and behind it
+-- `--own OWN`, or nothing
+abbrev pub options_in : List (List ℕ) → Option Said
+options_in (name ∷ number ∷ more) =
+    if bytes_eq name (codes "--workers") then said_of (workers_in number) (own_in more)
+    else said_of (Some 0) (own_in (name ∷ number ∷ more))
+options_in words = said_of (Some 0) (own_in words)
+
+-- ---- the forms of words
 
 -- the files of a dictionary, with the personal list that options name
-abbrev pub named : List ℕ → List ℕ → Options → DictionaryNamed
-named aff dic options = record { aff = aff; dic = dic; own = options.own }
+abbrev pub named : List ℕ → List ℕ → Said → DictionaryNamed
+named aff dic said = record { aff = aff; dic = dic; own = said.own }
 
 -- `check AFF DIC FILE` and options
 abbrev pub check_in : List (List ℕ) → Option Request
 check_in (aff ∷ dic ∷ document ∷ options) =
     option_map
-    (λ said. Check (record { dictionary = named aff dic said; document = document }))
+    (λ said. Check (record { dictionary = named aff dic said; document = document }) said.workers)
     (options_in options)
 check_in _ = None
 
@@ -48,10 +71,15 @@ make_in (start ∷ size ∷ []) =
     option_map Make (of_numbers (decimal_of start) (decimal_of size))
 make_in _ = None
 
+-- what options ask of `edit` with a dictionary, if they say no more workers than it takes
+abbrev pub edit_with : List ℕ → List ℕ → Said → Option Request
+edit_with aff dic said =
+    if nat_le said.workers MOST_EDIT_WORKERS then Some (Edit (named aff dic said) said.workers)
+    else None
+
 -- `edit AFF DIC` and options
 abbrev pub edit_in : List (List ℕ) → Option Request
-edit_in (aff ∷ dic ∷ options) =
-    option_map (λ said. Edit (named aff dic said)) (options_in options)
+edit_in (aff ∷ dic ∷ options) = option_and_then (edit_with aff dic) (options_in options)
 edit_in _ = None
 
 -- what these words ask for, if they are of one of the forms

@@ -9,9 +9,10 @@ mod limits;
 mod loading;
 mod names;
 mod no_input;
+mod options;
 mod requests;
 mod top_call;
 
 pub use ending::put_wanting;
-pub use limits::DOCUMENT_LIMIT;
+pub use limits::{DOCUMENT_LIMIT, MOST_EDIT_WORKERS, MOST_WORKERS};
 pub use top_call::{Ended, run, run_check};

@@ -1,4 +1,10 @@
-//! How much is loaded.
+//! How much is loaded, and how many workers there are.
 
 /// How large a document may be, in bytes.
 pub const DOCUMENT_LIMIT: u64 = 67_108_864;
+
+/// How many workers words may ask for.
+pub const MOST_WORKERS: u64 = 16;
+
+/// How many of them `edit` takes.
+pub const MOST_EDIT_WORKERS: u64 = 0;

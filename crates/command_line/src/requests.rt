@@ -9,13 +9,20 @@ use crate::forms::check::{CheckNames, check_of};
 use crate::forms::edit::edit_of;
 use crate::forms::make::{Making, make_of};
 use crate::names::DictionaryNames;
+use crate::options::Workers;
 
 /// What words may ask for, one variant for each form of words.
 #[derive(Drop)]
 pub enum Request<'a> {
-    Check(CheckNames<'a>),
+    Check {
+        names: CheckNames<'a>,
+        workers: Workers,
+    },
     Make(Making),
-    Edit(DictionaryNames<'a>),
+    Edit {
+        names: DictionaryNames<'a>,
+        workers: Workers,
+    },
 }
 
 /// What the words ask for, if they are of one of the forms.
@@ -36,7 +43,7 @@ pub fn without_input(request: Option<Request<'_>>) -> Option<Request<'_>>
     ensures { result ≡ without_input request.entry }
 {
     match request {
-        Some(Request::Edit(_)) => None,
+        Some(Request::Edit { .. }) => None,
         other => other,
     }
 }

@@ -179,9 +179,9 @@ fn answer<F: Files, S: Source, K: Sink>(
     ensures sink_count { K.Sink.faults out.old ≤ K.Sink.faults out.new }
 {
     match request {
-        Some(Request::Check(names)) => check(alloc, names, files, out),
+        Some(Request::Check { names, workers }) => check(alloc, names, workers, files, out),
         Some(Request::Make(making)) => make(alloc, making, out),
-        Some(Request::Edit(names)) => edit(alloc, names, files, input, out),
+        Some(Request::Edit { names, workers }) => edit(alloc, names, workers, files, input, out),
         None => tell_words(alloc, out),
     }
 }

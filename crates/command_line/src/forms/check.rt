@@ -16,7 +16,8 @@ ghost use Rattle.dictionary_swap.specs.declared.fault.LoadFault.TheVariants.{Fai
 use crate::ending::put_outcome;
 use crate::failure::Failure;
 use crate::loading::{load_document, load_judge};
-use crate::names::{DictionaryNames, names_of};
+use crate::names::{DictionaryNames, named};
+use crate::options::{Workers, options_of};
 use crate::requests::Request;
 use document_report::{Output, Report, report};
 use outside::{Files, Sink};
@@ -48,11 +49,14 @@ pub fn check_of(operands: &[String]) -> Option<Request<'_>>
 {
     match operands {
         [aff, dic, document, options @ ..] => {
-            let dictionary = names_of(aff, dic, options)?;
-            Some(Request::Check(CheckNames {
-                dictionary,
-                document: document.as_str(),
-            }))
+            let options = options_of(options)?;
+            Some(Request::Check {
+                names: CheckNames {
+                    dictionary: named(aff.as_str(), dic.as_str(), &options),
+                    document: document.as_str(),
+                },
+                workers: options.workers,
+            })
         }
         _ => None,
     }
@@ -62,19 +66,20 @@ pub fn check_of(operands: &[String]) -> Option<Request<'_>>
 pub fn check<F: Files, K: Sink>(
     alloc: Global,
     names: CheckNames<'_>,
+    _workers: Workers,
     files: &mut F,
     out: &mut K,
 ) -> u8
     // Whatever there is of an input, which stays untouched.
     ensures due { (reading : Reading) → IsUntouched reading
-        → EndsAs (IsAnswerTo (Some (Check names.entry)) (record {
+        → EndsAs (IsAnswerTo (Some (Check names.entry _workers)) (record {
           folder = F.told files.old;
           files_before = F.faults files.old;
           files_after = F.faults files.new;
           reading = reading;
         })) (K.faults out.old < K.faults out.new) (K.written out.old) (K.written out.new) result }
     ensures complete { (reading : Reading) → K.faults out.new ≡ K.faults out.old
-        → EndsAs ((form_of (Some (Check names.entry))).whole (record {
+        → EndsAs ((form_of (Some (Check names.entry _workers))).whole (record {
           folder = F.told files.old;
           files_before = F.faults files.old;
           files_after = F.faults files.new;

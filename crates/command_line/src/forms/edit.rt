@@ -18,8 +18,10 @@ ghost use Rattle.command_line.specs.declared.requests.Request.TheVariants.{Edit}
 
 use crate::ending::{End, SINK_FAILED, put_end};
 use crate::failure::Failure;
+use crate::limits::MOST_EDIT_WORKERS;
 use crate::loading::load_dictionary;
-use crate::names::{DictionaryNames, names_of};
+use crate::names::{DictionaryNames, named};
+use crate::options::{Workers, options_of};
 use crate::requests::Request;
 use console_board::{OwnConsole, quits_are_short};
 use input_lines::{INPUT_LIMIT, LINE_LIMIT, ReadingEnd, answer_lines, fitting_inputs_are_read};
@@ -32,8 +34,15 @@ pub fn edit_of(operands: &[String]) -> Option<Request<'_>>
 {
     match operands {
         [aff, dic, options @ ..] => {
-            let names = names_of(aff, dic, options)?;
-            Some(Request::Edit(names))
+            let options = options_of(options)?;
+            let workers = options.workers;
+            if workers.count() > MOST_EDIT_WORKERS {
+                return None;
+            }
+            Some(Request::Edit {
+                names: named(aff.as_str(), dic.as_str(), &options),
+                workers,
+            })
         }
         _ => None,
     }
@@ -44,11 +53,12 @@ pub fn edit_of(operands: &[String]) -> Option<Request<'_>>
 pub fn edit<F: Files, S: Source, K: Sink>(
     alloc: Global,
     names: DictionaryNames<'_>,
+    _workers: Workers,
     files: &mut F,
     input: &mut S,
     out: &mut K,
 ) -> u8
-    ensures due { EndsAs (IsAnswerTo (Some (Edit names.entry)) (record {
+    ensures due { EndsAs (IsAnswerTo (Some (Edit names.entry _workers)) (record {
       folder = F.told files.old;
       files_before = F.Files.faults files.old;
       files_after = F.Files.faults files.new;
@@ -61,7 +71,7 @@ pub fn edit<F: Files, S: Source, K: Sink>(
     })) (K.Sink.faults out.old < K.Sink.faults out.new) (K.written out.old) (K.written out.new)
         result }
     ensures complete { K.Sink.faults out.new ≡ K.Sink.faults out.old
-        → EndsAs ((form_of (Some (Edit names.entry))).whole (record {
+        → EndsAs ((form_of (Some (Edit names.entry _workers))).whole (record {
           folder = F.told files.old;
           files_before = F.Files.faults files.old;
           files_after = F.Files.faults files.new;

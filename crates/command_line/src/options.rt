@@ -1,0 +1,103 @@
+//! The options behind the operands of a form of words.
+
+ghost use Rattle.std.specs.Prelude.{◌≡◌, ◌≤◌, map};
+ghost use Rattle.std.specs.Option.{option_copied, option_map};
+ghost use Rattle.std.specs.String.{string_bytes};
+ghost use Rattle.command_line.specs.Requests.{options_in, own_in, workers_in};
+ghost use Rattle.command_line.specs.declared.limits.TheConstants.{MOST_WORKERS};
+
+use crate::limits::MOST_WORKERS;
+use std::marker::Model;
+use text_lines::decimal;
+
+/// How many workers words ask for: 0 to 16. Contracts see the number.
+#[derive(Clone, Copy)]
+pub struct Workers {
+    count: u64,
+}
+
+impl Model for Workers {
+    ghost use Rattle.std.specs.Prelude.{ℕ, ◌≤◌};
+    ghost use Rattle.command_line.specs.declared.limits.TheConstants.{MOST_WORKERS};
+
+    ghost Value = { ℕ };
+
+    ghost view = { λ inside. inside.count };
+
+    ghost inverse = { λ number. record { count = number } };
+
+    ghost invariant = { λ inside. inside.count ≤ MOST_WORKERS };
+}
+
+impl Workers {
+    /// The number, which is 16 at most.
+    pub fn count(self) -> u64
+        ensures is { result ≡ self }
+        ensures few { result ≤ MOST_WORKERS }
+    {
+        self.count
+    }
+}
+
+/// What options say. Contracts see it.
+#[derive(Drop)]
+pub struct Options<'a> {
+    pub workers: Workers,
+    /// The personal list that is named, if one is.
+    pub own: Option<&'a str>,
+}
+
+impl<'a> Model for Options<'a> {
+    ghost use Rattle.std.specs.Option.{option_copied};
+    ghost use Rattle.command_line.specs.Operands.{Said};
+
+    ghost Value = { Said };
+
+    ghost view = { λ inside.
+        record { workers = inside.workers; own = option_copied inside.own } };
+}
+
+/// What these words say as options: `--workers N`, or nothing for no workers, and then `--own OWN`,
+/// or nothing.
+pub fn options_of(words: &[String]) -> Option<Options<'_>>
+    ensures { result ≡ options_in (map string_bytes words.now) }
+{
+    match words {
+        [name, number, more @ ..] if name.as_str() == "--workers" => {
+            let workers = workers_of(number.as_str())?;
+            let own = own_of(more)?;
+            Some(Options { workers, own })
+        }
+        _ => {
+            let own = own_of(words)?;
+            Some(Options {
+                workers: Workers { count: 0 },
+                own,
+            })
+        }
+    }
+}
+
+/// How many workers a word says: one or two digits, which write no more than 16.
+fn workers_of(number: &str) -> Option<Workers>
+    ensures { result ≡ workers_in number.now }
+{
+    if number.len() > 2 {
+        return None;
+    }
+    match decimal(number) {
+        Some(count) if count <= MOST_WORKERS => Some(Workers { count }),
+        _ => None,
+    }
+}
+
+/// The personal list that these words name, `--own OWN`, or none where there are no words.
+fn own_of(words: &[String]) -> Option<Option<&str>>
+    ensures { option_map option_copied result ≡ own_in (map string_bytes words.now) }
+{
+    match words {
+        [] => Some(None),
+        [name, own] if name.as_str() == "--own" => Some(Some(own.as_str())),
+        _ => None,
+    }
+}
