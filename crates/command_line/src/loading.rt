@@ -1,6 +1,7 @@
 //! Loads the files that words name. Why a file is not loaded is a failure.
 
 ghost use Rattle.std.specs.Prelude.{◌≡◌, ◌<◌, ◌≤◌, ℕ, List, Option, IfOk, IsErrOf};
+ghost use Rattle.std.specs.Arc.{arc_value};
 ghost use Rattle.std.specs.Option.{option_copied};
 ghost use Rattle.lists.specs.Answers.{GivesDue};
 ghost use Rattle.console_board.specs.Transcripts.{IsThere};
@@ -23,11 +24,7 @@ use personal_words::{OwnList, read_own};
 use spell_types::{Affixes, Lexicon};
 use std::alloc::Global;
 use std::sync::Arc;
-use verdict_cache::Cached;
 use word_verdict::Speller;
-
-/// How many verdicts are remembered.
-const VERDICTS: usize = 4_096;
 
 /// The dictionary that these names name: its two files, and the personal list behind them, if one is
 /// named.
@@ -48,29 +45,27 @@ pub fn load_dictionary<F: Files>(
     Ok(OwnDictionary::new(alloc, base, own)?)
 }
 
-/// The same, to be asked.
+/// The same, to be asked, which threads may share.
 pub fn load_judge<F: Files>(
     alloc: Global,
     files: &mut F,
     names: &DictionaryNames<'_>,
-) -> Result<Cached<Speller>, Failure>
+) -> Result<Arc<Speller>, Failure>
     ensures due { (there : OwnFiles) × IsOwnThere (F.told files.old) names.now there
-        × GivesDue MayCome (λ judge. judge) (in_force_due there) result }
+        × GivesDue MayCome (λ judge. arc_value judge) (in_force_due there) result }
     ensures failed { IsErrOf result (Load Failed) → F.faults files.old < F.faults files.new }
     ensures same { F.told files.new ≡ F.told files.old }
     ensures count { F.faults files.old ≤ F.faults files.new }
 {
     let dictionary = load_dictionary(alloc, files, names)?;
-    Ok(judge_of(alloc, &dictionary)?)
+    Ok(judge_of(&dictionary)?)
 }
 
-/// A dictionary, to be asked. Its last verdicts are remembered: most words of a running text came
-/// before, and to find a word again costs a fraction of judging it.
-fn judge_of(alloc: Global, dictionary: &OwnDictionary) -> Result<Cached<Speller>, NoMemory>
-    ensures { IfOk result (λ judge. judge ≡ in_force dictionary.now) }
+/// A dictionary, to be asked.
+fn judge_of(dictionary: &OwnDictionary) -> Result<Arc<Speller>, NoMemory>
+    ensures { IfOk result (λ judge. arc_value judge ≡ in_force dictionary.now) }
 {
-    let shared = Arc::try_clone(dictionary.speller())?;
-    Ok(Cached::new(alloc, shared, VERDICTS)?)
+    Ok(Arc::try_clone(dictionary.speller())?)
 }
 
 /// The dictionary of these two files alone.

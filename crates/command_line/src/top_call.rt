@@ -35,7 +35,7 @@ pub struct Ended {
 /// program's name; everything that is printed goes to `out`. The gate serves commands that are not
 /// built yet.
 pub fn run<R, F, S, K, G>(
-    _rt: &R,
+    rt: &R,
     alloc: Global,
     words: &[String],
     files: &mut F,
@@ -91,18 +91,12 @@ where
     ensures files_count { F.Files.faults files.old ≤ F.Files.faults files.new }
     ensures sink_count { K.Sink.faults out.old ≤ K.Sink.faults out.new }
 {
-    let status = answer(alloc, request_of(words), files, input, out);
+    let status = answer(rt, alloc, request_of(words), files, input, out);
     Ended { status }
 }
 
 /// Does all of `check` and `make`, and answers 2 for other words. It always returns.
-pub fn run_check<R, F, K>(
-    _rt: &R,
-    alloc: Global,
-    words: &[String],
-    files: &mut F,
-    out: &mut K,
-) -> u8
+pub fn run_check<R, F, K>(rt: &R, alloc: Global, words: &[String], files: &mut F, out: &mut K) -> u8
 where
     R: Threads + Sync,
     F: Files,
@@ -138,11 +132,12 @@ where
     ensures sink_count { K.faults out.old ≤ K.faults out.new }
 {
     let request = without_input(request_of(words));
-    answer(alloc, request, files, &mut NoInput, out)
+    answer(rt, alloc, request, files, &mut NoInput, out)
 }
 
 /// Does what a request asks for, and answers 2 where words ask for nothing.
-fn answer<F: Files, S: Source, K: Sink>(
+fn answer<R: Threads + Sync, F: Files, S: Source, K: Sink>(
+    rt: &R,
     alloc: Global,
     request: Option<Request<'_>>,
     files: &mut F,
@@ -179,8 +174,8 @@ fn answer<F: Files, S: Source, K: Sink>(
     ensures sink_count { K.Sink.faults out.old ≤ K.Sink.faults out.new }
 {
     match request {
-        Some(Request::Check { names, workers }) => check(alloc, names, workers, files, out),
-        Some(Request::Make(making)) => make(alloc, making, out),
+        Some(Request::Check { names, workers }) => check(rt, alloc, names, workers, files, out),
+        Some(Request::Make(making)) => make(rt, alloc, making, out),
         Some(Request::Edit { names, workers }) => edit(alloc, names, workers, files, input, out),
         None => tell_words(alloc, out),
     }

@@ -2,20 +2,21 @@
 use Rattle.std.proofs.Common.{◌≡◌, ℕ, ◌+◌, List, [], ◌∷◌, ◌++◌, length, map, refl, sym, ap, ◌∙◌}
 use Rattle.std.proofs.Common.{length-append}
 use Rattle.std.specs.Borrow.{Bor}
-use Rattle.std.specs.List.{flat_map, enumerate_from}
+use Rattle.std.specs.List.{flat_map}
 use Rattle.std.specs.Str.{chars}
 use Rattle.std.proofs.lemmas.List.{length-map}
 use Rattle.std.proofs.lemmas.Grind.{flat_map-append}
 use Rattle.spell_types.specs.declared.Lexicon.{Lexicon}
 use Rattle.mark_types.specs.Handed.{mark_of}
 use Rattle.mark_types.specs.Words.{words_of}
-use Rattle.mark_types.specs.Marks.{LocatedWord, located_at, located_words, in_paragraph, one_by_one}
+use Rattle.mark_types.specs.Marks.{LocatedWord, located_at, located_words, in_paragraph}
 use Rattle.mark_types.specs.Marks.{marks_of}
 use Rattle.paragraph_marks.specs.Paragraphs.{marks_in}
 use Rattle.document_report.specs.declared.printing.Output.{Output}
 use Rattle.document_report.specs.declared.printing.Output.TheVariants.{Marks, Summary}
 use Rattle.document_report.specs.Given.{listed}
 use Rattle.document_report.specs.Reports.{line_of, lines_of, paragraph_lines}
+use Rattle.document_report.specs.Parts.{each_from}
 use Rattle.document_report.specs.Texts.{lent}
 
 located-lines : (number : ℕ) (words : List LocatedWord) → lines_of number (map mark_of words)
@@ -51,13 +52,7 @@ words_from lexicon [] = 0
 words_from lexicon (text ∷ texts) =
     length (words_of lexicon.affixes.wordchars (chars text.now)) + words_from lexicon texts
 
--- what is found in each paragraph alone, the first of which has this number
-abbrev each_from : (List ℕ → List LocatedWord) → ℕ → List (List ℕ) → List LocatedWord
-each_from found number paragraphs =
-    flat_map (λ numbered. map (in_paragraph numbered.0) (found numbered.1))
-    (enumerate_from number paragraphs)
-
-lines-each : (lexicon : Lexicon) (number : ℕ) (texts : List (Bor (List ℕ)))
+pub lines-each : (lexicon : Lexicon) (number : ℕ) (texts : List (Bor (List ℕ)))
     → lines_from lexicon number texts
     ≡ flat_map line_of
     (each_from (λ paragraph. marks_of lexicon (paragraph ∷ [])) number (map chars (lent texts)))
@@ -79,7 +74,7 @@ length-each found number paragraph paragraphs =
     ∙ ap (λ n. n + length (each_from found (number + 1) paragraphs))
     (length-map (found paragraph) (in_paragraph number))
 
-marks-each : (lexicon : Lexicon) (number : ℕ) (texts : List (Bor (List ℕ)))
+pub marks-each : (lexicon : Lexicon) (number : ℕ) (texts : List (Bor (List ℕ)))
     → marks_from lexicon texts
     ≡ length (each_from (λ paragraph. marks_of lexicon (paragraph ∷ [])) number
     (map chars (lent texts)))
@@ -95,7 +90,7 @@ abbrev AreAlone : Type 0
 AreAlone = (wordchars paragraph : List ℕ) → located_words wordchars (paragraph ∷ [])
     ≡ map (λ word. located_at 1 word.from word) (words_of wordchars paragraph)
 
-words-each : AreAlone → (lexicon : Lexicon) (number : ℕ) (texts : List (Bor (List ℕ)))
+pub words-each : AreAlone → (lexicon : Lexicon) (number : ℕ) (texts : List (Bor (List ℕ)))
     → words_from lexicon texts
     ≡ length (each_from (λ paragraph. located_words lexicon.affixes.wordchars (paragraph ∷ []))
     number (map chars (lent texts)))
@@ -112,27 +107,6 @@ words-each are_alone lexicon number (text ∷ texts) =
     ∙ length-map (words_of wordchars paragraph) (λ word. located_at 1 word.from word)))
     ∙ sym (length-each (λ paragraph. located_words wordchars (paragraph ∷ [])) number paragraph
     (map chars (lent texts)))
-
-pub lines-all : (lexicon : Lexicon) (texts : List (Bor (List ℕ)))
-    → marks_of lexicon (map chars (lent texts)) ≡ one_by_one
-    (λ paragraph. marks_of lexicon (paragraph ∷ [])) (map chars (lent texts))
-    → lines_from lexicon 1 texts ≡ flat_map line_of (marks_of lexicon (map chars (lent texts)))
-lines-all lexicon texts local = lines-each lexicon 1 texts ∙ ap (flat_map line_of) (sym local)
-
-pub marks-all : (lexicon : Lexicon) (texts : List (Bor (List ℕ)))
-    → marks_of lexicon (map chars (lent texts)) ≡ one_by_one
-    (λ paragraph. marks_of lexicon (paragraph ∷ [])) (map chars (lent texts))
-    → marks_from lexicon texts ≡ length (marks_of lexicon (map chars (lent texts)))
-marks-all lexicon texts local = marks-each lexicon 1 texts ∙ ap length (sym local)
-
-pub words-all : (lexicon : Lexicon) (texts : List (Bor (List ℕ))) → AreAlone
-    → located_words lexicon.affixes.wordchars (map chars (lent texts)) ≡ one_by_one
-    (λ paragraph. located_words lexicon.affixes.wordchars (paragraph ∷ []))
-    (map chars (lent texts))
-    → words_from lexicon texts
-    ≡ length (located_words lexicon.affixes.wordchars (map chars (lent texts)))
-words-all lexicon texts are_alone local =
-    words-each are_alone lexicon 1 texts ∙ ap length (sym local)
 
 pub listed-none : (output : Output) → listed output [] ≡ []
 listed-none Marks = refl

@@ -5,36 +5,45 @@
 #![tactic(auto)]
 
 ghost use Rattle.std.specs.Prelude.{◌≡◌};
+ghost use Rattle.std.specs.Arc.{arc_value};
 ghost use Rattle.lists.specs.Answers.{GivesDue};
 ghost use Rattle.document_report.specs.Documents.{MayCome, document_due};
 ghost use Rattle.document_report.specs.Given.{printed_by, printed_as};
 
+mod counting;
 mod fault;
 mod paragraphs;
 mod printing;
 
 pub use fault::DocumentFault;
-use mark_types::Asker;
+use mark_types::Judge;
 use paragraphs::{check_lengths, paragraphs_in, text_of};
 use printing::print;
 pub use printing::{Output, Report};
 use std::alloc::Global;
+use std::sync::Arc;
+use std::thread::Threads;
 
-/// What is to be printed of a document, by the asker's dictionary; or what is wrong first: a line
+/// What is to be printed of a document, by the judge's dictionary; or what is wrong first: a line
 /// that is not UTF-8, then the number of the paragraphs, then the length of one.
+///
+/// So many workers share the paragraphs, each in a thread. The caller's thread is one of them, and
+/// does the work of a thread that cannot be started. Without workers it does all.
 #[tactic(auto, unfolding(crate::specs::Documents::document_due))]
-pub fn report<K: Asker>(
+pub fn report<R: Threads + Sync, J: Judge + Drop + Send + Sync>(
+    rt: &R,
     alloc: Global,
-    asker: &mut K,
+    judge: &Arc<J>,
+    workers: u64,
     output: Output,
     document: &[u8],
 ) -> Result<Report, DocumentFault>
     ensures due { GivesDue MayCome printed_by
-        (document_due (printed_as output) (K.lexicon asker.old) document.now) result }
-    ensures same { K.lexicon asker.new ≡ K.lexicon asker.old }
+        (document_due (printed_as output) (J.lexicon (arc_value judge.now)) document.now)
+        result }
 {
     let text = text_of(document)?;
     let paragraphs = paragraphs_in(alloc, text)?;
     check_lengths(&paragraphs)?;
-    Ok(print(alloc, asker, output, &paragraphs)?)
+    Ok(print(rt, alloc, judge, workers, output, &paragraphs)?)
 }

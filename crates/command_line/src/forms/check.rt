@@ -1,6 +1,7 @@
 //! What `check` is asked for, and what it is to print, as far as the files let it.
 
 ghost use Rattle.std.specs.Prelude.{◌≡◌, ◌<◌, ◌≤◌, Some, IsErrOf, map};
+ghost use Rattle.std.specs.Arc.{arc_value};
 ghost use Rattle.std.specs.String.{string_bytes};
 ghost use Rattle.lists.specs.Answers.{GivesDue};
 ghost use Rattle.document_report.specs.Given.{printed_as, printed_by};
@@ -23,7 +24,8 @@ use document_report::{Output, Report, report};
 use outside::{Files, Sink};
 use std::alloc::Global;
 use std::marker::Model;
-use verdict_cache::Cached;
+use std::sync::Arc;
+use std::thread::Threads;
 use word_verdict::Speller;
 
 /// The files that the words `check AFF DIC FILE` name, with the options behind them. Contracts see
@@ -63,23 +65,24 @@ pub fn check_of(operands: &[String]) -> Option<Request<'_>>
 }
 
 /// Writes the report on a document.
-pub fn check<F: Files, K: Sink>(
+pub fn check<R: Threads + Sync, F: Files, K: Sink>(
+    rt: &R,
     alloc: Global,
     names: CheckNames<'_>,
-    _workers: Workers,
+    workers: Workers,
     files: &mut F,
     out: &mut K,
 ) -> u8
     // Whatever there is of an input, which stays untouched.
     ensures due { (reading : Reading) → IsUntouched reading
-        → EndsAs (IsAnswerTo (Some (Check names.entry _workers)) (record {
+        → EndsAs (IsAnswerTo (Some (Check names.entry workers)) (record {
           folder = F.told files.old;
           files_before = F.faults files.old;
           files_after = F.faults files.new;
           reading = reading;
         })) (K.faults out.old < K.faults out.new) (K.written out.old) (K.written out.new) result }
     ensures complete { (reading : Reading) → K.faults out.new ≡ K.faults out.old
-        → EndsAs ((form_of (Some (Check names.entry _workers))).whole (record {
+        → EndsAs ((form_of (Some (Check names.entry workers))).whole (record {
           folder = F.told files.old;
           files_before = F.faults files.old;
           files_after = F.faults files.new;
@@ -89,15 +92,17 @@ pub fn check<F: Files, K: Sink>(
     ensures files_count { F.faults files.old ≤ F.faults files.new }
     ensures sink_count { K.faults out.old ≤ K.faults out.new }
 {
-    let outcome = outcome_of(alloc, names, files);
+    let outcome = outcome_of(rt, alloc, names, workers, files);
     put_outcome(alloc, out, outcome)
 }
 
 /// The report on the document, or what stops it first: the dictionary is loaded before the
 /// document, and of that its bytes come before its lines.
-fn outcome_of<F: Files>(
+fn outcome_of<R: Threads + Sync, F: Files>(
+    rt: &R,
     alloc: Global,
     names: CheckNames<'_>,
+    workers: Workers,
     files: &mut F,
 ) -> Result<Report, Failure>
     // It is what is due of some files, which are those that are told, where some are.
@@ -107,23 +112,25 @@ fn outcome_of<F: Files>(
     ensures same { F.told files.new ≡ F.told files.old }
     ensures count { F.faults files.old ≤ F.faults files.new }
 {
-    let mut judge = load_judge(alloc, files, &names.dictionary)?;
+    let judge = load_judge(alloc, files, &names.dictionary)?;
     let document = load_document(alloc, files, names.document)?;
-    report_by(alloc, &mut judge, Output::Marks, &document)
+    report_by(rt, alloc, &judge, workers.count(), Output::Marks, &document)
 }
 
-/// What is to be printed of a document by a dictionary.
-pub fn report_by(
+/// What is to be printed of a document by a dictionary, whose paragraphs so many workers share.
+pub fn report_by<R: Threads + Sync>(
+    rt: &R,
     alloc: Global,
-    judge: &mut Cached<Speller>,
+    judge: &Arc<Speller>,
+    workers: u64,
     output: Output,
     document: &[u8],
 ) -> Result<Report, Failure>
     ensures due { GivesDue MayCome printed_by
-        (printed_due (printed_as output) judge.old document.now) result }
+        (printed_due (printed_as output) (arc_value judge.now) document.now) result }
     ensures failed { ¬ (IsErrOf result (Load Failed)) }
 {
-    match report(alloc, judge, output, document) {
+    match report(rt, alloc, judge, workers, output, document) {
         Ok(report) => Ok(report),
         Err(fault) => Err(Failure::from(fault)),
     }

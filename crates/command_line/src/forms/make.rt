@@ -25,6 +25,7 @@ use lists::NoMemory;
 use outside::{Files, Sink, SureFiles};
 use std::alloc::Global;
 use std::marker::Model;
+use std::thread::Threads;
 use text_lines::decimal;
 use work_maker::{make_aff, make_dic, make_text};
 
@@ -78,7 +79,7 @@ fn of_numbers(start: Option<u64>, size: Option<u64>) -> Option<Making>
 }
 
 /// Writes the summary of a dictionary and a text that are made.
-pub fn make<K: Sink>(alloc: Global, making: Making, out: &mut K) -> u8
+pub fn make<R: Threads + Sync, K: Sink>(rt: &R, alloc: Global, making: Making, out: &mut K) -> u8
     // Whatever there is outside, which stays untouched.
     ensures due { (folder : Option Folder) (files : ℕ) (reading : Reading) → IsUntouched reading
         → EndsAs (IsAnswerTo (Some (Make making)) (record {
@@ -92,13 +93,13 @@ pub fn make<K: Sink>(alloc: Global, making: Making, out: &mut K) -> u8
         (K.written out.new) result }
     ensures sink_count { K.faults out.old ≤ K.faults out.new }
 {
-    let outcome = outcome_of(alloc, making);
+    let outcome = outcome_of(rt, alloc, making);
     put_outcome(alloc, out, outcome)
 }
 
 /// The summary of a dictionary and a text that are made: the dictionary is loaded from memory, and
 /// the text is checked by it, as files are.
-fn outcome_of(alloc: Global, making: Making) -> Result<Report, Failure>
+fn outcome_of<R: Threads + Sync>(rt: &R, alloc: Global, making: Making) -> Result<Report, Failure>
     ensures due { GivesDue MayCome printed_by (make_due making) result }
     ensures failed { ¬ (IsErrOf result (Load Failed)) }
 {
@@ -108,12 +109,12 @@ fn outcome_of(alloc: Global, making: Making) -> Result<Report, Failure>
         dic: "made.dic",
         own: None,
     };
-    let mut judge = load_judge(alloc, &mut files, &names)?;
+    let judge = load_judge(alloc, &mut files, &names)?;
     let text = make_text(alloc, making.start, making.size)?;
     let output = Output::Summary {
         entries: making.size,
     };
-    report_by(alloc, &mut judge, output, &text)
+    report_by(rt, alloc, &judge, 0, output, &text)
 }
 
 /// The files of the dictionary that is made, in memory.

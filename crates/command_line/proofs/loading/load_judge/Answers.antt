@@ -1,5 +1,6 @@
 -- What is asked is the base extended by the list.
 use Rattle.std.proofs.Common.{◌∙◌, ap, sym, Ok}
+use Rattle.std.specs.Arc.{arc_value}
 use Rattle.lists.specs.AnswerLaws.{fails-then, gives-fault}
 use Rattle.lists.specs.Answers.{◌>>=◌}
 use Rattle.own_dictionary.specs.Dictionaries.{in_force}
@@ -12,7 +13,7 @@ returns-in_err-dictionary-clause-due g c =
     let there = c.in_err-dictionary.ensures.due in (
       there.0,
       there.1,
-      gives-fault MayCome (λ judge. judge) c.from_residual.result
+      gives-fault MayCome (λ judge. arc_value judge) c.from_residual.result
           (fails-then MayCome _ there.2) c.from_residual.ensures.1,
     )
 

@@ -1,5 +1,6 @@
 -- Each step gives what is due.
 use Rattle.std.proofs.Common.{subst}
+use Rattle.std.specs.Arc.{arc_value}
 use Rattle.lists.specs.Answers.{GivesDue}
 use Rattle.document_report.specs.Given.{printed_by}
 use Rattle.document_report.specs.Reports.{report_of}
@@ -33,5 +34,5 @@ returns-clause-due g c =
     (check-reported told _ result c.in_ok-judge.ensures.due
     (rw c.in_ok-judge.ensures.same at c.in_ok-document.ensures.due)
     (subst (λ document. GivesDue MayCome printed_by
-    (printed_due report_of c.in_ok-judge.judge document) result)
+    (printed_due report_of (arc_value c.in_ok-judge.judge) document) result)
     c.deref.ensures.value c.report_by.ensures.due))

@@ -1,5 +1,6 @@
 -- The report is what is due, or why there is none.
 use Rattle.std.proofs.Common.{◌≡◌, ◌∙◌, ap, sym, subst, refl, Err, Result}
+use Rattle.std.specs.Arc.{arc_value}
 use Rattle.lists.specs.AnswerLaws.{fails-told}
 use Rattle.lists.specs.Answers.{FailsAs, failing}
 use Rattle.document_report.specs.Documents.{MayCome as ReportMayCome}
@@ -25,16 +26,17 @@ same-error one other result is also = cc
 
 pub returns-in-Ok-clause-due : goal.returns-in-Ok-clause-due
 unfolding printed_due
-returns-in-Ok-clause-due c = ap (failing document_failure) c.in-Ok.ensures.due
+returns-in-Ok-clause-due g c = ap (failing document_failure) c.in-Ok.ensures.due
 
 pub returns-in-Err-clause-due : goal.returns-in-Err-clause-due
 unfolding printed_due
-returns-in-Err-clause-due c =
-    let due = printed_due (printed_as c.args.output) c.args.judge.now c.args.document.now in
+returns-in-Err-clause-due g c =
+    let lexicon = arc_value c.args.judge.now in
+    let due = printed_due (printed_as c.args.output) lexicon c.args.document.now in
     subst (FailsAs MayCome due) (sym c.from.ensures)
     (fails-told ReportMayCome MayCome document_failure report-comes c.in-Err.ensures.due)
 
 pub returns-in-Err-clause-failed : goal.returns-in-Err-clause-failed
-returns-in-Err-clause-failed c =
+returns-in-Err-clause-failed g c =
     λ is. no-load c.in-Err.fault
     (sym c.from.ensures ∙ same-error c.from.result (Load Failed) (Err c.from.result) refl is)

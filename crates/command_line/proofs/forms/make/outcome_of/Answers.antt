@@ -1,5 +1,6 @@
 -- Each step gives what is due.
 use Rattle.std.proofs.Common.{◌≡◌, inl, subst, arith, Some, Ok}
+use Rattle.std.specs.Arc.{arc_value}
 use Rattle.lists.specs.AnswerLaws.{fails-then, gives-fault, gives-then}
 use Rattle.lists.specs.Answers.{FailsAs, GivesDue}
 use Rattle.outside.specs.Memory.{file_of}
@@ -15,7 +16,7 @@ use Rattle.command_line.proofs.forms.make.outcome_of.Goals as goal
 
 pub returns-in_err-judge-clause-due : goal.returns-in_err-judge-clause-due
 unfolding checked_due
-returns-in_err-judge-clause-due c =
+returns-in_err-judge-clause-due g c =
     let there = c.in_err-judge.ensures.due in
     let result = c.from_residual-in_err-judge.result in
     let told = Some (file_of c.in_ok-files.files.files.items) in
@@ -26,13 +27,13 @@ returns-in_err-judge-clause-due c =
     c.from_residual-in_err-judge.ensures.1)
 
 pub returns-in_err-text-clause-due : goal.returns-in_err-text-clause-due
-returns-in_err-text-clause-due c =
+returns-in_err-text-clause-due g c =
     gives-fault MayCome {fault = NoMemory} printed_by c.from_residual-in_err-text.result (inl tt)
     c.from_residual-in_err-text.ensures.1
 
 pub returns-clause-due : goal.returns-clause-due
 unfolding checked_due
-returns-clause-due c =
+returns-clause-due g c =
     let there = c.in_ok-judge.ensures.due in
     let small = c.in_ok-text.ensures.small in
     let limited = c.making.invariant.1 in
@@ -43,9 +44,9 @@ returns-clause-due c =
     let bytes = text_bytes c.making.inside.start size in
     subst (λ (asked : StartAndSize). GivesDue MayCome printed_by (make_due asked) result)
     c.making.view_is (gives-then MayCome _ printed_by result
-    (subst (λ there. in_force_due there ≡ Ok c.in_ok-judge.judge) made there.2)
+    (subst (λ there. in_force_due there ≡ Ok (arc_value c.in_ok-judge.judge)) made there.2)
     (gives-then MayCome _ printed_by result
     (bytes-made bytes c.in_ok-text.text.items c.in_ok-text.ensures.bytes (omega arith))
     (subst (λ document. GivesDue MayCome printed_by
-    (printed_due (summary_of size) c.in_ok-judge.judge document) result)
+    (printed_due (summary_of size) (arc_value c.in_ok-judge.judge) document) result)
     c.deref.ensures.value c.report_by.ensures.due)))

@@ -2,7 +2,7 @@
 use Rattle.std.proofs.Common.{◌≡◌, ◌++◌, drop}
 use Rattle.std.specs.String.{string_bytes}
 use Rattle.document_report.specs.Reports.{lines_of}
-use Rattle.document_report.proofs.printing.push_marks.Given as goal
+use Rattle.document_report.proofs.counting.push_marks.Given as goal
 
 abbrev pub invariant-loop-mark : goal.invariant-loop-mark
 invariant-loop-mark l = string_bytes l.text ++ lines_of l.number (drop l.mark-index l.marks)
