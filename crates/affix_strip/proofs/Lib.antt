@@ -17,4 +17,5 @@ pub mod QuestionLemmas
 pub mod SameLemmas
 pub mod StepLemmas
 pub mod TableLemmas
+pub mod TurnLemmas
 pub mod UndoneWords

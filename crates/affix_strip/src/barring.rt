@@ -1,13 +1,14 @@
 //! How it is found out whether a word is barred.
 
-ghost use Rattle.std.specs.Prelude.{◌≡◌, IfOk};
+ghost use Rattle.std.specs.Prelude.{◌≡◌, ◌&&◌, IfOk};
 ghost use Rattle.std.specs.List.{list_any};
+ghost use Rattle.spell_types.specs.Flags.{has};
 ghost use Rattle.affix_strip.specs.Tables.{IsBarring, is_forbidden_entry, takes_affixes};
 ghost use Rattle.affix_strip.specs.Classes.{has_flag_of};
 
 use crate::rule_flags::flags_of_classes;
 use lists::NoMemory;
-use spell_types::{FlagSet, Lexicon, has, sets_have_their_flags};
+use spell_types::{Flag, FlagSet, Lexicon, has, sets_have_their_flags};
 use std::alloc::Global;
 
 /// Where the derivations of forbidden words are found.
@@ -41,10 +42,13 @@ fn one_is_forbidden(lexicon: &Lexicon) -> bool
     ensures { result ≡ list_any (is_forbidden_entry lexicon.now) lexicon.now.entries }
 {
     let forbidden = lexicon.affixes.signs.forbidden;
-    lexicon
-        .entries
-        .iter()
-        .any(|entry| has(&entry.flags, forbidden))
+    let entries = &lexicon.entries;
+    for place in 0..entries.len() {
+        if has(entries.at(place).flags(), forbidden) {
+            return true;
+        }
+    }
+    false
 }
 
 /// Whether a forbidden entry has one of these flags.
@@ -52,8 +56,20 @@ fn one_takes_affixes(lexicon: &Lexicon, classes: &FlagSet) -> bool
     ensures { result ≡ list_any (takes_affixes lexicon.now classes.now) lexicon.now.entries }
 {
     let forbidden = lexicon.affixes.signs.forbidden;
-    lexicon.entries.iter().any(|entry| has(&entry.flags, forbidden)
-        && has_flag_of(&entry.flags, classes))
+    let entries = &lexicon.entries;
+    for place in 0..entries.len() {
+        if takes_affixes(entries.at(place).flags(), forbidden, classes) {
+            return true;
+        }
+    }
+    false
+}
+
+/// Whether these flags are those of a forbidden entry that has one of the flags of classes.
+fn takes_affixes(flags: &FlagSet, forbidden: Option<Flag>, classes: &FlagSet) -> bool
+    ensures { result ≡ (has flags.now forbidden && has_flag_of classes.now flags.now) }
+{
+    has(flags, forbidden) && has_flag_of(flags, classes)
 }
 
 /// Whether one of these flags is in the set.

@@ -4,7 +4,8 @@
 
 ghost use Rattle.std.specs.Prelude.{◌≡◌, ◌++◌, [], ◌∷◌, ◌^◌, ◌<◌, ℕ, List, true, false, length};
 ghost use Rattle.std.specs.Prelude.{nat_eq, slice_get, OnOk, IfOk};
-ghost use Rattle.std.specs.Option.{option_flatten};
+ghost use Rattle.std.specs.Option.{option_flatten, option_map_or};
+ghost use Rattle.std.specs.Str.{chars};
 ghost use Rattle.indexmap.specs.IndexMap.{get};
 ghost use Rattle.spell_types.specs.declared.Entry.{Entry};
 ghost use Rattle.spell_types.specs.Cases.{is_same_word};
@@ -12,12 +13,12 @@ ghost use Rattle.affix_strip.specs.Hashes.{hash_of, IsHashed};
 ghost use Rattle.affix_strip.specs.EntryTable.{has_hash, has_word, passes_at, last_where};
 ghost use Rattle.affix_strip.specs.EntryTable.{HasEntries, AreEntriesOf};
 
-use crate::hashed::{Hashed, START, fold};
+use crate::hashed::{Hashed, fold, hash_of};
 use indexmap::IndexMap;
 use key_filter::KeyFilter;
 use lists::NoMemory;
 use smallvec::SmallVec;
-use spell_types::Entry;
+use spell_types::{Entries, EntryRef, is_spelled};
 use std::alloc::Global;
 
 /// Places of entries. Most words have one or two.
@@ -37,7 +38,7 @@ pub(crate) struct EntryTable {
 
 impl EntryTable {
     /// The table of these entries. It fails only where memory is wanting.
-    pub(crate) fn new(alloc: Global, entries: &[Entry]) -> Result<EntryTable, NoMemory>
+    pub(crate) fn new(alloc: Global, entries: &Entries) -> Result<EntryTable, NoMemory>
         requires { length entries.now < 2 ^ 32 }
         ensures { IfOk result (λ made. HasEntries entries.now made) }
     {
@@ -49,19 +50,19 @@ impl EntryTable {
             earlier,
             hashes,
         };
-        for (place, entry) in entries.iter().enumerate() {
-            table.add(entry, place as u32)?;
+        for place in 0..entries.len() {
+            table.add(&entries.at(place), place as u32)?;
         }
         Ok(table)
     }
 
     /// Adds the entry with a place, which is the one behind the entries so far.
-    fn add(&mut self, entry: &Entry, place: u32) -> Result<(), NoMemory>
+    fn add(&mut self, entry: &EntryRef<'_>, place: u32) -> Result<(), NoMemory>
         ensures { OnOk result
             ((entries : List Entry) → length entries ≡ place → HasEntries entries self.old
             → HasEntries (entries ++ entry.now ∷ []) self.new) }
     {
-        let hash = fold(START, entry.word.as_slice());
+        let hash = hash_of(entry.word());
         self.hashes.insert(hash);
         let earlier = self.last.insert(hash, place)?;
         self.earlier.push(earlier)?;
@@ -82,7 +83,7 @@ impl EntryTable {
     pub(crate) fn places_of(
         &self,
         alloc: Global,
-        entries: &[Entry],
+        entries: &Entries,
         front: Hashed<'_>,
         back: &[char],
     ) -> Result<Places, NoMemory>
@@ -103,7 +104,7 @@ impl EntryTable {
 
     /// The last place of an entry whose word is `front` and `back` joined. The hash is that of the
     /// word.
-    fn last_of(&self, entries: &[Entry], hash: u64, front: &[char], back: &[char]) -> Option<u32>
+    fn last_of(&self, entries: &Entries, hash: u64, front: &[char], back: &[char]) -> Option<u32>
         requires entries { HasEntries entries.now self.now }
         requires hash { hash ≡ hash_of (front.now ++ back.now) }
         ensures { result ≡ last_where (has_word (front.now ++ back.now)) entries.now
@@ -124,7 +125,7 @@ impl EntryTable {
     }
 
     /// The last place of such an entry below a place where one stands.
-    fn before(&self, entries: &[Entry], place: u32, front: &[char], back: &[char]) -> Option<u32>
+    fn before(&self, entries: &Entries, place: u32, front: &[char], back: &[char]) -> Option<u32>
         requires entries { HasEntries entries.now self.now }
         requires place { passes_at (has_word (front.now ++ back.now)) entries.now place ≡ true }
         ensures { result ≡ last_where (has_word (front.now ++ back.now)) entries.now place }
@@ -136,7 +137,7 @@ impl EntryTable {
     /// of its hash.
     fn down_from(
         &self,
-        entries: &[Entry],
+        entries: &Entries,
         start: Option<u32>,
         front: &[char],
         back: &[char],
@@ -165,21 +166,40 @@ impl EntryTable {
 }
 
 /// Whether there is an entry at a place, and its word is `front` and `back` joined.
-fn is_word_at(entries: &[Entry], place: u32, front: &[char], back: &[char]) -> bool
+fn is_word_at(entries: &Entries, place: u32, front: &[char], back: &[char]) -> bool
     ensures { result ≡ passes_at (has_word (front.now ++ back.now)) entries.now place }
 {
     match entries.get(place as usize) {
         None => false,
-        Some(entry) => is_joined(entry.word.as_slice(), front, back),
+        Some(entry) => is_joined(entry.word(), front, back),
     }
 }
 
 /// Whether a word is `front` and `back` joined.
-fn is_joined(word: &[char], front: &[char], back: &[char]) -> bool
-    ensures { result ≡ is_same_word word.now (front.now ++ back.now) }
+fn is_joined(word: &str, front: &[char], back: &[char]) -> bool
+    ensures { result ≡ is_same_word (chars word.now) (front.now ++ back.now) }
 {
-    match word.strip_prefix(front) {
+    match rest_behind(word, front) {
         None => false,
-        Some(rest) => rest == back,
+        Some(rest) => is_spelled(rest, back),
     }
+}
+
+/// What stands in a text behind these characters, if it begins with them.
+fn rest_behind<'a>(text: &'a str, front: &[char]) -> Option<&'a str>
+    ensures { (back : List ℕ) → is_same_word (chars text.now) (front.now ++ back)
+        ≡ option_map_or (λ rest. is_same_word (chars rest.now) back) result false }
+{
+    let mut left = text.chars();
+    for c in front {
+        match left.next() {
+            None => return None,
+            Some(first) => {
+                if first != *c {
+                    return None;
+                }
+            }
+        }
+    }
+    Some(left.as_str())
 }

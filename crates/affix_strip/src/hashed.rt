@@ -1,7 +1,8 @@
 //! Texts with their hashes.
 
 ghost use Rattle.std.specs.Prelude.{◌≡◌};
-ghost use Rattle.affix_strip.specs.Hashes.{folded, IsHashed};
+ghost use Rattle.std.specs.Str.{chars};
+ghost use Rattle.affix_strip.specs.Hashes.{folded, hash_of, IsHashed};
 
 /// The hash of a text without characters.
 pub(crate) const START: u64 = 1;
@@ -36,6 +37,17 @@ pub(crate) fn fold(hash: u64, characters: &[char]) -> u64
     let mut folded = hash;
     for c in characters {
         folded = folded.wrapping_mul(FACTOR).wrapping_add(*c as u64);
+    }
+    folded
+}
+
+/// The hash of a text that is kept as UTF-8.
+pub(crate) fn hash_of(text: &str) -> u64
+    ensures { result ≡ hash_of (chars text.now) }
+{
+    let mut folded = START;
+    for c in text.chars() {
+        folded = fold(folded, &[c]);
     }
     folded
 }

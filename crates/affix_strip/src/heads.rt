@@ -1,7 +1,7 @@
 //! Which words may be forms of forbidden words. Suffixes change no more than the end of a word, so
 //! that its front tells most words that are none, without a look at rules or entries.
 
-ghost use Rattle.std.specs.Prelude.{◌≡◌, false, length, IfOk, IfSome};
+ghost use Rattle.std.specs.Prelude.{◌≡◌, false, length, IfOk, OnOk, IfSome};
 ghost use Rattle.affix_strip.specs.Heads.{AreCutWithin, AreHeads, AreStripsWithin, IsNotedHead};
 ghost use Rattle.affix_strip.specs.Heads.{IsHeaded, IsUnheaded, KeepsHeads, MayHeads, NoneHeads};
 ghost use Rattle.affix_strip.specs.Heads.{cut_of};
@@ -12,7 +12,7 @@ use crate::hashed::{START, fold};
 use crate::rule_flags::flags_of_classes;
 use key_filter::KeyFilter;
 use lists::NoMemory;
-use spell_types::{Entry, Flag, FlagSet, Lexicon, Rule, Side, has};
+use spell_types::{Entries, EntryRef, Flag, FlagSet, Lexicon, Rule, Side, chars_of, has};
 use std::alloc::Global;
 
 /// How many times as many keys the filter has room for as there are heads: each front of a word is
@@ -88,32 +88,47 @@ fn has_head(heads: &KeyFilter, word: &[char]) -> bool
 /// most.
 fn heads_of(
     alloc: Global,
-    entries: &[Entry],
+    entries: &Entries,
     forbidden: Option<Flag>,
     most: usize,
 ) -> Result<KeyFilter, NoMemory>
     ensures { IfOk result (AreHeads entries.now forbidden most) }
 {
-    let count = entries
-        .iter()
-        .filter(|entry| has(&entry.flags, forbidden))
-        .count();
+    let count = count_of(entries, forbidden);
     let mut heads = KeyFilter::new(alloc, count.saturating_mul(ROOM))?;
-    for entry in entries {
-        add_head(entry, forbidden, most, &mut heads);
+    for place in 0..entries.len() {
+        add_head(alloc, &entries.at(place), forbidden, most, &mut heads)?;
     }
     Ok(heads)
 }
 
+/// How many entries are forbidden.
+fn count_of(entries: &Entries, forbidden: Option<Flag>) -> usize {
+    let mut count = 0usize;
+    for place in 0..entries.len() {
+        if has(entries.at(place).flags(), forbidden) {
+            count = count.saturating_add(1);
+        }
+    }
+    count
+}
+
 /// Adds the hash of an entry's head, if the entry is forbidden.
-fn add_head(entry: &Entry, forbidden: Option<Flag>, most: usize, heads: &mut KeyFilter)
-    ensures there { IsNotedHead forbidden most heads.new entry.now }
+fn add_head(
+    alloc: Global,
+    entry: &EntryRef<'_>,
+    forbidden: Option<Flag>,
+    most: usize,
+    heads: &mut KeyFilter,
+) -> Result<(), NoMemory>
+    ensures there { OnOk result (IsNotedHead forbidden most heads.new entry.now) }
     ensures kept { KeepsHeads heads.old heads.new }
 {
-    if has(&entry.flags, forbidden) {
-        let word = entry.word.as_slice();
+    if has(entry.flags(), forbidden) {
+        let word = chars_of(alloc, entry.word())?;
         heads.insert(fold(START, &word[..word.len().saturating_sub(most)]));
     }
+    Ok(())
 }
 
 /// How many characters suffixes take off the end of a word at most, if the number fits: one of these

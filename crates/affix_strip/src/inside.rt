@@ -13,13 +13,13 @@ ghost use Rattle.affix_strip.specs.Classes.{has_flag_of};
 
 use crate::barring::has_flag_of;
 use crate::edges::{Edge, Those};
-use crate::hashed::{START, fold};
+use crate::hashed::{START, fold, hash_of};
 use crate::rule_flags::flags_of_classes;
 use key_filter::KeyFilter;
 use lists::NoMemory;
 use spell_types::{
-    Affixes, Entry, Flag, FlagSet, Lexicon, Pattern, PatternStep, Place, Rule, Side, Signs, has,
-    sets_have_their_flags,
+    Affixes, Entries, EntryRef, Flag, FlagSet, Lexicon, Pattern, PatternStep, Place, Rule, Side,
+    Signs, has, sets_have_their_flags,
 };
 use std::alloc::Global;
 
@@ -77,23 +77,23 @@ impl Inside {
 }
 
 /// The hashes of the words of the entries that have one of these flags.
-fn words_with(alloc: Global, entries: &[Entry], flags: &FlagSet) -> Result<KeyFilter, NoMemory>
+fn words_with(alloc: Global, entries: &Entries, flags: &FlagSet) -> Result<KeyFilter, NoMemory>
     ensures { IfOk result (HasWords entries.now flags.now) }
 {
     let mut words = KeyFilter::new(alloc, entries.len())?;
-    for entry in entries {
-        add_word(entry, flags, &mut words);
+    for place in 0..entries.len() {
+        add_word(&entries.at(place), flags, &mut words);
     }
     Ok(words)
 }
 
 /// Adds the hash of an entry's word, if the entry has one of these flags.
-fn add_word(entry: &Entry, flags: &FlagSet, words: &mut KeyFilter)
+fn add_word(entry: &EntryRef<'_>, flags: &FlagSet, words: &mut KeyFilter)
     ensures there { IsNotedWord flags.now words.new entry.now }
     ensures kept { KeepsWords words.old words.new }
 {
-    if has_flag_of(&entry.flags, flags) {
-        words.insert(fold(START, entry.word.as_slice()));
+    if has_flag_of(entry.flags(), flags) {
+        words.insert(hash_of(entry.word()));
     }
 }
 

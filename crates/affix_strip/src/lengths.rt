@@ -1,9 +1,10 @@
 //! How long the forms of a dictionary are at most.
 
-ghost use Rattle.std.specs.Prelude.{◌≡◌, ◌+◌, ◌*◌, IfSome};
+ghost use Rattle.std.specs.Prelude.{◌≡◌, ◌+◌, ◌*◌, length, IfSome};
+ghost use Rattle.std.specs.Str.{chars};
 ghost use Rattle.affix_strip.specs.Lengths.{AreAddedWithin, AreWordsWithin, IsLongest};
 
-use spell_types::{Entry, Lexicon, Rule};
+use spell_types::{Entries, Lexicon, Rule};
 
 /// How long a form is at most: as long as the longest word and what three rules add. None if that
 /// number does not fit.
@@ -22,14 +23,21 @@ fn sum_of(word: usize, added: usize) -> Option<usize>
     word.checked_add(added.checked_mul(3)?)
 }
 
-fn longest_word(entries: &[Entry]) -> usize
+fn longest_word(entries: &Entries) -> usize
     ensures { AreWordsWithin entries.now result }
 {
     let mut found = 0;
-    for entry in entries {
-        found = found.max(entry.word.len());
+    for place in 0..entries.len() {
+        found = found.max(count_of(entries.at(place).word()));
     }
     found
+}
+
+/// How many characters a text has.
+fn count_of(text: &str) -> usize
+    ensures { result ≡ length (chars text.now) }
+{
+    text.chars().count()
 }
 
 fn longest_added(rules: &[Rule]) -> usize

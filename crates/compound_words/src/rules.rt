@@ -7,7 +7,7 @@ ghost use Rattle.spell_types.specs.declared.Entry.{Entry};
 ghost use Rattle.compound_words.specs.Prepared.{has_number, HasFlagsOf, has_step_in};
 
 use lists::{Copied, Items, NoMemory};
-use spell_types::{Entry, Flag, Pattern, PatternStep};
+use spell_types::{Entries, Flag, Pattern, PatternStep};
 use std::alloc::Global;
 use std::collections::BTreeSet;
 
@@ -15,12 +15,12 @@ use std::collections::BTreeSet;
 pub(crate) type Numbers = BTreeSet<u64>;
 
 /// The numbers of all flags that the entries have.
-pub(crate) fn numbers_of(alloc: Global, entries: &[Entry]) -> Result<Numbers, NoMemory>
+pub(crate) fn numbers_of(alloc: Global, entries: &Entries) -> Result<Numbers, NoMemory>
     ensures { IfOk result (λ numbers. HasFlagsOf numbers entries.now) }
 {
     let mut numbers = BTreeSet::new(alloc);
-    for entry in entries {
-        add_numbers(&mut numbers, entry.flags.as_slice())?;
+    for place in 0..entries.len() {
+        add_numbers(&mut numbers, entries.at(place).flags().as_slice())?;
     }
     Ok(numbers)
 }

@@ -7,7 +7,7 @@
 //! precedes. `\/` is a slash of the word. The characters to ignore are left out of words.
 #![tactic(auto)]
 
-ghost use Rattle.std.specs.Prelude.{◌≡◌, ℕ, ◌<◌, ◌≤◌, ◌^◌, List, [], length, map, All, Some, None};
+ghost use Rattle.std.specs.Prelude.{◌≡◌, ℕ, ◌<◌, ◌≤◌, ◌^◌, List, length, map, All, Some, None};
 ghost use Rattle.std.specs.Prelude.{IfOk, IfErr};
 ghost use Rattle.std.specs.List.{range_with_len, AllPairs};
 ghost use Rattle.text_lines.specs.Lines.{IsInside};
@@ -21,8 +21,7 @@ ghost use Rattle.dic_reader.specs.Faults.{IsRead, DicReads, DicRefuses};
 use crate::cutting::{entry_of, is_count, is_passed_over};
 use crate::known_sets::KnownSets;
 use crate::words::read_entry;
-use lists::{Items, NoMemory};
-use spell_types::{Affixes, Entries};
+use spell_types::{Affixes, Entries, Entry};
 use std::alloc::Global;
 use text_lines::found::Line;
 use text_lines::{line_text, lines};
@@ -123,7 +122,7 @@ fn read_entries(
     ensures few { IfOk result (λ entries. length entries ≤ limit) }
     ensures ordinary { HasOrdinaryFlags affixes.now → IfOk result HaveOrdinaryFlags }
 {
-    let mut entries = with_room(alloc, lines.len().min(limit))?;
+    let mut entries = Entries::with_capacity(alloc, lines.len().min(limit), bytes.len())?;
     let mut known = KnownSets::new(alloc);
     for line in lines {
         let text = line_text(bytes, line);
@@ -131,20 +130,14 @@ fn read_entries(
             continue;
         }
         let entry = read_entry(alloc, affixes, &mut known, line.number, entry_of(text))?;
+        let Entry { word, flags } = entry;
         if entries.len() == limit {
             return Err(DicFault::At {
                 line: line.number,
                 why: DicWhy::TooMany,
             });
         }
-        entries.push(entry)?;
+        entries.push(&word, flags)?;
     }
     Ok(entries)
-}
-
-/// No entries, with room for so many.
-fn with_room(alloc: Global, count: usize) -> Result<Entries, NoMemory>
-    ensures { IfOk result (λ entries. entries ≡ []) }
-{
-    Ok(Items::from_vec(Vec::with_capacity(alloc, count)?))
 }

@@ -10,8 +10,8 @@ ghost use Rattle.own_dictionary.specs.Dictionaries.{IsBase, base_in, in_force};
 mod crossing;
 
 use lists::{Copied, NoMemory};
-use personal_words::{OwnList, copied_affixes, copied_entries, extend_with};
-use spell_types::{Entries, Entry, Flag, Lexicon};
+use personal_words::{OwnList, copied_affixes, extend_with};
+use spell_types::{Flag, Lexicon};
 use std::alloc::Global;
 use std::marker::Model;
 use std::sync::Arc;
@@ -100,22 +100,10 @@ impl OwnDictionary {
     {
         let lexicon = self.speller.stems().lexicon();
         let affixes = copied_affixes(alloc, &lexicon.affixes, self.forbidden)?;
-        let entries = first_entries(alloc, &lexicon.entries, self.entries, self.own.len())?;
+        let more = self.own.len();
+        let entries = lexicon.entries.copy_front(alloc, self.entries, more)?;
         Ok(Lexicon { affixes, entries })
     }
-}
-
-/// Copies of so many first entries, with room for so many more; of all where there are fewer.
-fn first_entries(
-    alloc: Global,
-    entries: &[Entry],
-    count: usize,
-    more: usize,
-) -> Result<Entries, NoMemory>
-    ensures { IfOk result (λ made. made ≡ take count entries.now) }
-{
-    let first = entries.get(..count).unwrap_or(entries);
-    copied_entries(alloc, first, more)
 }
 
 /// The base extended by the list, prepared and shared.

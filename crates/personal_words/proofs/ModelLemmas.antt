@@ -1,7 +1,7 @@
 -- Flags that are kept at the words that items name as their models.
 use Rattle.std.proofs.Common.{◌≡◌, ◌∙◌, refl, sym, ap, subst, ℕ, Bool, true, false, cond, List, []}
 use Rattle.std.proofs.Common.{◌∷◌, length, Option, Some, None, is_some, unwrap_or, IsSome, IfSome}
-use Rattle.std.proofs.Common.{arith, Bor, find, ◌+◌, ◌-◌, ◌<◌, ◌≤◌, suc, All, take, drop, get_or}
+use Rattle.std.proofs.Common.{arith, find, ◌+◌, ◌-◌, ◌<◌, ◌≤◌, suc, All, take, drop, get_or}
 use Rattle.std.proofs.Math.Seq.{drop-cons}
 use Rattle.std.proofs.lemmas.List.{take_more, take_all}
 use Rattle.std.proofs.lemmas.List.Elements.{All-push}
@@ -35,7 +35,7 @@ like-cons entry rest text =
 
 -- ---- what is kept
 abbrev pub Kept : Type 0 → Type 0
-Kept S = IndexMap (Bor (List ℕ)) (List Flag) S
+Kept S = IndexMap (List ℕ) (List Flag) S
 
 -- where the flags are those of one entry more, in front of the others
 by-first : (entry : Entry) (rest : List Entry) (text : List ℕ) (flags : List Flag) (b : Bool)
@@ -57,8 +57,8 @@ module _ {S : Type 0} where
   nothing-like entries models none text flags at =
       absurd (lacks models.entries none at)
     where
-      lacks : (kept : List (Bor (List ℕ) × List Flag)) → length kept ≡ 0
-          → lookup (λ (key : Bor (List ℕ)). is_same_word text key.now) kept ≡ Some flags → ⊥
+      lacks : (kept : List (List ℕ × List Flag)) → length kept ≡ 0
+          → lookup (is_same_word text) kept ≡ Some flags → ⊥
       lacks [] none at = cc
       lacks (one ∷ more) none at = omega (arith, none)
 

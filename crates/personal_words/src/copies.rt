@@ -1,9 +1,9 @@
-//! Copies of what the .aff file says, and of entries.
+//! Copies of what the .aff file says.
 
 ghost use Rattle.std.specs.Prelude.{◌≡◌, IfOk};
 
 use lists::{Copied, Items, NoMemory};
-use spell_types::{Affixes, Entries, Entry, Flag, FlagSet, Signs};
+use spell_types::{Affixes, Flag, FlagSet, Signs};
 use std::alloc::Global;
 
 /// A copy with this sign of forbidden words, if there is one.
@@ -44,15 +44,4 @@ fn copied_aliases(
         None => Ok(None),
         Some(sets) => Ok(Some(sets.copy(alloc)?)),
     }
-}
-
-/// Copies of these entries, with room for so many more. Their flag sets share memory.
-pub fn copied_entries(alloc: Global, entries: &[Entry], more: usize) -> Result<Entries, NoMemory>
-    ensures { IfOk result (λ made. made ≡ entries.now) }
-{
-    let mut made = Vec::with_capacity(alloc, entries.len().saturating_add(more))?;
-    for entry in entries {
-        made.push(entry.copy(alloc)?)?;
-    }
-    Ok(Items::from_vec(made))
 }

@@ -11,7 +11,7 @@ ghost use Rattle.spell_types.specs.Sanity.{IsSane, HasOrdinaryFlags, HaveOrdinar
 ghost use Rattle.personal_words.specs.Extended.{extended, entry_of_item, forbidding, with_forbidden};
 ghost use Rattle.personal_words.specs.Models.{HasModel, AreLike, flags_kept};
 
-use crate::copies::{copied_affixes, copied_entries};
+use crate::copies::copied_affixes;
 use crate::items::OwnItem;
 use crate::list::OwnList;
 use crate::models::{Models, models_of};
@@ -43,7 +43,8 @@ fn copied(alloc: Global, lexicon: &Lexicon, more: usize) -> Result<Lexicon, NoMe
     ensures { IfOk result (λ made. made ≡ lexicon.now) }
 {
     let affixes = copied_affixes(alloc, &lexicon.affixes, lexicon.affixes.signs.forbidden)?;
-    let entries = copied_entries(alloc, &lexicon.entries, more)?;
+    let count = lexicon.entries.len();
+    let entries = lexicon.entries.copy_front(alloc, count, more)?;
     Ok(Lexicon { affixes, entries })
 }
 
@@ -80,7 +81,8 @@ fn joined(entries: Entries, more: Vec<Entry>) -> Result<Entries, NoMemory>
 {
     let mut joined = entries;
     for entry in more {
-        joined.push(entry)?;
+        let Entry { word, flags } = entry;
+        joined.push(&word, flags)?;
     }
     Ok(joined)
 }
@@ -101,7 +103,7 @@ pub fn prohibited_words_are_barred()
 /// One entry for each item, where these are the entries of the dictionary.
 fn own_entries(
     alloc: Global,
-    entries: &[Entry],
+    entries: &Entries,
     flag: Flag,
     items: &[OwnItem],
 ) -> Result<Vec<Entry>, NoMemory>
@@ -121,7 +123,7 @@ fn own_entries(
 /// The entry of an item. `barred` has the flag of forbidden words alone.
 fn entry_of_item(
     alloc: Global,
-    models: &Models<'_>,
+    models: &Models,
     barred: &FlagSet,
     item: &OwnItem,
 ) -> Result<Entry, NoMemory>
@@ -139,17 +141,17 @@ fn entry_of_item(
 }
 
 /// The flags of a model, and none where none is named.
-fn flags_of(alloc: Global, models: &Models<'_>, model: &Option<Chars>) -> Result<FlagSet, NoMemory>
+fn flags_of(alloc: Global, models: &Models, model: &Option<Chars>) -> Result<FlagSet, NoMemory>
     ensures { IfOk result (λ made. made ≡ option_map_or (flags_kept models.now) model.now []) }
 {
     match model {
         None => Ok(FlagSet::new(alloc)),
-        Some(text) => flags_kept(alloc, models, text.as_slice()),
+        Some(text) => flags_kept(alloc, models, text),
     }
 }
 
 /// The flags that are kept at a text, and none where there are none.
-fn flags_kept(alloc: Global, models: &Models<'_>, text: &[char]) -> Result<FlagSet, NoMemory>
+fn flags_kept(alloc: Global, models: &Models, text: &Chars) -> Result<FlagSet, NoMemory>
     ensures { IfOk result (λ made. made ≡ flags_kept models.now text.now) }
 {
     match models.get(text) {

@@ -35,7 +35,7 @@ mod items;
 mod list;
 mod models;
 
-pub use copies::{copied_affixes, copied_entries};
+pub use copies::copied_affixes;
 pub use extending::{extend, extend_with, prohibited_words_are_barred};
 pub use faults::{OwnFault, OwnLineFault, OwnLineWhy, OwnWhy};
 pub use items::OwnItem;

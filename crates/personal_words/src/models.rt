@@ -7,19 +7,19 @@ ghost use Rattle.personal_words.specs.Models.{HasModel, AreLike, Puts};
 use crate::items::OwnItem;
 use indexmap::IndexMap;
 use lists::{Copied, NoMemory};
-use spell_types::{Entry, FlagSet};
+use spell_types::{Chars, Entries, FlagSet, chars_of};
 use std::alloc::Global;
 
 /// The flags of models.
-pub(crate) type Models<'a> = IndexMap<&'a [char], FlagSet>;
+pub(crate) type Models = IndexMap<Chars, FlagSet>;
 
 /// The flags of each model of these items: those of the first entry whose word it is. The entries
 /// are gone through once.
-pub(crate) fn models_of<'a>(
+pub(crate) fn models_of(
     alloc: Global,
-    entries: &'a [Entry],
-    items: &'a [OwnItem],
-) -> Result<Models<'a>, NoMemory>
+    entries: &Entries,
+    items: &[OwnItem],
+) -> Result<Models, NoMemory>
     ensures each { IfOk result (λ models. All (HasModel models) items.now) }
     ensures like { IfOk result (AreLike entries.now) }
 {
@@ -29,14 +29,14 @@ pub(crate) fn models_of<'a>(
 }
 
 /// The models of these items, without flags.
-fn named_models<'a>(alloc: Global, items: &'a [OwnItem]) -> Result<Models<'a>, NoMemory>
+fn named_models(alloc: Global, items: &[OwnItem]) -> Result<Models, NoMemory>
     ensures each { IfOk result (λ models. All (HasModel models) items.now) }
     ensures like { IfOk result (AreLike []) }
 {
     let mut models = IndexMap::new(alloc);
     for item in items {
         if let Some(model) = &item.model {
-            put(&mut models, model.as_slice(), FlagSet::new(alloc))?;
+            put(&mut models, model.copy(alloc)?, FlagSet::new(alloc))?;
         }
     }
     Ok(models)
@@ -44,7 +44,7 @@ fn named_models<'a>(alloc: Global, items: &'a [OwnItem]) -> Result<Models<'a>, N
 
 /// Gives models the flags of their first entries. The entries are gone through from the last to the
 /// first, so that the first is the one that stays.
-fn fill<'a>(alloc: Global, models: &mut Models<'a>, entries: &'a [Entry]) -> Result<(), NoMemory>
+fn fill(alloc: Global, models: &mut Models, entries: &Entries) -> Result<(), NoMemory>
     requires { AreLike [] models.old }
     ensures each { OnOk result
         ((item : OwnItem) → HasModel models.old item → HasModel models.new item) }
@@ -56,17 +56,18 @@ fn fill<'a>(alloc: Global, models: &mut Models<'a>, entries: &'a [Entry]) -> Res
     let mut place = entries.len();
     while place > 0 {
         place -= 1;
-        let entry = &entries[place];
-        if models.contains_key(entry.word.as_slice()) {
-            put(models, entry.word.as_slice(), entry.flags.copy(alloc)?)?;
+        let entry = entries.at(place);
+        let word = chars_of(alloc, entry.word())?;
+        if models.contains_key(&word) {
+            put(models, word, entry.flags().copy(alloc)?)?;
         }
     }
     Ok(())
 }
 
 /// Puts the flags of a model in place of those that it had.
-fn put<'a>(models: &mut Models<'a>, model: &'a [char], flags: FlagSet) -> Result<(), NoMemory>
-    ensures { OnOk result (Puts models.old model.now flags models.new) }
+fn put(models: &mut Models, model: Chars, flags: FlagSet) -> Result<(), NoMemory>
+    ensures { OnOk result (Puts models.old model flags models.new) }
 {
     models.insert(model, flags)?;
     Ok(())

@@ -18,5 +18,6 @@ pub mod Numbers
 pub mod Parts
 pub mod Patterns
 pub mod Replacements
+pub mod Rows
 pub mod Sanity
 pub mod Yields

@@ -5,8 +5,8 @@ ghost use Rattle.std.specs.Option.{option_map};
 ghost use Rattle.spell_types.specs.Derivations.{is_same_side, rule_on, affix_on, is_right};
 ghost use Rattle.spell_types.specs.Derivations.{is_in_order, named, with_affix, formed, form_of};
 
-use crate::{Chars, Entry, Lexicon, Rule, Side, attach};
-use lists::{Copied, NoMemory};
+use crate::{Chars, EntryRef, Lexicon, Rule, Side, attach, chars_of};
+use lists::NoMemory;
 use std::alloc::Global;
 use std::marker::Model;
 
@@ -23,7 +23,7 @@ pub struct Derivation {
 /// What a derivation names.
 #[derive(Drop)]
 pub(crate) struct Named<'a> {
-    pub(crate) entry: &'a Entry,
+    pub(crate) entry: EntryRef<'a>,
     pub(crate) prefix: Option<&'a Rule>,
     pub(crate) first: Option<&'a Rule>,
     pub(crate) second: Option<&'a Rule>,
@@ -36,7 +36,7 @@ impl<'a> Model for Named<'a> {
     ghost Value = { Named };
 
     ghost view = { λ inside. record {
-      entry = inside.entry.now;
+      entry = inside.entry;
       prefix = option_map (λ rule. rule.now) inside.prefix;
       first = option_map (λ rule. rule.now) inside.first;
       second = option_map (λ rule. rule.now) inside.second;
@@ -134,7 +134,7 @@ fn is_same_side(side: Side, other: Side) -> bool
 fn formed(alloc: Global, n: &Named, full_strip: bool) -> Result<Option<Chars>, NoMemory>
     ensures { IfOk result (λ made. made ≡ formed full_strip n.now) }
 {
-    let word = n.entry.word.copy(alloc)?;
+    let word = chars_of(alloc, n.entry.word)?;
     let Some(once) = with_affix(alloc, n.first, full_strip, word)? else {
         return Ok(None);
     };

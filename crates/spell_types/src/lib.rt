@@ -8,6 +8,7 @@ mod attaching;
 mod breaks;
 mod conversions;
 mod derivations;
+mod entries;
 mod flags;
 mod joints;
 mod licences;
@@ -22,6 +23,7 @@ pub use attaching::{attach, joined, matches_back, matches_front};
 pub use breaks::Anchored;
 pub use conversions::{Conversion, Rep};
 pub use derivations::{Derivation, form};
+pub use entries::{Entries, EntryRef};
 pub use flags::{Flag, FlagKind, FlagSet, has, sets_have_their_flags};
 pub use joints::{JointPattern, WrittenJoint, joints_are_written};
 pub use licences::{
@@ -35,13 +37,10 @@ pub use patterns::{Pattern, PatternStep, Times, patterns_match};
 pub use rules::{Condition, Piece, Rule, Side};
 pub use signs::{Options, Signs};
 use std::alloc::Global;
-pub use texts::chars_of;
+pub use texts::{chars_of, is_spelled};
 
 /// A text by its characters.
 pub type Chars = Items<char>;
-
-/// The entries of a dictionary in the order of its file. Several may have one word.
-pub type Entries = Items<Entry>;
 
 /// One word of the .dic file.
 #[derive(Debug, Drop)]

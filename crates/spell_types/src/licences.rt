@@ -2,6 +2,7 @@
 
 ghost use Rattle.std.specs.Prelude.{◌≡◌, []};
 ghost use Rattle.std.specs.Option.{option_map, option_map_or};
+ghost use Rattle.std.specs.Str.{chars};
 ghost use Rattle.spell_types.specs.Bases.{allows_case, has_sharp_entry, holds_character};
 ghost use Rattle.spell_types.specs.Bases.{is_alone_in_case, keeps_case};
 ghost use Rattle.spell_types.specs.EntriesOf.{entry_flags, is_entry_word};
@@ -16,6 +17,7 @@ ghost use Rattle.spell_types.specs.Licences.{meets_signs, may_stand_alone, is_li
 ghost use Rattle.spell_types.specs.Licences.{is_alone, is_forbidden};
 
 use crate::derivations::{Named, named_by};
+use crate::texts::is_spelled;
 use crate::{Affixes, Derivation, Flag, FlagSet, Lexicon, Rule, Signs, has};
 
 /// Whether a derivation is in order, and each of its affixes is allowed by the entry or by another
@@ -96,14 +98,19 @@ fn has_sharp_entry(lexicon: &Lexicon, d: &Derivation) -> bool
 {
     match lexicon.entries.get(d.entry as usize) {
         None => false,
-        Some(entry) => holds_sharp(&entry.word),
+        Some(entry) => holds_sharp(entry.word),
     }
 }
 
-fn holds_sharp(word: &[char]) -> bool
-    ensures { result ≡ holds_character 223 word.now }
+fn holds_sharp(word: &str) -> bool
+    ensures { result ≡ holds_character 223 (chars word.now) }
 {
-    word.iter().any(|c| *c == 'ß')
+    for c in word.chars() {
+        if c == 'ß' {
+            return true;
+        }
+    }
+    false
 }
 
 /// Whether a derivation's entry has the flag, if it is given.
@@ -113,7 +120,7 @@ pub fn has_entry_with(flag: Option<Flag>, lexicon: &Lexicon, d: &Derivation) -> 
 {
     match named_by(lexicon, d) {
         None => false,
-        Some(n) => has(&n.entry.flags, flag),
+        Some(n) => has(n.entry.flags, flag),
     }
 }
 
@@ -168,7 +175,7 @@ pub fn entry_flags<'a>(lexicon: &'a Lexicon, d: &Derivation) -> Option<&'a FlagS
     ensures { option_map_or (λ set. set.now) result [] ≡ entry_flags lexicon.now d.now }
 {
     let entry = lexicon.entries.get(d.entry as usize)?;
-    Some(&entry.flags)
+    Some(entry.flags)
 }
 
 /// Whether a text is the word of a derivation's entry, as it is.
@@ -177,7 +184,7 @@ pub fn is_entry_word(lexicon: &Lexicon, text: &[char], d: &Derivation) -> bool
 {
     match lexicon.entries.get(d.entry as usize) {
         None => false,
-        Some(entry) => entry.word.as_slice() == text,
+        Some(entry) => is_spelled(entry.word, text),
     }
 }
 
@@ -190,7 +197,7 @@ pub fn forbidden(lexicon: &Lexicon, d: &Derivation) -> bool
     let signs = &lexicon.affixes.signs;
     match named_by(lexicon, d) {
         None => false,
-        Some(n) => meets_signs(signs, &n) && has(&n.entry.flags, signs.forbidden),
+        Some(n) => meets_signs(signs, &n) && has(n.entry.flags, signs.forbidden),
     }
 }
 
@@ -212,8 +219,8 @@ fn is_allowed(n: &Named) -> bool
 fn is_first_allowed(n: &Named) -> bool
     ensures { result ≡ is_first_allowed n.now }
 {
-    allows(&n.entry.flags, n.first)
-        || (allows(&n.entry.flags, n.prefix) && affix_allows(n.prefix, n.first))
+    allows(n.entry.flags, n.first)
+        || (allows(n.entry.flags, n.prefix) && affix_allows(n.prefix, n.first))
 }
 
 /// Whether the first suffix allows the second.
@@ -227,7 +234,7 @@ fn is_second_allowed(n: &Named) -> bool
 fn is_prefix_allowed(n: &Named) -> bool
     ensures { result ≡ is_prefix_allowed n.now }
 {
-    allows(&n.entry.flags, n.prefix)
+    allows(n.entry.flags, n.prefix)
         || affix_allows(n.first, n.prefix)
         || affix_allows(n.second, n.prefix)
 }
@@ -250,7 +257,7 @@ fn meets_need(need: Option<Flag>, n: &Named) -> bool
             || is_affix_without(need, n.first)
             || is_affix_without(need, n.second)
     } else {
-        !has(&n.entry.flags, need)
+        !has(n.entry.flags, need)
     }
 }
 
@@ -266,16 +273,16 @@ fn meets_circumfix(circumfix: Option<Flag>, n: &Named) -> bool
 fn may_stand_alone(affixes: &Affixes, n: &Named) -> bool
     ensures { result ≡ may_stand_alone affixes.now n.now }
 {
-    !has(&n.entry.flags, affixes.signs.forbidden)
+    !has(n.entry.flags, affixes.signs.forbidden)
         && !some_carry(affixes.signs.only_inside, n)
-        && !(affixes.options.forbid_warn && has(&n.entry.flags, affixes.signs.warn))
+        && !(affixes.options.forbid_warn && has(n.entry.flags, affixes.signs.warn))
 }
 
 /// Whether the entry or an affix carries the flag.
 fn some_carry(flag: Option<Flag>, n: &Named) -> bool
     ensures { result ≡ some_carry flag n.now }
 {
-    has(&n.entry.flags, flag) || some_affix_carries(flag, n)
+    has(n.entry.flags, flag) || some_affix_carries(flag, n)
 }
 
 /// Whether an affix carries the flag.

@@ -2,6 +2,7 @@
 
 ghost use Rattle.std.specs.Prelude.{◌≡◌, IfOk};
 ghost use Rattle.std.specs.Str.{chars};
+ghost use Rattle.spell_types.specs.Cases.{is_same_word};
 
 use crate::Chars;
 use lists::{Items, NoMemory};
@@ -13,4 +14,21 @@ pub fn chars_of(alloc: Global, text: &str) -> Result<Chars, NoMemory>
 {
     let characters: Vec<char> = text.chars().collect(alloc)?;
     Ok(Items::from_vec(characters))
+}
+
+/// Whether a text has these characters.
+pub fn is_spelled(text: &str, characters: &[char]) -> bool
+    ensures { result ≡ is_same_word (chars text.now) characters.now }
+{
+    let mut left = characters;
+    for c in text.chars() {
+        let Some((first, later)) = left.split_first() else {
+            return false;
+        };
+        if c != *first {
+            return false;
+        }
+        left = later;
+    }
+    left.is_empty()
 }

@@ -1,6 +1,6 @@
 -- The rules that are kept are those with a flag of an entry.
-use Rattle.std.proofs.Common.{◌∙◌, ap, subst, filter, Result, Ok, Err, IfOk}
-use Rattle.compound_words.specs.Prepared.{HasFlagsOf, has_step_in}
+use Rattle.std.proofs.Common.{◌∙◌, ap, filter, Result, Ok, Err, IfOk}
+use Rattle.compound_words.specs.Prepared.{has_step_in}
 use Rattle.compound_words.proofs.RuleLemmas.{kept-rules}
 use Rattle.compound_words.proofs.rules_of.Goals as goal
 
@@ -14,5 +14,5 @@ pub returns : goal.returns
 returns c =
     if_ok c.rules_with.result c.rules_with.ensures (λ rules is.
     kept-rules c.patterns_match.ensures.one_by_one c.args.lexicon.now c.in_ok-numbers.numbers rules
-    (subst (HasFlagsOf c.in_ok-numbers.numbers) c.deref.ensures c.in_ok-numbers.ensures)
-    (is ∙ ap (filter (has_step_in c.in_ok-numbers.numbers)) c.deref-2.ensures))
+    c.in_ok-numbers.ensures
+    (is ∙ ap (filter (has_step_in c.in_ok-numbers.numbers)) c.deref.ensures))

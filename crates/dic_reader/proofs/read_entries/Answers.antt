@@ -1,5 +1,6 @@
 -- A line keeps the entries read, or has the first fault.
-use Rattle.std.proofs.Common.{◌≡◌, ◌∙◌, sym, subst, Result, Ok, Err, arith}
+use Rattle.std.proofs.Common.{◌≡◌, ◌∙◌, ◌∷◌, [], ◌++◌, sym, ap, subst, Result, Ok, Err}
+use Rattle.std.proofs.Common.{arith}
 use Rattle.std.specs.Result.{IsErrAnd}
 use Rattle.std.proofs.lemmas.List.Elements.{All-push}
 use Rattle.spell_types.specs.declared.Entry.{Entry}
@@ -52,12 +53,16 @@ loop-line-preserved c =
     let made = c.in_ok-entry.entry in
     let given = c.in_ok-entry.ensures in
     let before = c.loop-line.invariant in
+    let added : c.push.new.self ≡ c.loop-line.entries ++ made ∷ [] =
+    c.in_ok-push.ensures.ok
+    ∙ ap (λ word. c.loop-line.entries ++ record { word = word; flags = made.flags } ∷ [])
+    c.deref.ensures in
     record {
       read =
           read-more made c.push.new.self turn before.read given.read given.word
-          (λ full. c.if-len-limit.false (c.len.ensures ∙ full)) c.in_ok-push.ensures.ok;
+          (λ full. c.if-len-limit.false (c.len.ensures ∙ full)) added;
       known = given.known;
-      ordinary = λ has. subst HaveOrdinaryFlags (sym c.in_ok-push.ensures.ok)
+      ordinary = λ has. subst HaveOrdinaryFlags (sym added)
           (All-push (λ (entry : Entry). AreOrdinary entry.flags) c.loop-line.entries made
           (before.ordinary has) (given.ordinary has));
     }

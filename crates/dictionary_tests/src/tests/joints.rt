@@ -3,7 +3,7 @@
 
 use super::dictionaries::{lexicon_of, text_of};
 use joint_checks::{WrittenJoint, joints};
-use spell_types::{Derivation, Lexicon};
+use spell_types::{Derivation, Lexicon, chars_of};
 use std::alloc::{AllocError, Global};
 use std::process::Abort;
 use std::test::Fail;
@@ -55,7 +55,9 @@ fn joints_told(alloc: Global, lexicon: &Lexicon, row: &str) -> Result<String, Fa
     let right = lexicon.entries.get(e.entry as usize);
     match (left, right) {
         (Some(left), Some(right)) => {
-            let found = joints(alloc, lexicon, &left.word, &d, &right.word, &e)?;
+            let left = chars_of(alloc, left.word())?;
+            let right = chars_of(alloc, right.word())?;
+            let found = joints(alloc, lexicon, &left, &d, &right, &e)?;
             Ok(told(alloc, &found)?)
         }
         _ => Ok(String::new(alloc)),

@@ -4,6 +4,6 @@ use Rattle.spell_types.specs.declared.Entry.{Entry}
 use Rattle.affix_strip.specs.Heads.{IsNotedHead}
 use Rattle.affix_strip.proofs.heads.heads_of.Given as goal
 
-abbrev pub invariant-loop-entry : goal.invariant-loop-entry
-invariant-loop-entry l = (place : ℕ) (entry : Entry) → place < l.entry-index
-    → slice_get l.entries place ≡ Some entry → IsNotedHead l.forbidden l.most l.heads entry
+abbrev pub invariant-loop-place : goal.invariant-loop-place
+invariant-loop-place l = (at : ℕ) (entry : Entry) → at < l.place
+    → slice_get l.entries at ≡ Some entry → IsNotedHead l.forbidden l.most l.heads entry

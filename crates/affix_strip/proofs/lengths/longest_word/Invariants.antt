@@ -3,6 +3,6 @@ use Rattle.std.proofs.Common.{◌≡◌, ℕ, ◌<◌, ◌≤◌, length, slice_
 use Rattle.spell_types.specs.declared.Entry.{Entry}
 use Rattle.affix_strip.proofs.lengths.longest_word.Given as goal
 
-abbrev pub invariant-loop-entry : goal.invariant-loop-entry
-invariant-loop-entry l = (place : ℕ) (entry : Entry) → place < l.entry-index
-    → slice_get l.entries place ≡ Some entry → length entry.word ≤ l.found
+abbrev pub invariant-loop-place : goal.invariant-loop-place
+invariant-loop-place l = (at : ℕ) (entry : Entry) → at < l.place
+    → slice_get l.entries at ≡ Some entry → length entry.word ≤ l.found

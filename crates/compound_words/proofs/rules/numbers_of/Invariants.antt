@@ -3,5 +3,5 @@ use Rattle.std.proofs.Common.{take}
 use Rattle.compound_words.specs.Prepared.{HasFlagsOf}
 use Rattle.compound_words.proofs.rules.numbers_of.Given as goal
 
-abbrev pub invariant-loop-entry : goal.invariant-loop-entry
-invariant-loop-entry l = HasFlagsOf l.numbers (take l.entry-index l.entries)
+abbrev pub invariant-loop-place : goal.invariant-loop-place
+invariant-loop-place l = HasFlagsOf l.numbers (take l.place l.entries)

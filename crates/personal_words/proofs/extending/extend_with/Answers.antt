@@ -1,5 +1,5 @@
 -- The parts are those of the dictionary that is asked for.
-use Rattle.std.proofs.Common.{◌∙◌, ◌++◌, ap, sym, subst}
+use Rattle.std.proofs.Common.{◌∙◌, ◌++◌, refl, ap, sym, subst}
 use Rattle.spell_types.specs.Sanity.{IsSane}
 use Rattle.personal_words.proofs.ExtendLemmas.{is-extended, extended-sane}
 use Rattle.personal_words.proofs.extending.extend_with.Goals as goal
@@ -12,7 +12,7 @@ returns-clause-made c =
     c.as_slice.ensures.items c.with_forbidden.ensures
     (c.in_ok-joined.ensures
     ∙ ap (λ more. lexicon.entries ++ more)
-    (c.in_ok-more.ensures lexicon c.deref.ensures c.unwrap_or-flag.ensures))
+    (c.in_ok-more.ensures lexicon refl c.unwrap_or-flag.ensures))
 
 pub returns-clause-sane : goal.returns-clause-sane
 returns-clause-sane c =

@@ -3,4 +3,4 @@ use Rattle.personal_words.proofs.models.put.Goals as goal
 
 pub returns : goal.returns
 returns c = λ text.
-    c.in_ok-insert.ensures.updates.0 (record { ref_ptr = c.args.model.ref_ptr; now = text })
+    c.in_ok-insert.ensures.updates.0 text

@@ -1,8 +1,7 @@
 -- The place is the last of its hash, and the one that was last lies before it.
 use Rattle.std.proofs.Common.{◌≡◌, ◌∙◌, sym, ap, cond, nat_eq, Some}
 use Rattle.indexmap.specs.IndexMap.{get}
-use Rattle.affix_strip.specs.declared.hashed.TheConstants.{START}
-use Rattle.affix_strip.specs.Hashes.{folded, hash_of}
+use Rattle.affix_strip.specs.Hashes.{hash_of}
 use Rattle.key_filter.specs.Filter.{may_have}
 use Rattle.affix_strip.proofs.EntryLemmas.{entries-more}
 use Rattle.affix_strip.proofs.entry_table.EntryTable.add.Goals as goal
@@ -11,8 +10,8 @@ pub returns : goal.returns
 returns c = λ entries count holds.
     let entry = c.args.entry.now in
     let before = c.args.self.now in
-    let is : c.fold-hash.result ≡ hash_of entry.word =
-    c.fold-hash.ensures ∙ ap (folded START) c.as_slice.ensures in
+    let is : c.hash_of-hash.result ≡ hash_of entry.word =
+    c.hash_of-hash.ensures ∙ ap hash_of c.word.ensures in
     entries-more entries entry before
     record { last = c.insert-2.new.self; earlier = c.push.new.self; hashes = c.insert.new.self }
     c.in_ok-earlier.earlier holds

@@ -1,6 +1,0 @@
--- The entries so far are copied.
-use Rattle.std.proofs.Common.{◌≡◌, take}
-use Rattle.personal_words.proofs.copies.copied_entries.Given as goal
-
-abbrev pub invariant-loop-entry : goal.invariant-loop-entry
-invariant-loop-entry l = l.made.items ≡ take l.entry-index l.entries
