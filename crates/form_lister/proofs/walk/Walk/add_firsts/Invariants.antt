@@ -1,0 +1,9 @@
+-- The forms with a first suffix before the loop's place are there.
+use Rattle.std.proofs.Common.{take}
+use Rattle.form_lister.specs.Walks.{Adds, AtSome, HasFirst}
+use Rattle.form_lister.proofs.walk.Walk.add_firsts.Given as goal
+
+abbrev pub invariant-loop-first : goal.invariant-loop-first
+invariant-loop-first l =
+    Adds l.self (AtSome (HasFirst l.entry) (take l.first-index l.firsts))
+    l.initial.found l.found

@@ -1,0 +1,4 @@
+pub mod Choices
+pub mod Forms
+pub mod Found
+pub mod Walks
