@@ -7,6 +7,7 @@ mod cut_words;
 mod derivations;
 mod dictionaries;
 mod joints;
+mod listed_forms;
 mod pattern_tables;
 mod real_files;
 mod replacements;
