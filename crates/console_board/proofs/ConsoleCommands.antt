@@ -40,7 +40,7 @@ use Rattle.edit_core.specs.Runs.{furthest_point, is_held, is_waiting}
 use Rattle.edit_core.specs.Seen.{Seen, IsValidBoard}
 use Rattle.edit_core.specs.Steps.{IsAt, IsDecided, IsFit, Makes, Moves, Step, event_refusal}
 use Rattle.edit_core.specs.Steps.{first_refusal, found, kept_after, not_parked, place_of}
-use Rattle.edit_core.specs.Steps.{refusal_of, settled, unless}
+use Rattle.edit_core.specs.Steps.{refusal_of, settled, spent, unless}
 use Rattle.edit_core.specs.declared.refusal.Refusal.{Refusal}
 use Rattle.edit_core.specs.declared.refusal.Refusal.TheVariants.{Gone, Spent}
 use Rattle.edit_core.specs.declared.state.Standing.{Standing}
@@ -584,16 +584,21 @@ event-has board (AnAsk session id) asked = asks (found id board)
     asks (Some (paragraph, _)) = refl
 event-has board _ asked = absurd asked
 
+-- before the last point of a history each refusal has a reply
+pub has-reply : (board : Seen) (event : SeenEvent) → IsAsked event → board.point < 2 ^ 62
+    → HasReply (first_refusal board event)
+has-reply board event asked below =
+    rw (lt-ltb board.point (2 ^ 62) below) (event-has board event asked)
+
 -- a history that is far from its last point goes on
 point-below : (point more all : ℕ) → point + more + MOST_MOVED ≤ all → point < all
 point-below point more all room = omega arith
 
-pub has-reply : (board : Seen) (event : SeenEvent) → IsAsked event
-    → furthest_point board + MOST_MOVED ≤ 2 ^ 62 → HasReply (first_refusal board event)
-has-reply board event asked room =
-    let more = 2 * count_by is_waiting board.standings + count_by is_held board.standings in
-    let far = point-below board.point more (2 ^ 62) room in
-    rw (lt-ltb board.point (2 ^ 62) far) (event-has board event asked)
+pub board-below : (board : Seen) → furthest_point board + MOST_MOVED ≤ 2 ^ 62
+    → board.point < 2 ^ 62
+board-below board room =
+    point-below board.point
+    (2 * count_by is_waiting board.standings + count_by is_held board.standings) (2 ^ 62) room
 
 -- an event that a board takes is answered so, and has no refusal
 pub answered-taken : {board after : Seen} {event : SeenEvent} {reply : Reply}
@@ -609,3 +614,100 @@ answered-taken {board} {after} {event} {reply} decided step is =
         record { step = step; only = λ other made. only.only other made ∙ back; reply_is = is }
     by (inl (only, free)) (Some refusal) told = absurd (free refusal told)
     by (inr (only, unmade)) first told = absurd (unmade after step)
+
+-- ---- what is left of the premises of an event
+
+-- an event of which it is decided that it makes a board is not refused
+pub not-refused : (board after : Seen) (event : SeenEvent) → IsDecided board event
+    → Step board event after → first_refusal board event ≡ None
+not-refused board after event decided step = by decided (first_refusal board event) refl
+  where
+    by : IsDecided board event → (first : Option Refusal) → first_refusal board event ≡ first
+        → first_refusal board event ≡ None
+    by made None is = is
+    by (inl made) (Some refusal) is = absurd (made.1 refusal is)
+    by (inr none) (Some refusal) is = absurd (none.1 after step)
+
+-- the event of a command is no check, so it is fit
+fits-of : {X : Type 0} (board : Seen) (f : X → SeenEvent) (o : Option X) (event : SeenEvent)
+    → option_map f o ≡ Some event → ((x : X) → IsFit board (f x)) → IsFit board event
+fits-of board f o event is fits =
+    mapped f o event is (λ x at same. subst (IsFit board) same (fits x))
+
+event-fits : (by : ℕ) (board : Seen) (command : Command) (event : SeenEvent)
+    → event_for by board command ≡ Some event → IsFit board event
+event-fits by board (Ins place text) event is = fits-of board _ _ event is (λ before. tt)
+event-fits by board (Load aff dic) event is = absurd (none-some event is)
+event-fits by board (Own text) event is = absurd (none-some event is)
+event-fits by board Show event is = absurd (none-some event is)
+event-fits by board Settle event is = absurd (none-some event is)
+event-fits by board Quit event is = absurd (none-some event is)
+event-fits by board _ event is = fits-of board _ _ event is (λ p. tt)
+
+-- where neither of two refusals is there
+first-none : {X : Type 0} (one other : Option X) → option_or one other ≡ None → one ≡ None
+first-none None other is = refl
+first-none (Some x) other is = is
+
+second-none : {X : Type 0} (one other : Option X) → option_or one other ≡ None → other ≡ None
+second-none None other is = is
+second-none (Some x) other is = absurd (none-some x (sym is))
+
+unless-none : (holds : Bool) (refusal : EditRefusal) → unless_edit holds refusal ≡ None
+    → holds ≡ true
+unless-none true refusal is = refl
+unless-none false refusal is = absurd (none-some refusal (sym is))
+
+-- a text that another one may be put in place of is whole characters
+put-whole : (by : ℕ) (board : Seen) (place : ℕ) (put : List ℕ) (event : SeenEvent) → IdsArePlaces
+    → IsValidBoard board → event_for by board (Put place put) ≡ Some event
+    → first_refusal board event ≡ None → IsWholeAt board place
+put-whole by board place put event ids valid is free paragraph at =
+    let paragraphs = board.paragraphs in
+    let text = paragraph.text in
+    let edit_at = λ (p : Paragraph). Replace p.id p.rev 0 (length p.text) put in
+    let event_at = λ (p : Paragraph). AnEdit by (edit_at p) in
+    let same = same_Some (event_at paragraph) event (sym (ap (option_map event_at) at) ∙ is) in
+    option_and_then_some (slice_get paragraphs) (index_of place (length paragraphs)) paragraph at
+    (λ index place-is there.
+    let here = here-is board index paragraph ids valid there in
+    let own-rev = eq-eqb paragraph.rev paragraph.rev refl in
+    let none =
+    unmapped refusal_of (edit_refusal paragraphs (edit_at paragraph))
+    (second-none (spent board) (event_refusal board (event_at paragraph))
+    (subst (λ e. first_refusal board e ≡ None) (sym same) free)) in
+    unless-none (is_span text 0 (length text)) (edits.BadSpan (length text))
+    (first-none (unless_edit (is_span text 0 (length text)) (edits.BadSpan (length text))) _
+    (rw (here.named, own-rev) at none)))
+
+puts-whole : (by : ℕ) (board : Seen) (command : Command) (event : SeenEvent) → IdsArePlaces
+    → IsValidBoard board → event_for by board command ≡ Some event
+    → first_refusal board event ≡ None → PutsWhole board command
+puts-whole by board (Put place text) event ids valid is free =
+    put-whole by board place text event ids valid is free
+puts-whole by board _ event ids valid is free = tt
+
+-- ---- what a command comes to
+
+-- the command does what its event makes of a board that takes it
+pub event-taken : (by : ℕ) (before after : Seen) (command : Command) (event : SeenEvent)
+    → IdsArePlaces
+    → ((board : Seen) (event : SeenEvent) → IsValidBoard board → IsFit board event
+    → IsDecided board event)
+    → IsValidBoard before → event_for by before command ≡ Some event → Step before event after
+    → IsReplyTo (console_of before) command (Done after.text_version) (console_of after)
+event-taken by before after command event ids decided valid is step =
+    let one = decided before event valid (event-fits by before command event is) in
+    event-does by before after (Done after.text_version) ids valid command event
+    (puts-whole by before command event ids valid is (not-refused before after event one step))
+    is (answered-taken one step refl)
+
+-- where a board refuses the event, this is replied and the console stays
+pub event-refused : (by : ℕ) (board : Seen) (command : Command) (event : SeenEvent)
+    (refusal : Refusal) (reply : Reply) → IdsArePlaces
+    → IsValidBoard board → PutsWhole board command → event_for by board command ≡ Some event
+    → first_refusal board event ≡ Some refusal → reply_for refusal ≡ Some reply
+    → IsReplyTo (console_of board) command reply (console_of board)
+event-refused by board command event refusal reply ids valid whole is first told =
+    event-does by board board reply ids valid command event whole is
+    (subst (λ first. IsAnswered board event first reply board) (sym first) (told, refl))

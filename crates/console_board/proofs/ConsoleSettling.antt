@@ -1,5 +1,5 @@
 -- What each event of a settle makes of a console.
-use Rattle.std.proofs.Common.{◌≡◌, ◌∙◌, inl, inr, refl, sym, ap, ℕ, zero, suc, ◌+◌, ◌*◌, ◌<◌, ◌≤◌}
+use Rattle.std.proofs.Common.{◌≡◌, ◌∙◌, refl, sym, ap, ℕ, zero, suc, ◌+◌, ◌*◌, ◌<◌, ◌≤◌}
 use Rattle.std.proofs.Common.{◌^◌, ◌-◌, true, false, List, [], ◌∷◌, length, map, set, drop}
 use Rattle.std.proofs.Common.{slice_get, Bool, Bor, Option, None, Some, length-drop, add-one, arith}
 use Rattle.std.specs.List.{AllByRecursion, count_by}
@@ -18,7 +18,6 @@ use Rattle.edit_core.specs.Steps.{IsAt, IsDecided, IsFit, IsFitCheck, MayFinish,
 use Rattle.edit_core.specs.Steps.{first_refusal, is_open, place_of}
 use Rattle.edit_core.specs.Views.{ShownMarks, Marked, Unmarked, view_of, shown_in}
 use Rattle.edit_core.specs.Views.{shown_from as board_shows_from}
-use Rattle.edit_core.specs.declared.refusal.Refusal.{Refusal}
 use Rattle.edit_core.specs.declared.state.Standing.{Standing}
 use Rattle.edit_core.specs.declared.state.Standing.TheVariants as standing
 use Rattle.edit_core.specs.declared.view.Shown.{Shown}
@@ -26,22 +25,11 @@ use Rattle.edit_core.specs.declared.view.Shown.TheVariants as shows
 use Rattle.console_board.specs.Boards.{console_of, state_of}
 use Rattle.console_board.specs.Consoles.{Console, TextState, Waiting, Finished, settled}
 use Rattle.console_board.specs.Consoles.{settled_state, state_at}
+use Rattle.console_board.proofs.ConsoleCommands.{not-refused}
 use Rattle.paragraph_text.specs.declared.limits.TheConstants.{MOST_BYTES}
 
 none-some : {X Y : Type 0} (x : X) → None ≡ Some x → Y
 none-some x is = cc
-
--- ---- an event that is not refused
--- an event of which it is decided that it makes a board is not refused
-not-refused : (board after : Seen) (event : SeenEvent) → IsDecided board event
-    → Step board event after → first_refusal board event ≡ None
-not-refused board after event decided step = by decided (first_refusal board event) refl
-  where
-    by : IsDecided board event → (first : Option Refusal) → first_refusal board event ≡ first
-        → first_refusal board event ≡ None
-    by made None is = is
-    by (inl made) (Some refusal) is = absurd (made.1 refusal is)
-    by (inr none) (Some refusal) is = absurd (none.1 after step)
 
 -- ---- a text that waits
 first-below : (point waiting held most : ℕ) → point + (2 * waiting + held) < most → point < most

@@ -8,10 +8,8 @@ ghost use Rattle.console_board.specs.Boards.{board_after, console_of};
 ghost use Rattle.console_board.specs.Consoles.{opened};
 
 mod answer;
-mod events;
 mod loading;
 mod settling;
-mod showing;
 
 use console_lang::Reply;
 use edit_core::Board;

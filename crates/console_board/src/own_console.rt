@@ -5,14 +5,16 @@ ghost use Rattle.console_lang.specs.declared.command.Command.{Command};
 ghost use Rattle.edit_core.specs.Runs.{furthest_point};
 ghost use Rattle.own_dictionary.specs.Dictionaries.{IsBase};
 ghost use Rattle.console_board.specs.Boards.{board_after, dictionary_after, own_console_of};
-ghost use Rattle.console_board.specs.OwnConsoles.{fault_reply, own_opened, owned, put_in_force};
+ghost use Rattle.console_board.specs.OwnConsoles.{own_opened, owned, put_in_force};
 ghost use Rattle.console_board.specs.Transcripts.{IsOwnReplyTo, HasOwnOutcome, HasWholeText, Loads};
 ghost use Rattle.console_board.specs.Transcripts.{failures_in, is_no_files};
 ghost use Rattle.edit_core.specs.declared.limits.TheConstants.{MOST_MOVED};
 
 use crate::console::{Console, Response};
+use crate::refusing::fault_reply;
+use crate::showing::show;
 use console_lang::{Command, Reply};
-use dictionary_swap::{LoadFault, load_lexicon};
+use dictionary_swap::load_lexicon;
 use edit_core::Board;
 use lists::{Copied, NoMemory};
 use outside::Files;
@@ -126,7 +128,7 @@ impl OwnConsole {
         match command {
             Command::Load { aff, dic } => self.load(alloc, files, aff.as_str(), dic.as_str()),
             Command::Own { text } => self.own(alloc, text.as_str()),
-            Command::Show => Ok(OwnResponse::beside(self.console.show(alloc)?)),
+            Command::Show => Ok(OwnResponse::stays(show(alloc, &self.console.board)?)),
             Command::Settle => Ok(OwnResponse::beside(self.console.settle(alloc)?)),
             Command::Quit => unreachable!(),
             command => Ok(OwnResponse::beside(self.console.carry_out(alloc, command)?)),
@@ -235,20 +237,5 @@ impl OwnConsole {
             next,
             dictionary: Some(dictionary),
         })
-    }
-}
-
-/// The reply to a dictionary's fault. Want of memory has none.
-fn fault_reply(fault: LoadFault) -> Result<Reply, NoMemory>
-    ensures reply { IfOk result (λ reply. reply ≡ fault_reply fault) }
-    ensures has_reply { OnOk result (¬ (fault ≡ LoadFault.NoMemory)) }
-{
-    match fault {
-        LoadFault::Failed => Ok(Reply::NoFiles),
-        LoadFault::Missing => Ok(Reply::NoMissing),
-        LoadFault::TooLong { .. } => Ok(Reply::NoLarge),
-        LoadFault::Aff { line, why } => Ok(Reply::NoAff { line, why }),
-        LoadFault::Dic { line, why } => Ok(Reply::NoDic { line, why }),
-        LoadFault::NoMemory => Err(NoMemory),
     }
 }

@@ -6,17 +6,22 @@ ghost use Rattle.console_lang.specs.declared.reply.Reply.TheVariants.{NoPlace};
 ghost use Rattle.edit_core.specs.Events.{event_of};
 ghost use Rattle.edit_core.specs.Runs.{furthest_point};
 ghost use Rattle.edit_core.specs.Steps.{IsFit, Step, first_refusal};
-ghost use Rattle.console_board.specs.BoardAnswers.{HasReply, IsAnswered, names_place, reply_for};
+ghost use Rattle.console_board.specs.BoardAnswers.{HasReply, IsAnswered, names_place};
 ghost use Rattle.console_board.specs.Boards.{board_after, console_of};
 ghost use Rattle.console_board.specs.Transcripts.{IsReplyTo, HasWholeText, is_no_files};
 ghost use Rattle.edit_core.specs.declared.limits.TheConstants.{MOST_MOVED};
 
 use super::{Console, Response};
+use crate::events::event_for;
+use crate::refusing::refused;
 use console_lang::{Command, Reply};
 use edit_core::{Board, Event, Refusal, events_are_decided, ids_name_paragraphs, runs_are_short};
 use lists::NoMemory;
 use mark_types::Judge;
 use std::alloc::Global;
+
+/// The number of the one session through which all events of commands come.
+const SESSION: u32 = 0;
 
 impl<J: Judge + Drop> Console<J> {
     /// What a command comes to that names a place: what its event makes of the board, or that there
@@ -36,7 +41,7 @@ impl<J: Judge + Drop> Console<J> {
         ids_name_paragraphs();
         self.board_is_valid();
         let near = place_in(&command);
-        match self.event_for(command) {
+        match event_for(&self.board, SESSION, command) {
             None => Ok(self.no_place()),
             Some(event) => self.answer(alloc, event, near),
         }
@@ -49,7 +54,7 @@ impl<J: Judge + Drop> Console<J> {
         ensures files { is_no_files result.reply ≡ false }
     {
         Response::stays(Reply::NoPlace {
-            count: self.count(),
+            count: self.board.versions().paragraphs,
         })
     }
 
@@ -97,26 +102,6 @@ fn place_in(command: &Command) -> usize {
         | Command::Show
         | Command::Settle
         | Command::Quit => 0,
-    }
-}
-
-/// The reply to a refusal that has one.
-fn refused(refusal: Refusal) -> Reply
-    requires { IsSome (reply_for refusal) }
-    ensures reply { reply_for refusal ≡ Some result }
-    ensures files { is_no_files result ≡ false }
-{
-    match refusal {
-        Refusal::Gone { .. } => Reply::NoGone,
-        Refusal::Behind { rev } => Reply::NoBehind { rev },
-        Refusal::BadSpan { length } => Reply::NoBadSpan { length },
-        Refusal::TooLong { would } => Reply::NoTooLong { would },
-        Refusal::Full { count } => Reply::NoFull { count },
-        Refusal::Finished { .. } => Reply::NoFinished,
-        Refusal::Parked { .. } => Reply::NoParked,
-        Refusal::NotParked { .. } => Reply::NoNotParked,
-        // The history is not spent, no text has a line feed, and no command is a worker's event.
-        _ => unreachable!(),
     }
 }
 

@@ -2,8 +2,8 @@
 use Rattle.std.proofs.Common.{ap, sym}
 use Rattle.edit_core.specs.Events.{event_of}
 use Rattle.console_board.specs.Boards.{board_after}
-use Rattle.console_board.proofs.ConsoleCommands.{asked-fits, event-asked, event-does, has-reply}
-use Rattle.console_board.proofs.ConsoleCommands.{if-ok, no-event-does}
+use Rattle.console_board.proofs.ConsoleCommands.{asked-fits, board-below, event-asked}
+use Rattle.console_board.proofs.ConsoleCommands.{event-does, has-reply, if-ok, no-event-does}
 use Rattle.console_board.proofs.console.Console.carry_out.Goals as goal
 
 pub answer-requires : goal.answer-requires
@@ -15,7 +15,7 @@ answer-requires g c =
     (sym c.in-Some.ensures.event) in
     record {
       fit = asked-fits board event asked;
-      replied = has-reply board event asked c.requires.room;
+      replied = has-reply board event asked (board-below board c.requires.room);
     }
 
 pub returns-in-None-clause-does : goal.returns-in-None-clause-does

@@ -2,8 +2,7 @@
 use Rattle.std.proofs.Common.{◌≡◌, map, take}
 use Rattle.edit_core.specs.Views.{view_of}
 use Rattle.console_board.specs.BoardAnswers.{shown_para}
-use Rattle.console_board.proofs.console.Console.show.Given as goal
+use Rattle.console_board.proofs.showing.show.Given as goal
 
 abbrev pub invariant-loop-place : goal.invariant-loop-place
-invariant-loop-place g l =
-    l.paragraphs ≡ take l.place (map shown_para (view_of l.self.board).shown)
+invariant-loop-place g l = l.paragraphs ≡ take l.place (map shown_para (view_of l.board).shown)
