@@ -1,0 +1,9 @@
+pub mod Stretches
+pub mod Counting
+pub mod Places
+pub mod Following
+pub mod Endings
+pub mod OneOn
+pub mod QuietLemmas
+pub mod SettleLemmas
+pub mod ReplyLemmas
