@@ -1,0 +1,93 @@
+//! What the commands of a console do that leave its dictionary.
+
+ghost use Rattle.std.specs.Prelude.{◌≡◌, ◌≤◌, IfErr, IfOk};
+ghost use Rattle.spell_types.specs.declared.Lexicon.{Lexicon};
+ghost use Rattle.edit_core.specs.Events.{event_of};
+ghost use Rattle.console_lang.specs.declared.reply.Reply.TheVariants.{Done};
+ghost use Rattle.board_share.specs.Eyes.{last_of};
+ghost use Rattle.console_board.specs.BoardAnswers.{IsAsked, look_reply};
+ghost use Rattle.console_board.specs.Transcripts.{HasWholeText};
+ghost use Rattle.console_history.specs.Told.{IsEventTold, IsPlaceTold, Looks, Settles};
+ghost use Rattle.desk_console.specs.Consoles.{IsCutOff};
+
+use crate::console::{DeskConsole, SESSION};
+use crate::stop::{Stop, stop_of, turned_down};
+use board_share::Naming;
+use check_workers::settle;
+use console_board::{asked_events_have_replies, event_for, show};
+use console_history::told_commands_go_one_on;
+use console_lang::{Command, Reply};
+use edit_core::Event;
+use std::alloc::Global;
+use std::sync::Wait;
+use word_verdict::Speller;
+
+impl<D: Naming, W: Wait + Drop, R: Wait> DeskConsole<'_, D, W, R> {
+    /// `show`: what the board shows that is looked at.
+    pub(crate) fn show(&mut self, alloc: Global) -> Result<Reply, Stop>
+        ensures dictionary { self.new.dictionary ≡ self.old.dictionary }
+        ensures stopped { self.new.stopped ≡ self.old.stopped }
+        ensures told { IfOk result (λ reply. Looks self.old.eye self.new.eye
+            × (reply ≡ look_reply (last_of self.new.eye.run))) }
+        ensures cut { IfErr result (IsCutOff self.old.eye self.new.eye) }
+    {
+        told_commands_go_one_on();
+        let board = self.eye.look()?;
+        Ok(show(alloc, &board)?)
+    }
+
+    /// `settle`: checks what is open on the board that is looked at.
+    pub(crate) fn settle(&mut self, alloc: Global) -> Result<Reply, Stop>
+        ensures dictionary { self.new.dictionary ≡ self.old.dictionary }
+        ensures stopped { self.new.stopped ≡ self.old.stopped }
+        ensures told { IfOk result (λ reply. Settles self.old.eye self.new.eye
+            × (reply ≡ Done (last_of self.new.eye.run).text_version)) }
+        ensures cut { IfErr result (IsCutOff self.old.eye self.new.eye) }
+    {
+        told_commands_go_one_on();
+        match settle(self.rt, alloc, self.desk, &mut self.eye) {
+            Ok(told) => Ok(Reply::Done { text: told.text }),
+            Err(fault) => Err(stop_of(fault)),
+        }
+    }
+
+    /// What a command does that names a place of the board that is looked at: its event is
+    /// published or turned down, or there is no such place.
+    pub(crate) fn carry_out(&mut self, alloc: Global, command: Command) -> Result<Reply, Stop>
+        requires whole { HasWholeText command }
+        ensures dictionary { self.new.dictionary ≡ self.old.dictionary }
+        ensures stopped { self.new.stopped ≡ self.old.stopped }
+        ensures told { IfOk result (IsPlaceTold SESSION command self.old.eye self.new.eye) }
+        ensures cut { IfErr result (IsCutOff self.old.eye self.new.eye) }
+    {
+        asked_events_have_replies();
+        told_commands_go_one_on();
+        let board = self.eye.look()?;
+        match event_for(&board, SESSION, command) {
+            None => Ok(Reply::NoPlace {
+                count: board.versions().paragraphs,
+            }),
+            Some(event) => self.publish(alloc, event),
+        }
+    }
+
+    /// Publishes an event, and tells the text's version; or what it is turned down with.
+    fn publish(&mut self, alloc: Global, event: Event<Speller>) -> Result<Reply, Stop>
+        requires { IsAsked (event_of (λ (judge : Lexicon). judge) event) }
+        ensures dictionary { self.new.dictionary ≡ self.old.dictionary }
+        ensures stopped { self.new.stopped ≡ self.old.stopped }
+        ensures told { IfOk result
+            (IsEventTold (event_of (λ (judge : Lexicon). judge) event) self.old.eye self.new.eye) }
+        ensures cut { IfErr result (IsCutOff self.old.eye self.new.eye) }
+    {
+        asked_events_have_replies();
+        told_commands_go_one_on();
+        match self.desk.publish(self.rt, alloc, &mut self.eye, event) {
+            Ok(told) => {
+                self.bell.ring(self.rt);
+                Ok(Reply::Done { text: told.text })
+            }
+            Err(refusal) => turned_down(refusal),
+        }
+    }
+}

@@ -1,0 +1,100 @@
+//! What the commands of a console do that change its dictionary.
+
+ghost use Rattle.std.specs.Prelude.{◌≡◌, ◌+◌, ◌≤◌, [], ◌∷◌, IfErr, IfOk, false};
+ghost use Rattle.own_dictionary.specs.Dictionaries.{IsBase};
+ghost use Rattle.console_board.specs.Transcripts.{failures_in, is_no_files};
+ghost use Rattle.console_history.specs.Told.{IsLoadTold, IsOwnTold, IsReloadTold};
+ghost use Rattle.desk_console.specs.Consoles.{IsCutOff};
+
+use crate::console::DeskConsole;
+use crate::stop::{Stop, turned_down};
+use board_share::Naming;
+use console_board::fault_reply;
+use console_lang::Reply;
+use dictionary_swap::load_lexicon;
+use edit_core::Event;
+use lists::Copied;
+use outside::Files;
+use own_dictionary::OwnDictionary;
+use personal_words::OwnLineFault;
+use std::alloc::Global;
+use std::sync::{Arc, Wait};
+
+impl<D: Naming, W: Wait + Drop, R: Wait> DeskConsole<'_, D, W, R> {
+    /// `load AFF DIC`: the dictionary of these two files is the base from here on, or what is wrong
+    /// with them is told.
+    pub(crate) fn load<F: Files>(
+        &mut self,
+        alloc: Global,
+        files: &mut F,
+        aff: &str,
+        dic: &str,
+    ) -> Result<Reply, Stop>
+        ensures stopped { self.new.stopped ≡ self.old.stopped }
+        ensures told { IfOk result
+            (IsLoadTold (F.told files.old) aff.now dic.now
+            (record { eye = self.old.eye; dictionary = self.old.dictionary })
+            (record { eye = self.new.eye; dictionary = self.new.dictionary })) }
+        ensures cut { IfErr result (IsCutOff self.old.eye self.new.eye) }
+        ensures failures { IfOk result
+            (λ reply. F.faults files.old + failures_in (reply ∷ []) ≤ F.faults files.new) }
+        ensures same { F.told files.new ≡ F.told files.old }
+        ensures count { F.faults files.old ≤ F.faults files.new }
+    {
+        match load_lexicon(alloc, files, aff, dic) {
+            Ok(base) => {
+                let dictionary = self.dictionary.with_base(alloc, base)?;
+                self.put_in_force(alloc, dictionary)
+            }
+            Err(fault) => Ok(fault_reply(fault)?),
+        }
+    }
+
+    /// `own TEXT`: the text is one more item of the list, or it is told that it is none.
+    pub(crate) fn own(&mut self, alloc: Global, text: &str) -> Result<Reply, Stop>
+        ensures stopped { self.new.stopped ≡ self.old.stopped }
+        ensures told { IfOk result
+            (IsOwnTold (record { eye = self.old.eye; dictionary = self.old.dictionary }) text.now
+            (record { eye = self.new.eye; dictionary = self.new.dictionary })) }
+        ensures cut { IfErr result (IsCutOff self.old.eye self.new.eye) }
+        ensures files { IfOk result (λ reply. is_no_files reply ≡ false) }
+    {
+        let mut own = self.dictionary.own().copy(alloc)?;
+        let affixes = &self.dictionary.speller().stems().lexicon().affixes;
+        match own.add(alloc, affixes, text) {
+            Ok(false) => Ok(Reply::Done {
+                text: self.eye.progress().text,
+            }),
+            Ok(true) => {
+                let dictionary = self.dictionary.with_own(alloc, own)?;
+                self.put_in_force(alloc, dictionary)
+            }
+            Err(OwnLineFault::Why(why)) => Ok(Reply::NoOwn { why }),
+            Err(OwnLineFault::NoMemory) => Err(Stop::Wanting),
+        }
+    }
+
+    /// Brings a dictionary with personal words into force, and tells its version.
+    fn put_in_force(&mut self, alloc: Global, dictionary: OwnDictionary) -> Result<Reply, Stop>
+        ensures stopped { self.new.stopped ≡ self.old.stopped }
+        ensures told { IfOk result
+            (IsReloadTold self.old.eye
+            (record { eye = self.new.eye; dictionary = self.new.dictionary })) }
+        ensures dictionary { IfOk result (λ reply. self.new.dictionary ≡ dictionary) }
+        ensures cut { IfErr result (IsCutOff self.old.eye self.new.eye) }
+        ensures files { IfOk result (λ reply. is_no_files reply ≡ false) }
+    {
+        let judge = Arc::try_clone(dictionary.speller())?;
+        match self
+            .desk
+            .publish(self.rt, alloc, &mut self.eye, Event::Load { judge })
+        {
+            Ok(told) => {
+                self.dictionary = dictionary;
+                self.bell.ring(self.rt);
+                Ok(Reply::Dict { dict: told.dict })
+            }
+            Err(refusal) => turned_down(refusal),
+        }
+    }
+}
