@@ -1,5 +1,5 @@
 -- What is counted of two parts is counted of both together.
-use Rattle.std.proofs.Common.{◌≡◌, ◌∙◌, ℕ, ◌+◌, ◌*◌, ◌≤◌, List, [], ◌∷◌, ◌++◌, length, map}
+use Rattle.std.proofs.Common.{◌≡◌, ◌∙◌, ℕ, ◌+◌, List, [], ◌∷◌, ◌++◌, length, map}
 use Rattle.std.proofs.Common.{refl, sym, ap, arith, append_assoc, length-append}
 use Rattle.std.specs.List.{flat_map}
 use Rattle.std.specs.Str.{chars}
@@ -17,7 +17,6 @@ use Rattle.document_report.specs.Parts.{AreOf, IsCounted, each_from, marks_of_pa
 use Rattle.document_report.specs.Parts.{words_of_part}
 use Rattle.document_report.specs.Reports.{line_of}
 use Rattle.document_report.specs.Texts.{lent}
-use Rattle.paragraph_text.specs.declared.limits.TheConstants.{MOST_BYTES}
 
 -- what is found in paragraphs behind others has the numbers that follow theirs
 each-append : (found : List ℕ → List LocatedWord) (number : ℕ) (front back : List (List ℕ))

@@ -109,11 +109,13 @@ pub fn count_in_threads<R: Threads + Sync, J: Judge + Drop + Send + Sync>(
     let (front, back) = part.split(fewer, threads);
     let count_front = move || -> Result<Report, NoMemory>
         requires { IsSync R.row × IsSync J.row × IsSend J.row × IsLimited front }
-        ensures { IfOk result (IsCounted output (J.lexicon (arc_value judge.entry.now)) front.entry) }
+        ensures { IfOk result
+            (IsCounted output (J.lexicon (arc_value judge.entry.now)) front.entry) }
     { count_in_threads(rt, alloc, judge, fewer, output, front) };
     let count_back = move || -> Result<Report, NoMemory>
         requires { IsSync R.row × IsSync J.row × IsSend J.row × IsLimited back }
-        ensures { IfOk result (IsCounted output (J.lexicon (arc_value judge.entry.now)) back.entry) }
+        ensures { IfOk result
+            (IsCounted output (J.lexicon (arc_value judge.entry.now)) back.entry) }
     { count_in_threads(rt, alloc, judge, others, output, back) };
     let (earlier, later) = join(rt, count_front, count_back);
     let mut all = earlier?;

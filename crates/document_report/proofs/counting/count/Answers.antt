@@ -1,13 +1,8 @@
 -- Behind the last paragraph all is counted.
-use Rattle.std.proofs.Common.{◌≡◌, ◌∙◌, ◌+◌, ◌++◌, [], ◌∷◌, drop, map, append-nil, sym, ap, arith}
-use Rattle.std.specs.List.{flat_map}
-use Rattle.std.specs.Str.{chars}
+use Rattle.std.proofs.Common.{◌≡◌, ◌∙◌, ◌+◌, ◌++◌, [], drop, append-nil, sym, ap, arith}
 use Rattle.std.specs.String.{string_bytes}
 use Rattle.std.proofs.lemmas.List.{drop_all}
-use Rattle.mark_types.specs.Marks.{marks_of}
 use Rattle.document_report.specs.Given.{listed}
-use Rattle.document_report.specs.Reports.{line_of}
-use Rattle.document_report.specs.Texts.{lent}
 use Rattle.document_report.proofs.ReportLemmas.{lines_from, lines-each, listed-none, marks_from}
 use Rattle.document_report.proofs.ReportLemmas.{marks-each, words_from, words-each}
 use Rattle.document_report.proofs.counting.count.Goals as goal
