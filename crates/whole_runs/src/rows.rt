@@ -60,3 +60,4 @@ pub mod unknown_lines;
 pub mod warn;
 pub mod wordchars;
 pub mod words;
+pub mod workers;

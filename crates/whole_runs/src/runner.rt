@@ -10,6 +10,7 @@
 //! | `aff ..`, `dic ..`, `text ..` | the bytes of the files `a.aff`, `a.dic` and `text` |
 //! | `file NAME ..` | the bytes of a file with that name |
 //! | `words ..` | the words of the command line |
+//! | `workers 4` | so many workers, where no words are given |
 //! | `> ..` | a line of the input |
 //! | `< ..` | a line that is written |
 //! | `STATUS ..` | runs the program: a status, and what is written behind the lines with `<` |
@@ -21,7 +22,8 @@
 //!
 //! Without `words` a block with an input runs `edit a.aff a.dic`, and has the files of `FOLDER`
 //! beside its own. A block without an input runs `check a.aff a.dic text`, where a file that the
-//! block does not name is empty. With `words` a file that is not named is missing.
+//! block does not name is empty. With `words` a file that is not named is missing. Such a check is
+//! run again by each number of workers of `WORKERS`, and ends in the same way.
 //!
 //! A dialogue that is to end with the status 0, and with nothing behind its last reply, needs no
 //! line that runs it. Each run with an input is tried in pieces of one byte, of seven, and in one,
@@ -47,7 +49,10 @@ use std::sync::Wait;
 use std::thread::Threads;
 
 /// The names of lines that say what a run meets, and what it is to write.
-const NAMES: &str = "aff dic text file words > < loads reads puts piece";
+const NAMES: &str = "aff dic text file words workers > < loads reads puts piece";
+
+/// The numbers of workers by which each check is run again.
+const WORKERS: [u32; 4] = [0, 1, 4, 16];
 
 /// What was done with a line of a block.
 #[derive(Clone, Copy)]
@@ -151,13 +156,31 @@ fn run_line<R: Threads + Wait + Sync + Abort>(
     line: &str,
 ) -> Result<(), AllocError> {
     if !has_input(given) {
-        return assert_ended(rt, alloc, given, line, &[], 1);
+        return assert_checked(rt, alloc, given, line);
     }
     let input = input_of(alloc, given)?;
     match last(given, "piece").unwrap_or("").parse::<usize>() {
         Ok(piece) => assert_dialogue(rt, alloc, given, line, &input, piece),
         Err(_) => assert_pieces(rt, alloc, given, line, &input),
     }
+}
+
+/// Runs the program without an input; a check of the usual files by each number of workers too.
+fn assert_checked<R: Threads + Wait + Sync + Abort>(
+    rt: &R,
+    alloc: Global,
+    given: &str,
+    line: &str,
+) -> Result<(), AllocError> {
+    assert_ended(rt, alloc, given, line, &[], 1)?;
+    if last(given, "words").is_some() {
+        return Ok(());
+    }
+    for workers in WORKERS {
+        let shared = format!(in alloc; "{given}\nworkers {workers}")?;
+        assert_ended(rt, alloc, &shared, line, &[], 1)?;
+    }
+    Ok(())
 }
 
 /// Runs the program over an input in pieces of each length.

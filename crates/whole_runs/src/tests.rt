@@ -109,6 +109,7 @@ fn words_and_files(rt: HostRuntime) -> Result<(), Fail> {
         rows::make::ROWS,
         rows::missing_and_failing::ROWS,
         rows::words::ROWS,
+        rows::workers::ROWS,
     ] {
         run_rows(&rt, rt.alloc(), rows)?;
     }

@@ -89,12 +89,22 @@ pub(crate) fn words_of(alloc: Global, given: &str) -> Result<Vec<String>, AllocE
     };
     let line = last(given, "words").unwrap_or(usual);
     let mut words = Vec::new(alloc);
+    push_words(alloc, line, &mut words)?;
+    if let (None, Some(workers)) = (last(given, "words"), last(given, "workers")) {
+        words.push(String::from_str(alloc, "--workers")?)?;
+        push_words(alloc, workers, &mut words)?;
+    }
+    Ok(words)
+}
+
+/// Adds the words of a line, with a space between each two.
+fn push_words(alloc: Global, line: &str, words: &mut Vec<String>) -> Result<(), AllocError> {
     if !line.is_empty() {
         for word in line.split(' ') {
             words.push(String::from_str(alloc, word)?)?;
         }
     }
-    Ok(words)
+    Ok(())
 }
 
 /// The name and the lines of a file, where a line says them.

@@ -4,9 +4,15 @@ use crate::runner::{files_of, words_of};
 use command_line::run;
 use outside::{Failed, FreeGate, MemFiles, Sink, SureSource};
 use std::alloc::{AllocError, Global};
+use std::process::Abort;
+use std::sync::Wait;
+use std::thread::Threads;
 
 const GIVEN: &str =
     "aff SET UTF-8|# words|WORDCHARS 0123456789|\ndic 2|hello|2nd|\ntext hello 2nd wrld";
+
+const GIVEN_TO_WORKERS: &str =
+    "aff SET UTF-8|# words|WORDCHARS 0123456789|\ndic 2|hello|2nd|\ntext hello 2nd wrld\nworkers 4";
 
 /// A sink that needs no memory, and remembers only whether what was put is one of two texts. It
 /// tells contracts nothing.
@@ -39,19 +45,17 @@ struct Ready {
     files: MemFiles,
 }
 
-fn make_ready(alloc: Global) -> Result<Ready, AllocError> {
-    let words = words_of(alloc, GIVEN)?;
-    let files = files_of(alloc, GIVEN)?;
+fn make_ready(alloc: Global, given: &str) -> Result<Ready, AllocError> {
+    let words = words_of(alloc, given)?;
+    let files = files_of(alloc, given)?;
     Ok(Ready { words, files })
 }
 
 /// With an allocation that fails, as the kit can arrange for a run of the tests, the run says that
 /// memory is wanting or prints all that is due. Where the objects of the test itself find no memory
 /// there is no run.
-#[test]
-fn says_that_memory_is_wanting(rt: HostRuntime) {
-    let alloc = rt.alloc();
-    let Ok(mut ready) = make_ready(alloc) else {
+fn assert_told<R: Threads + Wait + Sync + Abort>(rt: &R, alloc: Global, given: &str) {
+    let Ok(mut ready) = make_ready(alloc, given) else {
         return;
     };
     let mut input = SureSource::new(Vec::new(alloc));
@@ -61,7 +65,7 @@ fn says_that_memory_is_wanting(rt: HostRuntime) {
         was_memory: false,
     };
     let ended = run(
-        &rt,
+        rt,
         alloc,
         ready.words.as_slice(),
         &mut ready.files,
@@ -75,4 +79,14 @@ fn says_that_memory_is_wanting(rt: HostRuntime) {
         7 => assert!(rt; out.was_memory),
         status => assert!(rt; false, "status {status}"),
     }
+}
+
+#[test]
+fn says_that_memory_is_wanting(rt: HostRuntime) {
+    assert_told(&rt, rt.alloc(), GIVEN);
+}
+
+#[test]
+fn says_that_a_worker_wants_memory(rt: HostRuntime) {
+    assert_told(&rt, rt.alloc(), GIVEN_TO_WORKERS);
 }
