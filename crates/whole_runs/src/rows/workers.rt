@@ -19,14 +19,15 @@ workers 16
 1 1 0 5 retry|4 0 5 retry|5 7 12 retry|6 0 5 retry|4 of 7
 
 # No line, and lines of which one has nearly all bytes.
+dic 1|a
 workers 16
 0 0 of 0
-dic 1|a
 text a|@2000 a @|b|a
 workers 4
 1 3 0 1 b|1 of 2003
 
 # A line that is not UTF-8 is told before the lines are shared, and so is their number.
+dic 1|hello
 text hello|@xff@
 workers 4
 4 doc 2
