@@ -72,14 +72,18 @@ fn read_pieces(alloc: Global, text: &[char]) -> Result<Condition, ConditionFault
     ensures fault { IfErr result
         (λ fault. fault ≢ ConditionFault.NoMemory → pieces_of text.now ≡ None) }
 {
-    let mut made = Items::new(alloc);
+    let mut made = Vec::new(alloc);
     let mut place = 0;
     while place < text.len() {
         let (piece, more) = read_piece(alloc, text[place], &text[place + 1..])?;
-        made.push(piece)?;
+        if made.push(piece).is_err() {
+            return Err(ConditionFault::NoMemory);
+        }
         place += 1 + more;
     }
-    Ok(made)
+    // A dictionary has thousands of conditions, mostly of a piece or two.
+    made.shrink_to_fit();
+    Ok(Items::from_vec(made))
 }
 
 /// The piece that begins with a character, and how many of the characters behind it belong to it.

@@ -1,5 +1,5 @@
 -- What the places of a word are.
-use Rattle.std.proofs.Common.{◌≡◌, ◌∙◌, ◌↔◌, refl, ap, ℕ, Bool, true, List, nat_eq, slice_get, Some}
+use Rattle.std.proofs.Common.{◌≡◌, ◌∙◌, ◌↔◌, ap, ℕ, Bool, true, List, nat_eq, slice_get, Some}
 use Rattle.std.proofs.Common.{Contains}
 use Rattle.std.specs.List.{starts_with, ends_with}
 use Rattle.std.specs.List.Sorted.{IsStrictlyIncreasing}

@@ -5,17 +5,15 @@ use Rattle.std.proofs.Common.{◌<◌, Bool, true, false, cond, ◌||◌, true�
 use Rattle.std.proofs.Common.{length, slice_get, filter, Option, Some, None, Contains}
 use Rattle.std.proofs.Common.{if◌then◌else◌, IsPermutation, length-append, arith}
 use Rattle.std.specs.Ordering.{nat_cmp}
-use Rattle.std.specs.declared.cmp.Ordering.TheVariants.{Less}
-use Rattle.std.specs.List.{range_with_len, AllByRecursion}
+use Rattle.std.specs.List.{range_with_len}
 use Rattle.std.specs.List.Sorted.{IsStrictlySortedBy}
-use Rattle.std.proofs.lemmas.Bool.Decides.{nat_tests}
 use Rattle.std.proofs.lemmas.List.Elements.{All-contains, filter-append, filter_agree}
 use Rattle.std.proofs.lemmas.List.Elements.{filter_passes}
 use Rattle.std.proofs.lemmas.List.Kept.{IsStrictlySortedBy-filter}
 use Rattle.std.proofs.lemmas.List.Sorted.{IsPermutation-refl, IsPermutation-cons}
 use Rattle.std.proofs.lemmas.List.Sorted.{IsPermutation-middle, IsPermutation-trans}
 use Rattle.std.proofs.lemmas.Option.{slice_get_within}
-use Rattle.lists.specs.Laws.{range_more, contains-filter, contains-range, range-above, range-rises}
+use Rattle.lists.specs.Laws.{range_more, contains-filter, contains-range, range-rises}
 use Rattle.spell_types.specs.declared.rules.Rule.{Rule}
 use Rattle.affix_tables.specs.Places.{passes, places_where}
 

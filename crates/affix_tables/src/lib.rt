@@ -308,6 +308,8 @@ fn put_in_group(
         None => {
             let mut groups = IndexMap::new(alloc);
             put_at(alloc, &mut groups, stripped, place)?;
+            // Most texts have one group, and a map takes room for several.
+            groups.shrink_to_fit();
             by_text.insert(added.to_vec(alloc)?, groups)?;
             Ok(())
         }

@@ -5,7 +5,7 @@ use Rattle.std.specs.Cmp.Lexicographic.{pointwise}
 use Rattle.std.specs.Map.{lookup}
 use Rattle.indexmap.proofs.CallerLemmas.{insert_entry-new}
 use Rattle.affix_tables.specs.Tables.{places_at, all_places, Puts}
-use Rattle.affix_tables.proofs.GroupLemmas.{puts-there, puts-first}
+use Rattle.affix_tables.proofs.GroupLemmas.{Longer, puts-there, puts-first}
 use Rattle.affix_tables.proofs.put_in_group.Goals as goal
 
 pub returns-in_ok-put_at-in-Some : goal.returns-in_ok-put_at-in-Some
@@ -22,7 +22,8 @@ returns-in_ok-put_at-in-Some c =
 pub returns-in_ok-insert-in-None : goal.returns-in_ok-insert-in-None
 returns-in_ok-insert-in-None c =
     let key = c.in_ok-to_vec-in-None.field-0 in
-    let groups = c.put_at-in-None.new.by_text in
+    let made = c.put_at-in-None.new.by_text in
+    let groups = c.shrink_to_fit.new.self in
     let before = c.args.by_text.now.entries in
     let is : key.items ≡ c.args.added.now = search rules in
     let none : lookup (λ k. pointwise nat_eq c.args.added.now k.items) before ≡ None =
@@ -32,14 +33,15 @@ returns-in_ok-insert-in-None c =
     ∙ insert_entry-new (λ k q. pointwise nat_eq k.items q.items) c.args.by_text.now key groups
     (ap (λ items. lookup (λ k. pointwise nat_eq items k.items) before) is ∙ none)))
     (puts-first before c.args.added.now c.args.stripped.now c.args.place key groups is none
-    (record {
+    (subst (λ entries. Longer [] entries c.args.stripped.now c.args.place)
+    (sym c.shrink_to_fit.ensures.entries) (record {
       at_strip = λ strip.
           c.in_ok-put_at-in-None.ensures.at_text strip
           ∙ ap (λ entries. places_at entries strip
           ++ (if pointwise nat_eq strip c.args.stripped.now then c.args.place ∷ [] else []))
           c.new-groups.ensures.empty;
       all = subst
-          (λ entries. IsPermutation (all_places groups.entries)
+          (λ entries. IsPermutation (all_places made.entries)
           (all_places entries ++ c.args.place ∷ [])) c.new-groups.ensures.empty
           c.in_ok-put_at-in-None.ensures.all;
-    }))
+    })))

@@ -7,7 +7,7 @@ use Rattle.affix_classes.proofs.reading.read_pieces.Given as goal
 abbrev pub invariant-loop-place : goal.invariant-loop-place
 invariant-loop-place l = record {
   within : l.place ≤ length l.text;
-  whole : after l.made (pieces_of (drop l.place l.text)) ≡ pieces_of l.text;
+  whole : after l.made.items (pieces_of (drop l.place l.text)) ≡ pieces_of l.text;
 }
 
 abbrev pub decreases-loop-place : goal.decreases-loop-place
