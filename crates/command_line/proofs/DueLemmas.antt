@@ -107,7 +107,7 @@ failing-told : {A E : Type 0} (to : E → Failure) → ((fault : E) → IsTold (
 failing-told to told (Ok given) = tt
 failing-told to told (Err fault) = told fault
 
-then-told : {A B : Type 0} (due : Result A Failure) (next : A → Result B Failure)
+pub then-told : {A B : Type 0} (due : Result A Failure) (next : A → Result B Failure)
     → IfErr due IsTold → ((given : A) → IfErr (next given) IsTold) → IfErr (due >>= next) IsTold
 then-told (Ok given) next told later = later given
 then-told (Err failure) next told later = told
@@ -133,7 +133,7 @@ unfolding own_due
 own-told affixes None = tt
 own-told affixes (Some file) = list-told affixes file
 
-base-told : (there : DictionaryFiles) → IfErr (base_due there) IsTold
+pub base-told : (there : DictionaryFiles) → IfErr (base_due there) IsTold
 unfolding base_due
 base-told there = failing-told failure_of load-told (lexicon_due there)
 

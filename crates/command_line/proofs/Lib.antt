@@ -1,4 +1,5 @@
 pub mod EndLemmas
 pub mod DueLemmas
+pub mod ListingLemmas
 pub mod DialogueLemmas
 pub mod MadeLemmas

@@ -1,6 +1,6 @@
 -- What is due of files: what the program is to print of them, or why there is nothing to print.
 use Rattle.std.specs.Prelude.{◌≡◌, ℕ, List, [], codes, Option, Some, None, is_some, IsSomeAnd}
-use Rattle.std.specs.Prelude.{Result, Ok}
+use Rattle.std.specs.Prelude.{Result, Ok, Err, length, nat_le, if◌then◌else◌}
 use Rattle.std.specs.Option.{option_map}
 use Rattle.lists.specs.Answers.{◌>>=◌, failing}
 use Rattle.outside.specs.Files.{Folder, file_due}
@@ -13,13 +13,15 @@ use Rattle.dictionary_swap.specs.Loads.{DictionaryFiles, found_in, lexicon_due, 
 use Rattle.dictionary_swap.specs.declared.fault.LoadFault.TheVariants.{Failed}
 use Rattle.document_report.specs.Documents.{document_due}
 use Rattle.document_report.specs.Reports.{Printed, report_of, summary_of}
+use Rattle.form_lister.specs.Forms.{forms_of}
 use Rattle.work_maker.specs.Made.{aff_bytes, dic_bytes, text_bytes}
 use Rattle.command_line.specs.Failures.{document_failure, failure_of, own_failure}
+use Rattle.command_line.specs.Listings.{listing}
 use Rattle.command_line.specs.Operands.{CheckedFiles, DictionaryNamed, StartAndSize}
 use Rattle.command_line.specs.declared.failure.Failure.{Failure}
-use Rattle.command_line.specs.declared.failure.Failure.TheVariants.{Load, NoMemory}
+use Rattle.command_line.specs.declared.failure.Failure.TheVariants.{Load, ManyForms, NoMemory}
 use Rattle.dictionary_swap.specs.declared.limits.TheConstants.{SIZE_LIMIT}
-use Rattle.command_line.specs.declared.limits.TheConstants.{DOCUMENT_LIMIT}
+use Rattle.command_line.specs.declared.limits.TheConstants.{DOCUMENT_LIMIT, MOST_FORMS}
 
 -- what there is of the files of a dictionary and, where one is named, of a personal list: the bytes
 -- of each, if it is there
@@ -109,6 +111,19 @@ HasMade size told =
 -- the words of `make` ask for a summary of what is made
 abbrev pub make_due : StartAndSize → Result Printed Failure
 make_due asked = checked_due (summary_of asked.size) (made_by asked)
+
+-- what is due of a dictionary whose forms are to be listed: all of them, if they are no more than
+-- are listed
+unfoldable pub listing_due : Lexicon → Result Printed Failure
+listing_due lexicon =
+    if nat_le (length (forms_of lexicon)) MOST_FORMS then Ok (listing (forms_of lexicon))
+    else Err (ManyForms MOST_FORMS)
+
+-- the words of `forms` ask for that, of the two files of a dictionary
+unfoldable pub forms_due : DictionaryFiles → Result Printed Failure
+forms_due files = do
+  lexicon ← base_due files
+  listing_due lexicon
 
 -- what a folder has of these names
 abbrev pub own_found_in : Folder → DictionaryNamed → OwnFiles

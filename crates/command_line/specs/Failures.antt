@@ -15,9 +15,13 @@ use Rattle.document_report.specs.declared.fault.DocumentFault.TheVariants.{NotUt
 use Rattle.document_report.specs.declared.fault.DocumentFault.TheVariants.{TooManyParagraphs}
 use Rattle.document_report.specs.declared.fault.DocumentFault.TheVariants.{LongParagraph}
 use Rattle.document_report.specs.declared.fault.DocumentFault.TheVariants.{NoMemory as ReportWanting}
+use Rattle.form_lister.specs.declared.faults.FormsFault.{FormsFault}
+use Rattle.form_lister.specs.declared.faults.FormsFault.TheVariants.{TooMany}
+use Rattle.form_lister.specs.declared.faults.FormsFault.TheVariants.{NoMemory as ListingWanting}
 use Rattle.command_line.specs.declared.failure.Failure.{Failure}
 use Rattle.command_line.specs.declared.failure.Failure.TheVariants.{Words, Load, Own, Document}
 use Rattle.command_line.specs.declared.failure.Failure.TheVariants.{Input, Limit, NoMemory}
+use Rattle.command_line.specs.declared.failure.Failure.TheVariants.{ManyForms}
 
 -- ---- the exit status
 
@@ -40,6 +44,7 @@ status_of Words = 2
 status_of (Load fault) = load_status fault
 status_of (Own line why) = 3
 status_of (Document fault) = document_status fault
+status_of (ManyForms limit) = 8
 status_of Input = 5
 status_of (Limit limit) = 8
 status_of NoMemory = 7
@@ -73,6 +78,7 @@ last_line Words = codes "affedit: words\n"
 last_line (Load fault) = load_line fault
 last_line (Own line why) = fault_line (codes "own") line (own_why_name why)
 last_line (Document fault) = document_line fault
+last_line (ManyForms limit) = limit_line limit
 last_line Input = codes "input\n"
 last_line (Limit limit) = limit_line limit
 last_line NoMemory = codes "memory\n"
@@ -101,8 +107,12 @@ document_failure (TooManyParagraphs limit) = Document (TooManyParagraphs limit)
 document_failure (LongParagraph limit) = Document (LongParagraph limit)
 document_failure ReportWanting = NoMemory
 
+abbrev pub failure_of_forms : FormsFault → Failure
+failure_of_forms (TooMany limit) = ManyForms limit
+failure_of_forms ListingWanting = NoMemory
+
 -- whether a failure is one of the files or of the document themselves: one is not there or too
--- large, or something in it is wrong
+-- large, something in it is wrong, or a dictionary has too many forms to be listed
 abbrev pub is_fault : Failure → Bool
 is_fault (Load Failed) = false
 is_fault (Load LoadWanting) = false
@@ -110,4 +120,5 @@ is_fault (Load fault) = true
 is_fault (Own line why) = true
 is_fault (Document ReportWanting) = false
 is_fault (Document fault) = true
+is_fault (ManyForms limit) = true
 is_fault _ = false

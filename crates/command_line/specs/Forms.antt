@@ -7,6 +7,7 @@ use Rattle.std.specs.List.{AllByRecursion}
 use Rattle.outside.specs.Files.{Folder}
 use Rattle.own_dictionary.specs.Dictionaries.{OwnSeen}
 use Rattle.text_lines.specs.Lines.{line_texts}
+use Rattle.dictionary_swap.specs.Loads.{DictionaryFiles}
 use Rattle.dictionary_swap.specs.declared.fault.LoadFault.TheVariants.{Failed as FailedLoad}
 use Rattle.document_report.specs.Reports.{Printed}
 use Rattle.input_lines.specs.Ends.{HasEnded, Reading}
@@ -14,18 +15,20 @@ use Rattle.input_lines.specs.Lines.{IsBounded, IsShort, before_quit}
 use Rattle.input_lines.specs.declared.reading_end.ReadingEnd.{ReadingEnd}
 use Rattle.input_lines.specs.declared.reading_end.ReadingEnd.TheVariants as reading
 use Rattle.console_lang.specs.declared.reply.Reply.{Reply}
-use Rattle.console_board.specs.Transcripts.{IsTranscript, is_quit, written_of, failures_in}
+use Rattle.console_board.specs.Transcripts.{IsThere, IsTranscript, is_quit, written_of}
+use Rattle.console_board.specs.Transcripts.{failures_in}
 use Rattle.command_line.specs.Due.{Found, IsFound, IsOwnThere, OwnFiles, check_due, dictionary_due}
-use Rattle.command_line.specs.Due.{make_due, own_found_in}
+use Rattle.command_line.specs.Due.{forms_due, make_due, own_found_in}
 use Rattle.command_line.specs.Failures.{is_fault}
 use Rattle.command_line.specs.Operands.{DictionaryNamed}
 use Rattle.command_line.specs.declared.requests.Request.{Request}
-use Rattle.command_line.specs.declared.requests.Request.TheVariants.{Check, Make, Edit}
+use Rattle.command_line.specs.declared.requests.Request.TheVariants.{Check, Make, Edit, Listing}
 use Rattle.command_line.specs.declared.ending.End.{End}
 use Rattle.command_line.specs.declared.ending.End.TheVariants.{Quiet, Marked, Failed}
 use Rattle.command_line.specs.declared.failure.Failure.{Failure}
 use Rattle.command_line.specs.declared.failure.Failure.TheVariants.{Words, Load, Own, Document}
 use Rattle.command_line.specs.declared.failure.Failure.TheVariants.{Input, Limit, NoMemory}
+use Rattle.command_line.specs.declared.failure.Failure.TheVariants.{ManyForms}
 use Rattle.input_lines.specs.declared.limits.TheConstants.{INPUT_LIMIT, LINE_LIMIT}
 
 -- What a call meets outside: what the folder tells, how often the files had failed before the call
@@ -196,17 +199,24 @@ form_of (Some (Edit names workers)) = record {
       → ¬ (FailedFirst met) → met.reading.faults_after ≡ met.reading.faults_before
       → IsWholeDialogue met dictionary text end;
 }
+-- `forms AFF DIC`
+form_of (Some (Listing names)) =
+    report_form true
+    (λ met due. (there : DictionaryFiles) × IsThere met.folder names.aff names.dic there
+    × (due ≡ forms_due there))
 
 -- what words ask for that do without an input
 abbrev pub without_input : Option Request → Option Request
 without_input asked = if (form_of asked).reads_input then None else asked
 
--- where words, files or a document are refused, that is the only line
+-- where words, files or a document are refused, or a dictionary has too many forms to be listed,
+-- that is the only line
 abbrev pub is_alone : End → Bool
 is_alone (Failed Words) = true
 is_alone (Failed (Load fault)) = true
 is_alone (Failed (Own line why)) = true
 is_alone (Failed (Document fault)) = true
+is_alone (Failed (ManyForms limit)) = true
 is_alone _ = false
 
 -- the causes of ends

@@ -17,6 +17,11 @@ pub record CheckedFiles : Type 0 where
   pub dictionary : DictionaryNamed
   pub document : List ℕ
 
+-- the files of the dictionary whose forms the words of `forms` ask for, by their names
+pub record ListedFiles : Type 0 where
+  pub aff : List ℕ
+  pub dic : List ℕ
+
 -- what the words of `make` ask for: a dictionary and a text of this size, whose words are drawn
 -- from this start on
 pub record StartAndSize : Type 0 where

@@ -7,7 +7,7 @@ use Rattle.std.specs.Str.{bytes_eq}
 use Rattle.text_lines.specs.Fields.{decimal_of}
 use Rattle.command_line.specs.Operands.{DictionaryNamed, Said, StartAndSize}
 use Rattle.command_line.specs.declared.requests.Request.{Request}
-use Rattle.command_line.specs.declared.requests.Request.TheVariants.{Check, Make, Edit}
+use Rattle.command_line.specs.declared.requests.Request.TheVariants.{Check, Make, Edit, Listing}
 use Rattle.command_line.specs.declared.limits.TheConstants.{MOST_WORKERS, MOST_EDIT_WORKERS}
 
 -- ---- options
@@ -82,6 +82,11 @@ abbrev pub edit_in : List (List ℕ) → Option Request
 edit_in (aff ∷ dic ∷ options) = option_and_then (edit_with aff dic) (options_in options)
 edit_in _ = None
 
+-- `forms AFF DIC`
+abbrev pub listing_in : List (List ℕ) → Option Request
+listing_in (aff ∷ dic ∷ []) = Some (Listing (record { aff = aff; dic = dic }))
+listing_in _ = None
+
 -- what these words ask for, if they are of one of the forms
 abbrev pub asked_in : List (List ℕ) → Option Request
 asked_in [] = None
@@ -89,4 +94,5 @@ asked_in (name ∷ operands) =
     if bytes_eq name (codes "check") then check_in operands
     else (if bytes_eq name (codes "make") then make_in operands
     else (if bytes_eq name (codes "edit") then edit_in operands
-    else None))
+    else (if bytes_eq name (codes "forms") then listing_in operands
+    else None)))

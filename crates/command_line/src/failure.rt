@@ -4,11 +4,13 @@ ghost use Rattle.std.specs.Prelude.{◌≡◌, ◌++◌, OnOk};
 ghost use Rattle.std.specs.String.{string_bytes};
 ghost use Rattle.command_line.specs.declared.failure.Failure.TheVariants.{NoMemory as OutOfMemory};
 ghost use Rattle.command_line.specs.Failures.{document_failure, document_line, document_status};
-ghost use Rattle.command_line.specs.Failures.{failure_of, failure_of_own, fault_line, last_line};
+ghost use Rattle.command_line.specs.Failures.{failure_of, failure_of_forms, failure_of_own};
+ghost use Rattle.command_line.specs.Failures.{fault_line, last_line};
 ghost use Rattle.command_line.specs.Failures.{limit_line, load_line, load_status, status_of};
 
 use dictionary_swap::LoadFault;
 use document_report::DocumentFault;
+use form_lister::FormsFault;
 use lists::NoMemory;
 use personal_words::{OwnFault, OwnWhy};
 use std::alloc::{AllocError, AllocFailed};
@@ -24,6 +26,8 @@ pub enum Failure {
     Own { line: u64, why: OwnWhy },
     /// There is no report on the document.
     Document(DocumentFault),
+    /// The dictionary has more forms than this.
+    ManyForms { limit: u64 },
     /// The input failed.
     Input,
     /// The input, or a line of it, has more bytes than this.
@@ -42,6 +46,7 @@ impl Failure {
             Failure::Load(fault) => load_status(fault),
             Failure::Own { .. } => 3,
             Failure::Document(fault) => document_status(fault),
+            Failure::ManyForms { .. } => 8,
             Failure::Input => 5,
             Failure::Limit { .. } => 8,
             Failure::NoMemory => 7,
@@ -58,6 +63,7 @@ impl Failure {
             Failure::Load(fault) => push_load_line(text, fault),
             Failure::Own { line, why } => push_fault(text, "own", line, why.name()),
             Failure::Document(fault) => push_document_line(text, fault),
+            Failure::ManyForms { limit } => push_limit(text, limit),
             Failure::Input => text.push_str("input\n"),
             Failure::Limit { limit } => push_limit(text, limit),
             Failure::NoMemory => text.push_str("memory\n"),
@@ -154,6 +160,17 @@ impl From<DocumentFault> for Failure {
         match fault {
             DocumentFault::NoMemory => Failure::NoMemory,
             other => Failure::Document(other),
+        }
+    }
+}
+
+impl From<FormsFault> for Failure {
+    ghost from_gives = { λ fault failure. failure ≡ failure_of_forms fault };
+
+    fn from(fault: FormsFault) -> Failure {
+        match fault {
+            FormsFault::TooMany { limit } => Failure::ManyForms { limit },
+            FormsFault::NoMemory => Failure::NoMemory,
         }
     }
 }

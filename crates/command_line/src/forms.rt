@@ -2,4 +2,5 @@
 
 pub mod check;
 pub mod edit;
+pub mod listing;
 pub mod make;

@@ -14,5 +14,5 @@ mod requests;
 mod top_call;
 
 pub use ending::put_wanting;
-pub use limits::{DOCUMENT_LIMIT, MOST_EDIT_WORKERS, MOST_WORKERS};
+pub use limits::{DOCUMENT_LIMIT, MOST_EDIT_WORKERS, MOST_FORMS, MOST_WORKERS};
 pub use top_call::{Ended, run, run_check};

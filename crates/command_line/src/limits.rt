@@ -1,7 +1,10 @@
-//! How much is loaded, and how many workers there are.
+//! How much is loaded and listed, and how many workers there are.
 
 /// How large a document may be, in bytes.
 pub const DOCUMENT_LIMIT: u64 = 67_108_864;
+
+/// How many forms of a dictionary are listed.
+pub const MOST_FORMS: u64 = 1_000_000;
 
 /// How many workers words may ask for.
 pub const MOST_WORKERS: u64 = 16;

@@ -69,7 +69,7 @@ fn judge_of(dictionary: &OwnDictionary) -> Result<Arc<Speller>, NoMemory>
 }
 
 /// The dictionary of these two files alone.
-fn load_base<F: Files>(
+pub fn load_base<F: Files>(
     alloc: Global,
     files: &mut F,
     aff: &str,

@@ -7,6 +7,7 @@ ghost use Rattle.command_line.specs.Requests.{asked_in};
 
 use crate::forms::check::{CheckNames, check_of};
 use crate::forms::edit::edit_of;
+use crate::forms::listing::{ListedNames, listing_of};
 use crate::forms::make::{Making, make_of};
 use crate::names::DictionaryNames;
 use crate::options::Workers;
@@ -23,6 +24,7 @@ pub enum Request<'a> {
         names: DictionaryNames<'a>,
         workers: Workers,
     },
+    Listing(ListedNames<'a>),
 }
 
 /// What the words ask for, if they are of one of the forms.
@@ -34,6 +36,7 @@ pub fn request_of(words: &[String]) -> Option<Request<'_>>
         "check" => check_of(operands),
         "make" => make_of(operands),
         "edit" => edit_of(operands),
+        "forms" => listing_of(operands),
         _ => None,
     }
 }

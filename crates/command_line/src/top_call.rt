@@ -16,6 +16,7 @@ use crate::ending::{End, put_end};
 use crate::failure::Failure;
 use crate::forms::check::check;
 use crate::forms::edit::edit;
+use crate::forms::listing::list_forms;
 use crate::forms::make::make;
 use crate::no_input::NoInput;
 use crate::requests::{Request, request_of, without_input};
@@ -95,7 +96,7 @@ where
     Ended { status }
 }
 
-/// Does all of `check` and `make`, and answers 2 for other words. It always returns.
+/// Does all of `check`, `make` and `forms`, and answers 2 for other words. It always returns.
 pub fn run_check<R, F, K>(rt: &R, alloc: Global, words: &[String], files: &mut F, out: &mut K) -> u8
 where
     R: Threads + Sync,
@@ -177,6 +178,7 @@ fn answer<R: Threads + Sync, F: Files, S: Source, K: Sink>(
         Some(Request::Check { names, workers }) => check(rt, alloc, names, workers, files, out),
         Some(Request::Make(making)) => make(rt, alloc, making, out),
         Some(Request::Edit { names, workers }) => edit(alloc, names, workers, files, input, out),
+        Some(Request::Listing(names)) => list_forms(alloc, names, files, out),
         None => tell_words(alloc, out),
     }
 }

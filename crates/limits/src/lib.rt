@@ -3,7 +3,8 @@
 #![tactic(auto)]
 
 ghost use Rattle.std.specs.Prelude.{◌≡◌};
-ghost use Rattle.command_line.specs.declared.limits.TheConstants.{DOCUMENT_LIMIT, MOST_WORKERS};
+ghost use Rattle.command_line.specs.declared.limits.TheConstants.{DOCUMENT_LIMIT, MOST_FORMS};
+ghost use Rattle.command_line.specs.declared.limits.TheConstants.{MOST_WORKERS};
 ghost use Rattle.dictionary_swap.specs.declared.limits.TheConstants.{SIZE_LIMIT};
 ghost use Rattle.edit_core.specs.declared.limits.TheConstants.{MOST_MOVED};
 ghost use Rattle.input_lines.specs.declared.limits.TheConstants.{INPUT_LIMIT, LINE_LIMIT};
@@ -11,8 +12,8 @@ ghost use Rattle.paragraph_text.specs.declared.limits.TheConstants.{MOST_BYTES, 
 ghost use Rattle.spell_types.specs.declared.limits.TheConstants.{MOST_PAIRS};
 
 /// The limits on files, on paragraphs, and on the input of `edit` and its lines; how far an event
-/// moves a history; how many pairs of a word may be written as one letter; and how many workers words
-/// may ask for.
+/// moves a history; how many pairs of a word may be written as one letter; how many forms are
+/// listed; and how many workers words may ask for.
 pub fn limits_are_these()
     ensures file { SIZE_LIMIT ≡ 16777216 }
     ensures document { DOCUMENT_LIMIT ≡ 67108864 }
@@ -22,5 +23,6 @@ pub fn limits_are_these()
     ensures input { INPUT_LIMIT ≡ 4294967295 }
     ensures moved { MOST_MOVED ≡ 40001 }
     ensures pairs { MOST_PAIRS ≡ 5 }
+    ensures forms { MOST_FORMS ≡ 1000000 }
     ensures workers { MOST_WORKERS ≡ 16 }
 {}
