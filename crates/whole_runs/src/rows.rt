@@ -26,6 +26,7 @@ pub mod first_fault;
 pub mod flag;
 pub mod forbiddenword;
 pub mod forceucase;
+pub mod forms;
 pub mod fullstrip;
 pub mod iconv;
 pub mod ignore;

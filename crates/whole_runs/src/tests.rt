@@ -106,6 +106,7 @@ fn files(rt: HostRuntime) -> Result<(), Fail> {
 #[test]
 fn words_and_files(rt: HostRuntime) -> Result<(), Fail> {
     for rows in [
+        rows::forms::ROWS,
         rows::make::ROWS,
         rows::missing_and_failing::ROWS,
         rows::words::ROWS,
