@@ -1,5 +1,5 @@
 #!/usr/bin/env bash
-# What README.md shows of the sample and of a dialogue, what docs/LIBRARY.md shows of two sessions, and the scripts in `examples/` on a text
+# What README.md shows of the sample, of its forms and of a dialogue, what docs/LIBRARY.md shows of two sessions, and the scripts in `examples/` on a text
 # with addresses, by the programs that are built. Prints what differs; the status is 0 where nothing does.
 set -euo pipefail
 top=$(cd "$(dirname "$0")/.." && pwd)
@@ -38,6 +38,31 @@ LINE
 block "$dialogue" > "$work/block"
 [ -s "$work/block" ] || { echo 'README.md has no block behind the dialogue'; failed=1; }
 expect 'a dialogue' 0 bash -c "$dialogue" < "$work/block"
+
+forms='./affedit forms examples/sample.aff examples/sample.dic | tail -n 5'
+block "$forms" > "$work/block"
+[ -s "$work/block" ] || { echo 'README.md has no block behind the forms'; failed=1; }
+expect 'forms' 0 bash -c "$forms" < "$work/block"
+expect 'all forms' 0 ./affedit forms examples/sample.aff examples/sample.dic << 'FORMS'
+2nd
+cities
+city
+fox
+foxs
+in
+order
+orders
+read
+reads
+reorder
+reorders
+reread
+rereads
+the
+was
+who
+17 forms
+FORMS
 
 # The personal list that README.md shows.
 grep -qF './affedit check examples/sample.aff examples/sample.dic examples/sample.txt --own words' README.md || { echo 'README.md shows no personal list'; failed=1; }

@@ -103,6 +103,7 @@ builds 1 'a program that was built elsewhere'
 expect 'help' 2 'status 125' launch --help
 expect 'version' 2 'made for a test' launch --version
 expect 'no words' 2 'affedit check AFF DIC FILE' launch
+expect 'a command of the help' 2 'affedit forms AFF DIC' launch
 
 # A folder that cannot be written, by a user who has no right to.
 folder
