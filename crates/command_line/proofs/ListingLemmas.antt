@@ -1,5 +1,5 @@
 -- What is due of a dictionary whose forms are listed.
-use Rattle.std.proofs.Common.{◌≡◌, ◌<◌, ◌≤◌, ℕ, Bool, true, false, length, nat_le, refl, ap, inl, inr}
+use Rattle.std.proofs.Common.{◌≡◌, ◌≤◌, Bool, true, false, length, nat_le, refl, ap, inl, inr}
 use Rattle.std.proofs.Common.{Option, Result, Ok, Err, IfErr, if◌then◌else◌}
 use Rattle.std.proofs.lemmas.Bool.{le-leb, lt-leb}
 use Rattle.lists.specs.Answers.{FailsAs, GivesDue}
