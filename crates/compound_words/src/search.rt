@@ -106,7 +106,7 @@ impl Search<'_> {
     pub(crate) fn may_stand(&self, text: &[char], place: Place) -> bool
         ensures { result ≡ false → NoneStands self.now.stems.now place text.now }
     {
-        self.stems.may_stand(text, place)
+        !self.is_too_long(text.len()) && self.stems.may_stand(text, place)
     }
 
     /// The derivations whose form is a text.
