@@ -1,0 +1,65 @@
+//! Tasks that are done at once, each in a thread of its own, and joined.
+#![tactic(auto)]
+
+ghost use Rattle.std.specs.Prelude.{◌≡◌, vec_len};
+ghost use Rattle.std.specs.List.{All, AllZip};
+
+use std::thread::{Threads, for_each_mut, join_mut};
+
+/// What a thread does, with all that it has.
+pub trait Task {
+    /// What has to hold of it before.
+    ghost IsReady: { Self → Type 0 };
+
+    /// What becomes of it.
+    ghost Does: { Self → Self → Type 0 };
+
+    /// Does all of it. It may wait for others.
+    fn perform(&mut self)
+        requires { IsReady self.old }
+        ensures { Does self.old self.new };
+}
+
+/// Does all tasks at once, in as many threads as there are tasks or as can be made.
+pub fn perform_all<R: Threads + Sync, T: Task + Send>(rt: &R, tasks: &mut [T])
+    requires { All T.IsReady tasks.old }
+    ensures { AllZip T.Does tasks.old tasks.new }
+{
+    let threads = tasks.len().max(1);
+    for_each_mut(
+        rt,
+        tasks,
+        threads,
+        &|_: usize, task: &mut T|
+            requires { T.IsReady task.old }
+            ensures { T.Does task.old task.new }
+        { task.perform() },
+    );
+}
+
+/// Does a task in this thread, and others at once beside it. Where no thread can be made, the
+/// others come behind it.
+pub fn perform_beside<R: Threads + Sync, T: Task + Send, H: Task>(
+    rt: &R,
+    others: &mut Vec<T>,
+    here: &mut H,
+)
+    requires others { All T.IsReady others.old.items }
+    requires here { H.IsReady here.old }
+    ensures others { AllZip T.Does others.old.items others.new.items }
+    ensures count { vec_len others.new ≡ vec_len others.old }
+    ensures here { H.Does here.old here.new }
+{
+    join_mut(
+        rt,
+        &mut ||
+            requires { All T.IsReady others.now.items }
+            ensures others { AllZip T.Does others.entry.now.items others.exit.now.items }
+            ensures count { vec_len others.exit.now ≡ vec_len others.entry.now }
+        { perform_all(rt, others.as_mut_slice()) },
+        &mut ||
+            requires { H.IsReady here.now }
+            ensures { H.Does here.entry.now here.exit.now }
+        { here.perform() },
+    );
+}
