@@ -1,11 +1,13 @@
 #!/usr/bin/env bash
-# Lists all forms of dictionaries of Debian's packages, English, Dutch, Spanish, French and Italian, by `forms` and by `unmunch` of hunspell-tools. Prints a row of a table
-# in Markdown for each dictionary: how many forms `forms` lists, its processor seconds and the most memory; the same of `unmunch`, whose
-# forms are counted once each; and how many forms each lists alone. All forms that `forms` lists are then put into a text, and `check` must
-# mark none. Of those that `unmunch` lists alone it prints which kinds they are, by what the program's `check` says of them, with the first
-# three of each in the order of the list: `marked`, which `check` marks as well; `inside`, which it accepts by other means than a derivation
-# that stands alone, as a number, a compound or in pieces. Packages are fetched and unpacked, not installed; `unmunch` is of hunspell-tools.
-# With a folder as its argument, packages are kept there.
+# Lists all forms of dictionaries of Debian's packages, English, Dutch, Spanish, French and Italian, by `forms` and by `unmunch` of
+# hunspell-tools. Prints a row of a table in Markdown for each dictionary: how many forms `forms` lists, its processor seconds and the
+# most memory; the same of `unmunch`, whose forms are counted once each; and how many forms each lists alone.
+# Below the table it says how many of the forms that `forms` lists `check` marks, with the first three of them; there should be none.
+# Of those that `unmunch` lists alone it says how many `check` marks too, and how many it accepts by other means than one derivation, as
+# a number, a compound or in pieces, with a sample of eight of each. Both counts are of forms that are one word of letters and
+# apostrophes; others, as one with a space or a dot, are passed over.
+# Packages are fetched and unpacked, not installed; `unmunch` is of hunspell-tools. With a folder as its argument, packages are kept
+# there. AFFEDIT names another program to run in place of the one built here.
 set -euo pipefail
 top=$(cd "$(dirname "$0")/.." && pwd)
 work=$(mktemp -d)
@@ -46,7 +48,7 @@ while read -r package name; do
     LC_ALL=C comm -23 ours theirs > first
     LC_ALL=C comm -13 ours theirs > second
     echo "| \`$name\` | $(wc -l < ours) | $seconds s | $memory MB | $(wc -l < theirs) | $other s | $more MB | $(LC_ALL=C comm -12 ours theirs | wc -l) | $(wc -l < first) | $(wc -l < second) |"
-    # A form that is cut into several words, as one with a space or a dot in it, is looked at in the text as a whole.
+    # A form with a space or a dot in it would be cut into several words of the text.
     grep -xE "[[:alpha:]]+(['’][[:alpha:]]+)*" ours > whole || true
     marked whole > wrong
     echo "$name: of $(wc -l < whole) forms that are one word in a text \`check\` marks $(wc -l < wrong)" >> kinds
