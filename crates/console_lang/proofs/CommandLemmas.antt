@@ -83,17 +83,18 @@ chosen true true n is few = refl
 chosen false short n is few = absurd (cc)
 chosen true false n is few = absurd (cc)
 
-number_is : (digits : List ℕ) (number : ℕ) → Writes digits number → number_of digits ≡ Some number
+pub number_is : (digits : List ℕ) (number : ℕ) → Writes digits number
+    → number_of digits ≡ Some number
 unfolding number_of
 number_is digits number writes =
     chosen (is_decimal digits) (nat_le (length digits) 9) (digits_value 10 digits) writes.decimal
     (le-leb _ _ writes.short) ∙ ap Some writes.value
 
-written_lacks : (digits : List ℕ) (number : ℕ) → Writes digits number → LacksSpace digits
+pub written_lacks : (digits : List ℕ) (number : ℕ) → Writes digits number → LacksSpace digits
 written_lacks digits number writes = digits_lack digits (digits_of digits writes.decimal)
 
 -- the words of a text behind a number
-tail_words : (digits text tail : List ℕ) → LacksSpace digits → IsTail text tail
+pub tail_words : (digits text tail : List ℕ) → LacksSpace digits → IsTail text tail
     → (words : List (List ℕ)) × (words_of (digits ++ tail) ≡ digits ∷ words)
     × (text_of words ≡ text)
 tail_words digits text tail lacks (inl spaced) = (
@@ -182,7 +183,8 @@ command_is Settle line is = ap command_of is
 command_is Quit line is = ap command_of is
 
 -- ---- from a command to its line
-writes_of : (digits : List ℕ) (number : ℕ) → number_of digits ≡ Some number → Writes digits number
+pub writes_of : (digits : List ℕ) (number : ℕ) → number_of digits ≡ Some number
+    → Writes digits number
 unfolding number_of
 writes_of digits number is =
     let parts =
@@ -191,15 +193,15 @@ writes_of digits number is =
     record { decimal = parts.0; short = leb-true _ _ parts.1; value = parts.2 }
 
 -- what stands behind a number for these words
-abbrev tail_of : List (List ℕ) → List ℕ
+abbrev pub tail_of : List (List ℕ) → List ℕ
 tail_of [] = []
 tail_of (word ∷ words) = 32 ∷ text_of (word ∷ words)
 
-tail_ends : (words : List (List ℕ)) → IsTail (text_of words) (tail_of words)
+pub tail_ends : (words : List (List ℕ)) → IsTail (text_of words) (tail_of words)
 tail_ends [] = inr (refl, refl)
 tail_ends (word ∷ words) = inl refl
 
-tail_behind : (digits : List ℕ) (words : List (List ℕ)) → text_of (digits ∷ words) ≡ digits
+pub tail_behind : (digits : List ℕ) (words : List (List ℕ)) → text_of (digits ∷ words) ≡ digits
     ++ tail_of words
 tail_behind digits [] = sym (append-nil digits)
 tail_behind digits (word ∷ words) = refl

@@ -2,4 +2,5 @@ pub mod Words
 pub mod Handed
 pub mod Commands
 pub mod CommandLines
+pub mod Scripts
 pub mod Replies

@@ -73,6 +73,46 @@ quit =>bad
 # x=>bad
 ";
 
+/// Lines of scripts, and what each is read as; a text stands in brackets.
+const SCRIPT_LINES: &str = "1 ins 1 some text=>1 [ins 1 some text]
+1 =>1 []
+1=>1 []
+16 quit=>16 [quit]
+9 xyz=>9 [xyz]
+10 xyz=>10 [xyz]
+04 x=>4 [x]
+01=>1 []
+4  x =>4 [ x ]
+4 \tx=>4 [\tx]
+4   =>4 [  ]
+2 größe=>2 [größe]
+0 x=>bad
+00 x=>bad
+17 x=>bad
+99 x=>bad
+016 x=>bad
+004 x=>bad
+016=>bad
+100 x=>bad
+4294967297 x=>bad
++4 x=>bad
++4=>bad
+-4 x=>bad
+ 4 x=>bad
+\t4 x=>bad
+4\tx=>bad
+4\t=>bad
+4x=>bad
+x 4=>bad
+٤ x=>bad
+# x=>bad
+=>blank
+ =>blank
+   =>blank
+\t=>blank
+\t \t=>blank
+";
+
 /// What all replies write, one after another.
 const REPLIES: &str = "ok 0
 dict 18446744073709551615
@@ -151,6 +191,28 @@ fn reads_what_is_wanted(rt: HostRuntime) -> Result<(), Fail> {
         rows = rows.wrapping_add(1);
     }
     assert_eq!(rt; rows, 59);
+    Ok(())
+}
+
+fn script_read_as(alloc: Global, line: &str) -> Result<String, AllocError> {
+    match script_line(line) {
+        ScriptLine::Blank => format!(in alloc; "blank"),
+        ScriptLine::Of { session, text } => format!(in alloc; "{session} [{text}]"),
+        ScriptLine::Bad => format!(in alloc; "bad"),
+    }
+}
+
+#[test]
+fn reads_scripts_as_is_wanted(rt: HostRuntime) -> Result<(), Fail> {
+    let alloc = rt.alloc();
+    let mut rows = 0u32;
+    for row in SCRIPT_LINES.lines() {
+        let (line, want) = row.split_once("=>").unwrap_or((row, ""));
+        let read = script_read_as(alloc, line)?;
+        assert_eq!(rt; read.as_str(), want, "{line}");
+        rows = rows.wrapping_add(1);
+    }
+    assert_eq!(rt; rows, 37);
     Ok(())
 }
 
