@@ -9,6 +9,7 @@ mod dictionaries;
 mod joints;
 mod listed_forms;
 mod pattern_tables;
+mod piped_lines;
 mod real_files;
 mod replacements;
 mod rule_places;
