@@ -1,7 +1,7 @@
 -- A console whose desk is closed.
 use Rattle.std.proofs.Common.{◌≡◌, ◌∙◌, refl, sym, ap, subst, ℕ, ◌+◌, ◌<◌, ◌≤◌, ◌==◌}
 use Rattle.std.proofs.Common.{Bool, true, false, not, ◌&&◌, cond, ◌⊎◌, inl, inr, List, [], ◌∷◌}
-use Rattle.std.proofs.Common.{◌++◌, length, map, Option, zero-add, length-append, arith}
+use Rattle.std.proofs.Common.{◌++◌, ◌*◌, ◌^◌, length, map, Option, zero-add, length-append, arith}
 use Rattle.std.specs.List.{All, AllByRecursion, Contains, range_with_len, sum_by}
 use Rattle.std.specs.List.Sorted.{IsPermutation}
 use Rattle.std.proofs.lemmas.Bool.{false≢true}
@@ -12,10 +12,12 @@ use Rattle.std.proofs.lemmas.List.Sums.{sum_by-cons}
 use Rattle.spell_types.specs.JointLaws.{nat-own}
 use Rattle.own_dictionary.specs.Dictionaries.{OwnSeen, in_force}
 use Rattle.edit_core.specs.Runs.{AreSteps, Entry, Run, asked_by, asked_of, entries_through}
-use Rattle.edit_core.specs.Runs.{is_quiet}
+use Rattle.edit_core.specs.Runs.{IsRun, is_quiet, last_board}
+use Rattle.edit_core.specs.declared.limits.TheConstants.{MOST_MOVED}
 use Rattle.edit_core.specs.Seen.{IsValidBoard, Seen, opening_of}
 use Rattle.board_share.specs.Endings.{HasEventsOf, IsTheirs}
 use Rattle.board_share.specs.Eyes.{EyeSeen, IsLater, entries_in, events_in, fresh_eye}
+use Rattle.board_share.specs.Eyes.{last_of}
 use Rattle.console_lang.specs.declared.command.Command.{Command}
 use Rattle.console_lang.specs.declared.reply.Reply.{Reply}
 use Rattle.console_board.specs.Boards.{own_console_of}
@@ -199,6 +201,46 @@ module _ {given : Given} {eyes : List EyeSeen} {eye : EyeSeen} {history : Run}
           → length front + n ≤ length all + n
       longer-front front back all n is =
           omega (arith, sym (ap length is) ∙ length-append front back)
+
+-- ---- the last point
+abbrev pub FrontsAreRuns : Type 0
+FrontsAreRuns = (opening : Seen) (front back : List Entry)
+    → IsRun (record { opening = opening; entries = front ++ back })
+    → IsRun (record { opening = opening; entries = front })
+
+abbrev pub RunsAreShort : Type 0
+RunsAreShort = (run : Run) → IsRun run
+    → (last_board run.opening run.entries).point ≤ 2 * length run.opening.paragraphs
+    + MOST_MOVED * asked_of run.entries
+
+-- what the console's eye knows is a history with no more events that are not of workers than it
+-- counts
+pub not-spent : FrontsAreRuns → RunsAreShort
+    → ((front back : List Entry) → asked_of front ≤ asked_of (front ++ back))
+    → {given : Given} {eyes : List EyeSeen} {eye : EyeSeen} {history : Run}
+    → IsClosedOver given eyes eye history → history.opening.paragraphs ≡ []
+    → events_in eye.counts ≤ 2 ^ 33 → (last_of eye.run).point < 2 ^ 62
+not-spent fronts short grows {given} {eyes} {eye} {history} closed empty few =
+    let its = its-events closed in
+    let back : List Entry = its.begins.0 in
+    let whole_is : eye.run.entries ++ back ≡ history.entries = its.begins.1 in
+    let known : IsRun eye.run =
+    subst (λ (opening : Seen). IsRun (record { opening = opening; entries = eye.run.entries }))
+    (sym its.opening)
+    (fronts history.opening eye.run.entries back
+    (subst (λ (list : List Entry). IsRun (record { opening = history.opening; entries = list }))
+    (sym whole_is) closed.theirs.run)) in
+    let none : length eye.run.opening.paragraphs ≡ 0 =
+    ap (λ (opening : Seen). length opening.paragraphs) its.opening ∙ ap length empty in
+    let asked : asked_of eye.run.entries ≤ events_in eye.counts =
+    subst (λ n. asked_of eye.run.entries ≤ n) (ap asked_of whole_is ∙ asked-all closed)
+    (grows eye.run.entries back) in
+    far (last_of eye.run).point (length eye.run.opening.paragraphs) (asked_of eye.run.entries)
+    (events_in eye.counts) (short eye.run known) none asked few
+  where
+    far : (point long asked counted : ℕ) → point ≤ 2 * long + 40001 * asked → long ≡ 0
+        → asked ≤ counted → counted ≤ 2 ^ 33 → point < 2 ^ 62
+    far point long asked counted short none less few = omega (arith, short, none, less, few)
 
 -- ---- the console
 -- the board that a console opens with

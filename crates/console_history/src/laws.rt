@@ -1,7 +1,7 @@
 //! What is true of every console that is told by the eye of a desk.
 
-ghost use Rattle.std.specs.Prelude.{◌≡◌, ◌+◌, ◌⊎◌, ◌≤◌, ℕ, List, [], ◌∷◌, ◌++◌, length, map, false};
-ghost use Rattle.std.specs.Prelude.{All, Contains, IsPermutation, Option};
+ghost use Rattle.std.specs.Prelude.{◌≡◌, ◌+◌, ◌^◌, ◌<◌, ◌⊎◌, ◌≤◌, ℕ, List, [], ◌∷◌, ◌++◌, length};
+ghost use Rattle.std.specs.Prelude.{map, false, All, Contains, IsPermutation, Option};
 ghost use Rattle.std.specs.List.{range_with_len};
 ghost use Rattle.outside.specs.Files.{Folder};
 ghost use Rattle.own_dictionary.specs.Dictionaries.{OwnSeen, in_force};
@@ -9,6 +9,7 @@ ghost use Rattle.edit_core.specs.Runs.{AreSteps, Entry, IsRun, Run, asked_of, is
 ghost use Rattle.edit_core.specs.Seen.{IsValidBoard, Seen, opening_of};
 ghost use Rattle.board_share.specs.Endings.{IsTheirs};
 ghost use Rattle.board_share.specs.Eyes.{EyeSeen, IsLater, entries_in, events_in, fresh_eye};
+ghost use Rattle.board_share.specs.Eyes.{last_of};
 ghost use Rattle.console_lang.specs.declared.command.Command.{Command};
 ghost use Rattle.console_lang.specs.declared.reply.Reply.{Reply};
 ghost use Rattle.console_board.specs.Boards.{own_console_of};
@@ -22,7 +23,10 @@ ghost use Rattle.check_workers.specs.Knowing.{CountsChecks};
 ghost use Rattle.edit_core.specs.Events.{SeenEvent};
 
 use console_board::commands_are_their_events;
-use edit_core::{ids_name_paragraphs, numbers_add_up, runs_go_on, workers_keep_texts};
+use edit_core::{
+    fronts_are_runs, ids_name_paragraphs, numbers_add_up, runs_are_short, runs_go_on,
+    workers_keep_texts,
+};
 
 /// Where all that the eye of a told console knows has no more events that are not of workers than
 /// the eye counts, and without workers no more events at all, the console's commands are followed
@@ -120,4 +124,36 @@ pub fn closed_consoles_are_followed()
     runs_go_on();
     numbers_add_up();
     followed_consoles_reply();
+}
+
+/// Whatever a console is told, its eye stays the one of that number, with that opening board.
+pub fn told_consoles_keep_their_eyes()
+    ensures { (folder : Option Folder) (session : ℕ) (first seat : Seat)
+        (commands : List (Option Command)) (replies : List Reply)
+        → Told folder session first commands replies seat
+        → (seat.eye.number ≡ first.eye.number)
+        × (seat.eye.run.opening ≡ first.eye.run.opening) }
+{
+    workers_keep_texts();
+    runs_go_on();
+    numbers_add_up();
+}
+
+/// Once a desk is closed that opened without a text, and of whose eyes only the console's has events
+/// that are not of workers, few enough of these leave the history before the last point.
+pub fn closed_consoles_are_not_spent()
+    ensures { (given : Given) (eye : EyeSeen) (eyes : List EyeSeen) (history : Run)
+        → IsTheirs eyes history
+        → IsPermutation (range_with_len 0 (length eyes)) (map (λ other. other.number) eyes)
+        → length eyes ≡ given.workers + 1
+        → Contains eyes eye
+        → eye.number ≡ given.by
+        → All (λ (other : EyeSeen). (other.number ≡ given.by) ⊎ (events_in other.counts ≡ 0)) eyes
+        → history.opening.paragraphs ≡ []
+        → events_in eye.counts ≤ 2 ^ 33
+        → (last_of eye.run).point < 2 ^ 62 }
+{
+    fronts_are_runs();
+    runs_are_short();
+    numbers_add_up();
 }

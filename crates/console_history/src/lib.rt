@@ -4,6 +4,6 @@
 mod laws;
 
 pub use laws::{
-    closed_consoles_are_followed, followed_consoles_reply, told_commands_go_one_on,
-    told_consoles_are_followed,
+    closed_consoles_are_followed, closed_consoles_are_not_spent, followed_consoles_reply,
+    told_commands_go_one_on, told_consoles_are_followed, told_consoles_keep_their_eyes,
 };
