@@ -84,46 +84,37 @@ faults-load {told} {before} {after} {fault = fault} {reply = reply} due other is
 -- ---- `own`
 
 -- what a line adds does not depend on the words that extend the base
-same-added : (dictionary : OwnSeen) (text : List ℕ)
-    → added (in_force dictionary).affixes dictionary.own text
-    ≡ added dictionary.base.affixes dictionary.own text
+pub same-added : (dictionary : OwnSeen) (text : List ℕ) {lexicon : Lexicon} {own : List OwnItem}
+    → lexicon ≡ in_force dictionary → own ≡ dictionary.own
+    → added lexicon.affixes own text ≡ added dictionary.base.affixes dictionary.own text
 unfolding added extended
-same-added dictionary text = refl
+same-added dictionary text is also = λ i. added (is i).affixes (also i) text
 
-module _ (before : Seat) (text : List ℕ) {lexicon : Lexicon} {old : List OwnItem}
-    (is : lexicon ≡ in_force before.dictionary) (also : old ≡ before.dictionary.own) where
-  same-due : added lexicon.affixes old text
-      ≡ added before.dictionary.base.affixes before.dictionary.own text
-  same-due = (λ i. added (is i).affixes (also i) text) ∙ same-added before.dictionary text
+-- an item comes into force behind the others
+pub own-added : (before after : Seat) (text : List ℕ) (item : OwnItem) {made : OwnSeen}
+    (result : Result Reply Stop)
+    → added before.dictionary.base.affixes before.dictionary.own text ≡ Ok (Some item)
+    → made ≡ record before.dictionary { own = before.dictionary.own ++ item ∷ [] }
+    → IfOk result (IsReloadTold before.eye after)
+    → IfOk result (λ reply. after.dictionary ≡ made)
+    → IfOk result (IsOwnTold before text after)
+own-added before after text item result due made_is reloads same =
+    both result (λ reply reload is_made.
+    subst (λ due. IsItemTold before due after reply) (sym due) (is_made ∙ made_is, reload))
+    reloads same
 
-  -- an item comes into force behind the others
-  pub own-added : (new : List OwnItem) (after : Seat) {made : OwnSeen}
-      (result : Result Reply Stop) → IsAdded (added lexicon.affixes old text) old true new
-      → made ≡ record { base = before.dictionary.base; own = new }
-      → IfOk result (IsReloadTold before.eye after)
-      → IfOk result (λ reply. after.dictionary ≡ made)
-      → IfOk result (IsOwnTold before text after)
-  own-added new after result (item, due, new_is) made_is reloads same =
-      let behind = made_is
-      ∙ ap (λ own. record { base = before.dictionary.base; own = own })
-      (new_is ∙ ap (λ own. own ++ item ∷ []) also) in
-      both result (λ reply reload is_made.
-      subst (λ due. IsItemTold before due after reply) (sym due ∙ same-due)
-      (is_made ∙ behind, reload)) reloads same
+-- of a blank text a look tells the text's version
+pub own-blank : (before after : Seat) (text : List ℕ) {reply : Reply}
+    → added before.dictionary.base.affixes before.dictionary.own text ≡ Ok None
+    → after.dictionary ≡ before.dictionary → Looks before.eye after.eye
+    → reply ≡ Done (last_of after.eye.run).text_version
+    → IsOwnTold before text after reply
+own-blank before after text {reply} due stays looks told =
+    subst (λ due. IsItemTold before due after reply) (sym due) (stays, (looks, told))
 
-  -- of a blank text a look tells the text's version
-  pub own-blank : (new : List OwnItem) {reply : Reply} {after : Seat}
-      → IsAdded (added lexicon.affixes old text) old false new
-      → after.dictionary ≡ before.dictionary → Looks before.eye after.eye
-      → reply ≡ Done (last_of after.eye.run).text_version
-      → IsOwnTold before text after reply
-  own-blank new {reply} {after} is_added stays looks told =
-      subst (λ due. IsItemTold before due after reply) (sym is_added.0 ∙ same-due)
-      (stays, (looks, told))
-
-  -- a text that is refused is told why
-  pub own-refused : (why : OwnLineWhy) {reply : Reply} {after : Seat}
-      → IsRefused (added lexicon.affixes old text) (Why why)
-      → reply ≡ NoOwn why → after ≡ before → IsOwnTold before text after reply
-  own-refused why {reply} {after} refused told stays =
-      subst (λ due. IsItemTold before due after reply) (sym refused ∙ same-due) (stays, told)
+-- a text that is refused is told why
+pub own-refused : (before after : Seat) (text : List ℕ) (why : OwnLineWhy) {reply : Reply}
+    → IsRefused (added before.dictionary.base.affixes before.dictionary.own text) (Why why)
+    → reply ≡ NoOwn why → after ≡ before → IsOwnTold before text after reply
+own-refused before after text why {reply} refused told stays =
+    subst (λ due. IsItemTold before due after reply) (sym refused) (stays, told)

@@ -1,7 +1,6 @@
 //! What the commands of a console do that leave its dictionary.
 
 ghost use Rattle.std.specs.Prelude.{◌≡◌, ◌≤◌, IfErr, IfOk};
-ghost use Rattle.spell_types.specs.declared.Lexicon.{Lexicon};
 ghost use Rattle.edit_core.specs.Events.{event_of};
 ghost use Rattle.console_lang.specs.declared.reply.Reply.TheVariants.{Done};
 ghost use Rattle.board_share.specs.Eyes.{last_of};
@@ -18,11 +17,11 @@ use console_board::{asked_events_have_replies, event_for, show};
 use console_history::told_commands_go_one_on;
 use console_lang::{Command, Reply};
 use edit_core::Event;
+use mark_types::Judge;
 use std::alloc::Global;
 use std::sync::Wait;
-use word_verdict::Speller;
 
-impl<D: Naming, W: Wait + Drop, R: Wait> DeskConsole<'_, D, W, R> {
+impl<J: Judge + Drop, O: Drop, D: Naming, W: Wait + Drop, R: Wait> DeskConsole<'_, J, O, D, W, R> {
     /// `show`: what the board shows that is looked at.
     pub(crate) fn show(&mut self, alloc: Global) -> Result<Reply, Stop>
         ensures dictionary { self.new.dictionary ≡ self.old.dictionary }
@@ -72,12 +71,12 @@ impl<D: Naming, W: Wait + Drop, R: Wait> DeskConsole<'_, D, W, R> {
     }
 
     /// Publishes an event, and tells the text's version; or what it is turned down with.
-    fn publish(&mut self, alloc: Global, event: Event<Speller>) -> Result<Reply, Stop>
-        requires { IsAsked (event_of (λ (judge : Lexicon). judge) event) }
+    fn publish(&mut self, alloc: Global, event: Event<J>) -> Result<Reply, Stop>
+        requires { IsAsked (event_of J.lexicon event) }
         ensures dictionary { self.new.dictionary ≡ self.old.dictionary }
         ensures stopped { self.new.stopped ≡ self.old.stopped }
         ensures told { IfOk result
-            (IsEventTold (event_of (λ (judge : Lexicon). judge) event) self.old.eye self.new.eye) }
+            (IsEventTold (event_of J.lexicon event) self.old.eye self.new.eye) }
         ensures cut { IfErr result (IsCutOff self.old.eye self.new.eye) }
     {
         asked_events_have_replies();

@@ -7,20 +7,24 @@ ghost use Rattle.console_history.specs.Told.{IsLoadTold, IsOwnTold, IsReloadTold
 ghost use Rattle.desk_console.specs.Consoles.{IsCutOff};
 
 use crate::console::DeskConsole;
+use crate::dictionary::Dictionary;
 use crate::stop::{Stop, turned_down};
 use board_share::Naming;
 use console_board::fault_reply;
 use console_lang::Reply;
 use dictionary_swap::load_lexicon;
 use edit_core::Event;
-use lists::Copied;
+use mark_types::Judge;
 use outside::Files;
-use own_dictionary::OwnDictionary;
 use personal_words::OwnLineFault;
 use std::alloc::Global;
 use std::sync::{Arc, Wait};
 
-impl<D: Naming, W: Wait + Drop, R: Wait> DeskConsole<'_, D, W, R> {
+impl<J, O, D: Naming, W: Wait + Drop, R: Wait> DeskConsole<'_, J, O, D, W, R>
+where
+    J: Judge + Drop,
+    O: Dictionary<J> + Drop,
+{
     /// `load AFF DIC`: the dictionary of these two files is the base from here on, or what is wrong
     /// with them is told.
     pub(crate) fn load<F: Files>(
@@ -33,8 +37,8 @@ impl<D: Naming, W: Wait + Drop, R: Wait> DeskConsole<'_, D, W, R> {
         ensures stopped { self.new.stopped ≡ self.old.stopped }
         ensures told { IfOk result
             (IsLoadTold (F.told files.old) aff.now dic.now
-            (record { eye = self.old.eye; dictionary = self.old.dictionary })
-            (record { eye = self.new.eye; dictionary = self.new.dictionary })) }
+            (record { eye = self.old.eye; dictionary = O.seen self.old.dictionary })
+            (record { eye = self.new.eye; dictionary = O.seen self.new.dictionary })) }
         ensures cut { IfErr result (IsCutOff self.old.eye self.new.eye) }
         ensures failures { IfOk result
             (λ reply. F.faults files.old + failures_in (reply ∷ []) ≤ F.faults files.new) }
@@ -43,7 +47,7 @@ impl<D: Naming, W: Wait + Drop, R: Wait> DeskConsole<'_, D, W, R> {
     {
         match load_lexicon(alloc, files, aff, dic) {
             Ok(base) => {
-                let dictionary = self.dictionary.with_base(alloc, base)?;
+                let dictionary = self.dictionary.on_base(alloc, base)?;
                 self.put_in_force(alloc, dictionary)
             }
             Err(fault) => Ok(fault_reply(fault)?),
@@ -54,37 +58,32 @@ impl<D: Naming, W: Wait + Drop, R: Wait> DeskConsole<'_, D, W, R> {
     pub(crate) fn own(&mut self, alloc: Global, text: &str) -> Result<Reply, Stop>
         ensures stopped { self.new.stopped ≡ self.old.stopped }
         ensures told { IfOk result
-            (IsOwnTold (record { eye = self.old.eye; dictionary = self.old.dictionary }) text.now
-            (record { eye = self.new.eye; dictionary = self.new.dictionary })) }
+            (IsOwnTold (record { eye = self.old.eye; dictionary = O.seen self.old.dictionary }) text.now
+            (record { eye = self.new.eye; dictionary = O.seen self.new.dictionary })) }
         ensures cut { IfErr result (IsCutOff self.old.eye self.new.eye) }
         ensures files { IfOk result (λ reply. is_no_files reply ≡ false) }
     {
-        let mut own = self.dictionary.own().copy(alloc)?;
-        let affixes = &self.dictionary.speller().stems().lexicon().affixes;
-        match own.add(alloc, affixes, text) {
-            Ok(false) => Ok(Reply::Done {
+        match self.dictionary.with_item(alloc, text) {
+            Ok(None) => Ok(Reply::Done {
                 text: self.eye.progress().text,
             }),
-            Ok(true) => {
-                let dictionary = self.dictionary.with_own(alloc, own)?;
-                self.put_in_force(alloc, dictionary)
-            }
+            Ok(Some(dictionary)) => self.put_in_force(alloc, dictionary),
             Err(OwnLineFault::Why(why)) => Ok(Reply::NoOwn { why }),
             Err(OwnLineFault::NoMemory) => Err(Stop::Wanting),
         }
     }
 
     /// Brings a dictionary with personal words into force, and tells its version.
-    fn put_in_force(&mut self, alloc: Global, dictionary: OwnDictionary) -> Result<Reply, Stop>
+    fn put_in_force(&mut self, alloc: Global, dictionary: O) -> Result<Reply, Stop>
         ensures stopped { self.new.stopped ≡ self.old.stopped }
         ensures told { IfOk result
             (IsReloadTold self.old.eye
-            (record { eye = self.new.eye; dictionary = self.new.dictionary })) }
-        ensures dictionary { IfOk result (λ reply. self.new.dictionary ≡ dictionary) }
+            (record { eye = self.new.eye; dictionary = O.seen self.new.dictionary })) }
+        ensures dictionary { IfOk result (λ reply. O.seen self.new.dictionary ≡ O.seen dictionary) }
         ensures cut { IfErr result (IsCutOff self.old.eye self.new.eye) }
         ensures files { IfOk result (λ reply. is_no_files reply ≡ false) }
     {
-        let judge = Arc::try_clone(dictionary.speller())?;
+        let judge = Arc::try_clone(dictionary.judge())?;
         match self
             .desk
             .publish(self.rt, alloc, &mut self.eye, Event::Load { judge })

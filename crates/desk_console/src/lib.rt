@@ -5,8 +5,10 @@
 mod commands;
 mod console;
 mod dictionaries;
+mod dictionary;
 mod responding;
 mod stop;
 
 pub use console::{DeskConsole, SESSION};
+pub use dictionary::Dictionary;
 pub use stop::Stop;

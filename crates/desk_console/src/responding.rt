@@ -15,6 +15,7 @@ ghost use Rattle.desk_console.specs.Consoles.{most_asked};
 ghost use Rattle.desk_console.specs.Starts.{told-none};
 
 use crate::console::{DeskConsole, SESSION};
+use crate::dictionary::Dictionary;
 use crate::stop::Stop;
 use board_share::Naming;
 use console_board::commands_have_whole_texts;
@@ -22,19 +23,25 @@ use console_history::{told_commands_go_one_on, told_consoles_are_followed};
 use console_lang::{Command, CommandFault, Reply, read_command, write_reply};
 use input_lines::{Flow, Responder};
 use lists::NoMemory;
+use mark_types::Judge;
 use outside::Files;
 use std::alloc::Global;
 use std::sync::Wait;
 
-impl<F: Files, D: Naming, W: Wait + Drop, R: Wait> Responder<F> for DeskConsole<'_, D, W, R> {
+impl<F: Files, J, O, D: Naming, W: Wait + Drop, R: Wait> Responder<F>
+    for DeskConsole<'_, J, O, D, W, R>
+where
+    J: Judge + Drop,
+    O: Dictionary<J> + Drop,
+{
     ghost quits = { is_quit };
 
     ghost room = { λ console. lines_left console.eye };
 
     ghost Leads = { λ first beside_first lines said now beside.
         HasTold (F.told beside_first) (F.told beside) (F.faults beside_first) (F.faults beside)
-        first.stopped (record { eye = first.eye; dictionary = first.dictionary })
-        (record { eye = now.eye; dictionary = now.dictionary }) now.stopped lines said };
+        first.stopped (record { eye = first.eye; dictionary = O.seen first.dictionary })
+        (record { eye = now.eye; dictionary = O.seen now.dictionary }) now.stopped lines said };
 
     fn answer(
         &mut self,
@@ -67,10 +74,14 @@ impl<F: Files, D: Naming, W: Wait + Drop, R: Wait> Responder<F> for DeskConsole<
     }
 
     ghost starts = { λ first beside. told-none (F.told beside) (F.faults beside) first.stopped
-        (record { eye = first.eye; dictionary = first.dictionary }) };
+        (record { eye = first.eye; dictionary = O.seen first.dictionary }) };
 }
 
-impl<D: Naming, W: Wait + Drop, R: Wait> DeskConsole<'_, D, W, R> {
+impl<J, O, D: Naming, W: Wait + Drop, R: Wait> DeskConsole<'_, J, O, D, W, R>
+where
+    J: Judge + Drop,
+    O: Dictionary<J> + Drop,
+{
     /// Does what a command asks for and adds its reply to the others; or it is stopped. `quit` is
     /// no command for it.
     fn reply<F: Files>(
@@ -85,8 +96,8 @@ impl<D: Naming, W: Wait + Drop, R: Wait> DeskConsole<'_, D, W, R> {
         requires going { self.old.stopped ≡ None }
         ensures replied { OnOk result
             (IsReplied (F.told files.old) (F.faults files.old) (F.faults files.new)
-            (record { eye = self.old.eye; dictionary = self.old.dictionary })
-            (record { eye = self.new.eye; dictionary = self.new.dictionary })
+            (record { eye = self.old.eye; dictionary = O.seen self.old.dictionary })
+            (record { eye = self.new.eye; dictionary = O.seen self.new.dictionary })
             command (string_bytes replies.old) (string_bytes replies.new)) }
         ensures going { OnOk result (self.new.stopped ≡ None) }
         ensures stopped { OnErr result (IsStopped self.old.eye self.new.eye self.new.stopped) }
@@ -115,8 +126,8 @@ impl<D: Naming, W: Wait + Drop, R: Wait> DeskConsole<'_, D, W, R> {
         requires whole { HasWholeText command }
         ensures replied { OnOk result
             (IsReplied (F.told files.old) (F.faults files.old) (F.faults files.new)
-            (record { eye = self.old.eye; dictionary = self.old.dictionary })
-            (record { eye = self.new.eye; dictionary = self.new.dictionary })
+            (record { eye = self.old.eye; dictionary = O.seen self.old.dictionary })
+            (record { eye = self.new.eye; dictionary = O.seen self.new.dictionary })
             command (string_bytes replies.old) (string_bytes replies.new)) }
         ensures kept { self.new.stopped ≡ self.old.stopped }
         ensures cut { IfErr result (IsCutOff self.old.eye self.new.eye) }
@@ -142,8 +153,8 @@ impl<D: Naming, W: Wait + Drop, R: Wait> DeskConsole<'_, D, W, R> {
         requires whole { HasWholeText command }
         ensures told { IfOk result
             (IsToldTo (F.told files.old) SESSION
-            (record { eye = self.old.eye; dictionary = self.old.dictionary }) command
-            (record { eye = self.new.eye; dictionary = self.new.dictionary })) }
+            (record { eye = self.old.eye; dictionary = O.seen self.old.dictionary }) command
+            (record { eye = self.new.eye; dictionary = O.seen self.new.dictionary })) }
         ensures kept { self.new.stopped ≡ self.old.stopped }
         ensures cut { IfErr result (IsCutOff self.old.eye self.new.eye) }
         ensures failures { IfOk result

@@ -8,8 +8,8 @@ returns-in_ok-dictionary-in-Ok-clause-told g c =
     let due = c.in-Ok.ensures in
     let old = c.args.self.now in
     let new = c.put_in_force.new.self in
-    loads-read (record { eye = old.eye; dictionary = old.dictionary })
-    (record { eye = new.eye; dictionary = new.dictionary }) c.put_in_force.result
+    loads-read (record { eye = old.eye; dictionary = g.O.Dictionary.seen old.dictionary })
+    (record { eye = new.eye; dictionary = g.O.Dictionary.seen new.dictionary }) c.put_in_force.result
     (record { found = due.found; told_is = due.told })
     c.in_ok-dictionary-in-Ok.ensures c.put_in_force.ensures.told
     c.put_in_force.ensures.dictionary
