@@ -1,0 +1,5 @@
+pub mod Readings
+pub mod Numbered
+pub mod Seats
+pub mod Nothing
+pub mod Closings

@@ -1,0 +1,3 @@
+pub mod Dialogues
+pub mod Talks
+pub mod Endings
