@@ -1,6 +1,7 @@
 -- How a dialogue ends, by how its reading has ended.
 use Rattle.std.proofs.Common.{◌≡◌, ◌∙◌, ◌⊎◌, ⊎_elim, inl, inr, ℕ, ◌<◌, ◌≤◌, Bool, true, List, []}
-use Rattle.std.proofs.Common.{Option, Some, None, Ok, Err, refl, sym, ap, subst, arith}
+use Rattle.std.proofs.Common.{Option, Some, None, IfSome, is_some, Ok, Err, refl, sym, ap, subst}
+use Rattle.std.proofs.Common.{◌==◌, false, arith}
 use Rattle.std.specs.List.{AllByRecursion}
 use Rattle.lists.specs.Answers.{FailsAs}
 use Rattle.text_lines.specs.Lines.{line_texts}
@@ -14,15 +15,18 @@ use Rattle.input_lines.specs.Laws.{ended-weaker}
 use Rattle.input_lines.specs.Lines.{IsBounded, IsShort, before_quit}
 use Rattle.input_lines.specs.declared.reading_end.ReadingEnd.{ReadingEnd}
 use Rattle.input_lines.specs.declared.reading_end.ReadingEnd.TheVariants as reading
-use Rattle.console_board.specs.OwnConsoles.{OwnConsole, own_opened}
-use Rattle.console_board.specs.Transcripts.{Answers, IsRepliedTo, asked_by, is_quit}
+use Rattle.edit_core.specs.Runs.{Run}
+use Rattle.console_board.specs.Transcripts.{IsTranscript, asked_by, is_quit}
+use Rattle.console_history.specs.Followed.{IsConsoleHistory}
+use Rattle.desk_console.specs.declared.console.TheConstants.{SESSION}
+use Rattle.desk_dialogue.specs.Dialogues.{AreReplied, IsClosedAt}
 use Rattle.command_line.specs.Due.{IsOwnThere, MayCome, OwnFiles, dictionary_due, own_found_in}
-use Rattle.command_line.specs.Ends.{Cut, EndsAs, IsEndPut}
+use Rattle.command_line.specs.Ends.{Cut, EndsAs, IsEndPut, is_quiet}
 use Rattle.command_line.specs.Failures.{last_line}
-use Rattle.command_line.specs.Forms.{AllReplied, AreReplied, FilesFailedFirst, HasReplied}
+use Rattle.command_line.specs.Forms.{AllReplied, FilesFailedFirst, HasReplied, IsClosedAfter}
 use Rattle.command_line.specs.Forms.{IsAnswerTo, IsCaused, IsDialogue, IsEdited, IsFit, IsUntouched}
 use Rattle.command_line.specs.Forms.{IsWholeDialogue, Met, NoneReplied, NotOpened, Opened}
-use Rattle.command_line.specs.Forms.{SomeReplied, WantingFirst, end_of, form_of}
+use Rattle.command_line.specs.Forms.{SomeReplied, WantingFirst, end_of, form_of, setting_of}
 use Rattle.command_line.specs.Operands.{DictionaryNamed}
 use Rattle.command_line.specs.declared.ending.End.{End}
 use Rattle.command_line.specs.declared.ending.End.TheVariants.{Quiet, Failed}
@@ -34,39 +38,49 @@ use Rattle.command_line.proofs.EndLemmas.{ends-behind, goes-on}
 
 -- ---- what a console has replied
 
--- from a console that opened with a dictionary
-pub replied-so : {met : Met} {dictionary : OwnSeen} {told told_now : Option Folder}
-    {failed failed_now : ℕ} {before after : OwnConsole} {lines : List (List ℕ)} {said : List ℕ}
-    → before ≡ own_opened dictionary.base dictionary.own → met.folder ≡ told → met.files_before ≤ failed
-    → failed_now ≡ met.files_after
-    → IsRepliedTo told told_now failed failed_now before after lines said
-    → AreReplied met dictionary lines said
-replied-so {dictionary = dictionary} {told = told} {after = after} {lines = lines} opens folder sooner
-    later is = record {
-      replies = is.replies;
-      said_is = is.text_is;
-      transcript = record {
-        last = after;
-        answers = subst
-            (λ folder. Answers 0 folder (own_opened dictionary.base dictionary.own) (asked_by lines)
-            is.replies after)
-            (sym folder)
-            (subst (λ console. Answers 0 told console (asked_by lines) is.replies after) opens
-            is.answers);
-      };
-      failures = omega (arith, is.failures, sooner, later);
-    }
+-- the files may have failed before, which is told of the whole call
+pub replied-so : {workers : ℕ} {dictionary : OwnSeen} {folder told : Option Folder}
+    {before failed after : ℕ} {closed : Option Run} {lines : List (List ℕ)} {said : List ℕ}
+    → folder ≡ told → before ≤ failed
+    → AreReplied (record {
+      workers = workers;
+      dictionary = dictionary;
+      folder = told;
+      failed = failed;
+      failed_now = after;
+    }) closed lines said
+    → AreReplied (record {
+      workers = workers;
+      dictionary = dictionary;
+      folder = folder;
+      failed = before;
+      failed_now = after;
+    }) closed lines said
+replied-so {workers} {dictionary} {closed = closed} {lines = lines} same sooner is = record {
+  replies = is.replies;
+  said_is = is.said_is;
+  transcript = subst
+      (λ folder. IsTranscript workers folder dictionary.base dictionary.own lines is.replies)
+      (sym same) is.transcript;
+  history = subst
+      (λ folder. IfSome closed (IsConsoleHistory
+      (record { workers = workers; folder = folder; by = workers; session = SESSION }) dictionary
+      (asked_by lines) is.replies))
+      (sym same) is.history;
+  failures = omega (arith, is.failures, sooner);
+}
 
 -- ---- how a dialogue ends
 
 -- where its reading has ended, and the sink did not fail
-pub dialogue-ends : {met : Met} {dictionary : OwnSeen} {put_failed whole_failed : Type 0} {end : End}
+pub dialogue-ends : {met : Met} {workers : ℕ} {dictionary : OwnSeen} {put_failed whole_failed : Type 0} {end : End}
     {before middle now : Option (List ℕ)} {status : ℕ}
-    (sink_failed : Type 0) (ended : ReadingEnd) (said : List ℕ) → HasReplied met dictionary ended said
+    (sink_failed : Type 0) (ended : ReadingEnd) (said : List ℕ)
+    → HasReplied met workers dictionary ended said
     → IsWritten ended sink_failed before middle said
     → end_of ended ≡ Some end → (put_failed → whole_failed)
     → IsEndPut end put_failed middle now status
-    → EndsAs (IsDialogue met dictionary) whole_failed before now status
+    → EndsAs (IsDialogue met workers dictionary) whole_failed before now status
 dialogue-ends {end = end} {before = before} {middle = middle} sink_failed ended said is written told
     fails put =
     ends-behind said fails (by ended written told)
@@ -78,10 +92,11 @@ dialogue-ends {end = end} {before = before} {middle = middle} sink_failed ended 
     by _ written told = written
 
 -- where it did
-pub dialogue-cut : {met : Met} {dictionary : OwnSeen} {before now : Option (List ℕ)}
+pub dialogue-cut : {met : Met} {workers : ℕ} {dictionary : OwnSeen} {before now : Option (List ℕ)}
     (sink_failed : Type 0) (ended : ReadingEnd) (said : List ℕ)
-    → HasReplied met dictionary ended said → IsWritten ended sink_failed before now said
-    → end_of ended ≡ None → EndsAs (IsDialogue met dictionary) sink_failed before now 6
+    → HasReplied met workers dictionary ended said
+    → IsWritten ended sink_failed before now said
+    → end_of ended ≡ None → EndsAs (IsDialogue met workers dictionary) sink_failed before now 6
 dialogue-cut {before = before} {now = now} sink_failed reading.SinkFailed said is written told =
     record {
       text = said;
@@ -93,13 +108,38 @@ dialogue-cut {before = before} {now = now} sink_failed reading.SinkFailed said i
     }
 dialogue-cut sink_failed _ said is written told = absurd (cc)
 
+-- ---- what is told of the history
+
+-- by how the call ends; where the sink failed, there is no end to tell
+abbrev tells : Option End → Bool
+tells None = false
+tells (Some end) = is_quiet end
+
+ends-after : (closed : Option Run) (ended : ReadingEnd) → IsClosedAt ended closed
+    → is_some closed ≡ tells (end_of ended)
+ends-after closed reading.Finished at = at
+ends-after closed reading.Interrupted at = ap is_some at
+ends-after closed reading.TooMuch at = ap is_some at
+ends-after closed reading.LongLine at = ap is_some at
+ends-after closed reading.NoMemory at = ap is_some at
+ends-after closed reading.SinkFailed at = ap is_some at
+
+pub closed-after : (closed : Option Run) {end : End} (status : ℕ) (ended : ReadingEnd)
+    → IsClosedAt ended closed → end_of ended ≡ Some end → (status == 0) ≡ is_quiet end
+    → IsClosedAfter true status closed
+closed-after closed status ended at told zero = ends-after closed ended at ∙ ap tells told ∙ sym zero
+
+pub none-after : (closed : Option Run) (ended : ReadingEnd)
+    → IsClosedAt ended closed → end_of ended ≡ None → IsClosedAfter true 6 closed
+none-after closed ended at told = ends-after closed ended at ∙ ap tells told
+
 -- ---- the words of `edit`
 
 -- the console opened
 pub dialogue-answers : {met : Met} {names : DictionaryNamed} {workers : ℕ} {dictionary : OwnSeen}
     {text : List ℕ} {end : End}
     → (there : OwnFiles) × IsOwnThere met.folder names there
-    × (dictionary_due there ≡ Ok dictionary) → IsDialogue met dictionary text end
+    × (dictionary_due there ≡ Ok dictionary) → IsDialogue met workers dictionary text end
     → IsAnswerTo (Some (Edit names workers)) met text end
 dialogue-answers {met} {names} {workers} {dictionary} {text} {end} (there, is, due) dialogue = record {
   answer = Opened there dictionary is due dialogue;
@@ -108,7 +148,7 @@ dialogue-answers {met} {names} {workers} {dictionary} {text} {end} (there, is, d
   files = tt;
 }
   where
-    by : (ended : ReadingEnd) → end_of ended ≡ Some end → HasReplied met dictionary ended text
+    by : (ended : ReadingEnd) → end_of ended ≡ Some end → HasReplied met workers dictionary ended text
         → IsCaused (Some (Edit names workers)) met text end
     by reading.Interrupted is ended = goes-on (cc) (λ input. ended.failed)
     by reading.SinkFailed is ended = absurd (cc)
@@ -124,10 +164,10 @@ not-opened {met} {names} {workers} {failure} (there, is, fails) rose untouched =
     let told = failure-told (dictionary-told there) fails in
     record { answer = by fails; caused = failure-caused told rose; input = tt; files = tt }
   where
-    by : FailsAs MayCome (dictionary_due there) failure → IsEdited met names [] (Failed failure)
+    by : FailsAs MayCome (dictionary_due there) failure → IsEdited met names workers [] (Failed failure)
     by (inl comes) =
         ⊎_elim (λ failed. FilesFailedFirst (ap Failed failed) untouched)
-        (λ wanting. WantingFirst (ap Failed wanting) refl) (comes-as failure comes)
+        (λ wanting. WantingFirst (ap Failed wanting) refl untouched) (comes-as failure comes)
     by (inr due) = NotOpened there failure is due refl refl untouched
 
 -- ---- where nothing fails and no limit is passed
@@ -153,7 +193,7 @@ not-opened-whole workers {met} {names} {failure} (there, is, fails) rose untouch
     by : (dictionary : OwnSeen) → IsFit met names dictionary
         → ¬ ((met.files_before < met.files_after) × IsUntouched met.reading)
         → FailsAs MayCome (dictionary_due there) failure
-        → IsWholeDialogue met dictionary [] (Failed failure)
+        → IsWholeDialogue met workers dictionary [] (Failed failure)
     by dictionary fit first (inl comes) =
         ⊎_elim (λ failed. absurd (first (rose failed, untouched)))
         (λ wanting. NoneReplied (ap Failed wanting) refl) (comes-as failure comes)
@@ -176,28 +216,28 @@ pub dialogue-whole : (workers : ℕ) {met : Met} {names : DictionaryNamed} {dict
     {text : List ℕ} {end : End} → AreRead
     → ((line : List ℕ) → is_quit line ≡ true → IsShort line)
     → (there : OwnFiles) × IsOwnThere met.folder names there
-    × (dictionary_due there ≡ Ok dictionary) → IsDialogue met dictionary text end
+    × (dictionary_due there ≡ Ok dictionary) → IsDialogue met workers dictionary text end
     → (form_of (Some (Edit names workers))).whole met text end
 dialogue-whole workers {met} {names} {dictionary} {text} {end} read quits_short (there, is, due)
     dialogue =
     λ other fit first reads.
     let also : dictionary_due there ≡ Ok other = fit-due there fit is in
     let same : dictionary ≡ other = cc in
-    subst (λ dictionary. IsWholeDialogue met dictionary text end) same
+    subst (λ dictionary. IsWholeDialogue met workers dictionary text end) same
     (by dialogue.ended dialogue.end_is dialogue.is
     (read is_quit met.reading fit.input text dialogue.ended
-    (ended-weaker is_quit (AreReplied met dictionary) (λ lines answers. Unit {0}) met.reading
+    (ended-weaker is_quit (AreReplied (setting_of met workers dictionary) met.closed) (λ lines answers. Unit {0}) met.reading
     dialogue.ended text (λ lines said is. tt) dialogue.is)
     fit.input_is fit.bounded quits_short fit.short reads))
   where
-    by : (ended : ReadingEnd) → end_of ended ≡ Some end → HasReplied met dictionary ended text
+    by : (ended : ReadingEnd) → end_of ended ≡ Some end → HasReplied met workers dictionary ended text
         → (ended ≡ reading.Finished) ⊎ ((ended ≡ reading.NoMemory) ⊎ (ended ≡ reading.SinkFailed))
-        → IsWholeDialogue met dictionary text end
+        → IsWholeDialogue met workers dictionary text end
     by ended told is (inl finished) =
         let quiet : Some end ≡ Some Quiet = sym told ∙ ap end_of finished in
-        AllReplied (cc) (subst (λ ended. HasReplied met dictionary ended text) finished is)
+        AllReplied (cc) (subst (λ ended. HasReplied met workers dictionary ended text) finished is)
     by ended told is (inr (inl wanting)) =
         let memory : Some end ≡ Some (Failed NoMemory) = sym told ∙ ap end_of wanting in
-        SomeReplied (cc) (subst (λ ended. HasReplied met dictionary ended text) wanting is)
+        SomeReplied (cc) (subst (λ ended. HasReplied met workers dictionary ended text) wanting is)
     by ended told is (inr (inr cut)) =
         let never : Some end ≡ None = sym told ∙ ap end_of cut in absurd (cc)

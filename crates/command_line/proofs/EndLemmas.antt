@@ -1,15 +1,19 @@
 -- What a status and a text tell of how a call ended.
-use Rattle.std.proofs.Common.{◌≡◌, ◌∙◌, ◌⊎◌, inl, inr, ℕ, zero, suc, ◌<◌, true, false, List, []}
+use Rattle.std.proofs.Common.{◌≡◌, ◌∙◌, ◌⊎◌, inl, inr, ℕ, zero, suc, ◌<◌, ◌==◌, true, false, List}
+use Rattle.std.proofs.Common.{[]}
 use Rattle.std.proofs.Common.{◌++◌, Option, None, Result, refl, sym, ap, subst, arith}
 use Rattle.outside.specs.Laws.{appends-front, appends-more}
 use Rattle.outside.specs.Sink.{Appends}
 use Rattle.dictionary_swap.specs.declared.fault.LoadFault.TheVariants.{Failed as FailedLoad}
-use Rattle.dictionary_swap.specs.declared.fault.LoadFault.TheVariants.{Missing}
+use Rattle.dictionary_swap.specs.declared.fault.LoadFault.TheVariants.{Aff, Dic, Missing, TooLong}
+use Rattle.dictionary_swap.specs.declared.fault.LoadFault.TheVariants.{NoMemory as LoadWanting}
+use Rattle.document_report.specs.declared.fault.DocumentFault.TheVariants.{LongParagraph, NotUtf8}
+use Rattle.document_report.specs.declared.fault.DocumentFault.TheVariants.{TooManyParagraphs}
 use Rattle.document_report.specs.declared.fault.DocumentFault.TheVariants.{NoMemory as ReportWanting}
 use Rattle.document_report.specs.declared.printing.Report.{Report}
 use Rattle.command_line.specs.Ends.{EndsAs, IsEndPut, IsOrWanting, IsPut, Whole, Cut, sink_status}
 use Rattle.command_line.specs.Ends.{status_at, tail_of}
-use Rattle.command_line.specs.Failures.{last_line}
+use Rattle.command_line.specs.Failures.{last_line, status_of}
 use Rattle.command_line.specs.Forms.{IsAnswerTo, IsCaused, Met, is_alone}
 use Rattle.command_line.specs.Given.{end_by, text_by}
 use Rattle.command_line.specs.declared.requests.Request.{Request}
@@ -17,6 +21,7 @@ use Rattle.command_line.specs.declared.ending.End.{End}
 use Rattle.command_line.specs.declared.ending.End.TheVariants.{Failed}
 use Rattle.command_line.specs.declared.failure.Failure.{Failure}
 use Rattle.command_line.specs.declared.failure.Failure.TheVariants.{Words, Load, Document, Input}
+use Rattle.command_line.specs.declared.failure.Failure.TheVariants.{Limit, ManyForms, NoMemory, Own}
 
 -- ---- what is put
 
@@ -103,6 +108,34 @@ goes-on {end = end} more input = record {
   where
     other : {A : Type 0} → is_alone end ≡ true → A
     other is = let never : true ≡ false = sym is ∙ more in absurd (cc)
+
+-- ---- the status 0
+
+-- no failure has it
+pub failure-nonzero : (failure : Failure) → (status_of failure == 0) ≡ false
+failure-nonzero Words = refl
+failure-nonzero (Load (Aff line why)) = refl
+failure-nonzero (Load (Dic line why)) = refl
+failure-nonzero (Load FailedLoad) = refl
+failure-nonzero (Load Missing) = refl
+failure-nonzero (Load (TooLong limit)) = refl
+failure-nonzero (Load LoadWanting) = refl
+failure-nonzero (Own line why) = refl
+failure-nonzero (Document (NotUtf8 line)) = refl
+failure-nonzero (Document (TooManyParagraphs limit)) = refl
+failure-nonzero (Document (LongParagraph limit)) = refl
+failure-nonzero (Document ReportWanting) = refl
+failure-nonzero (ManyForms limit) = refl
+failure-nonzero Input = refl
+failure-nonzero (Limit limit) = refl
+failure-nonzero NoMemory = refl
+
+-- no text that is put by another status has it
+pub put-nonzero : {meant status : ℕ} {text : List ℕ} {sink_failed : Type 0}
+    {before now : Option (List ℕ)} → IsPut meant text sink_failed before now status
+    → (meant == 0) ≡ false → (status == 0) ≡ false
+put-nonzero (Whole is put) other = ap (λ n. n == 0) is ∙ other
+put-nonzero (Cut failed is put) other = ap (λ n. n == 0) is
 
 -- ---- the causes of statuses
 

@@ -1,5 +1,5 @@
 -- How a call may end: with which status, and what is written by then.
-use Rattle.std.specs.Prelude.{◌≡◌, ℕ, List, [], ◌++◌, Option, Some}
+use Rattle.std.specs.Prelude.{◌≡◌, ℕ, Bool, true, false, List, [], ◌++◌, Option, Some}
 use Rattle.lists.specs.Answers.{IsDueOr}
 use Rattle.outside.specs.Sink.{Appends, AppendsFront}
 use Rattle.command_line.specs.Failures.{last_line, status_of}
@@ -12,6 +12,11 @@ abbrev pub status_at : End → ℕ
 status_at Quiet = 0
 status_at Marked = 1
 status_at (Failed failure) = status_of failure
+
+-- whether all was done, and nothing is marked
+abbrev pub is_quiet : End → Bool
+is_quiet Quiet = true
+is_quiet _ = false
 
 -- the last line, if there is one
 abbrev pub tail_of : End → List ℕ

@@ -1,11 +1,12 @@
 -- What there is to say of each form of words: whether it names files, whether it reads the input,
 -- what it may be answered, and what is whole.
-use Rattle.std.specs.Prelude.{◌≡◌, ℕ, ◌+◌, ◌==◌, ◌<◌, ◌≤◌, Bool, true, false, List, [], ◌∷◌, ◌++◌}
-use Rattle.std.specs.Prelude.{Option, Some, None, Result, Ok, Err, if◌then◌else◌}
+use Rattle.std.specs.Prelude.{◌≡◌, ℕ, ◌==◌, ◌<◌, Bool, true, false, ◌&&◌, List, [], ◌∷◌, ◌++◌}
+use Rattle.std.specs.Prelude.{Option, Some, None, is_some, Result, Ok, Err, if◌then◌else◌}
 use Rattle.std.specs.Bool.{OnFalse}
 use Rattle.std.specs.List.{AllByRecursion}
 use Rattle.outside.specs.Files.{Folder}
 use Rattle.own_dictionary.specs.Dictionaries.{OwnSeen}
+use Rattle.edit_core.specs.Runs.{Run}
 use Rattle.text_lines.specs.Lines.{line_texts}
 use Rattle.dictionary_swap.specs.Loads.{DictionaryFiles}
 use Rattle.dictionary_swap.specs.declared.fault.LoadFault.TheVariants.{Failed as FailedLoad}
@@ -14,9 +15,8 @@ use Rattle.input_lines.specs.Ends.{HasEnded, Reading}
 use Rattle.input_lines.specs.Lines.{IsBounded, IsShort, before_quit}
 use Rattle.input_lines.specs.declared.reading_end.ReadingEnd.{ReadingEnd}
 use Rattle.input_lines.specs.declared.reading_end.ReadingEnd.TheVariants as reading
-use Rattle.console_lang.specs.declared.reply.Reply.{Reply}
-use Rattle.console_board.specs.Transcripts.{IsThere, IsTranscript, is_quit, written_of}
-use Rattle.console_board.specs.Transcripts.{failures_in}
+use Rattle.console_board.specs.Transcripts.{IsThere, is_quit}
+use Rattle.desk_dialogue.specs.Dialogues.{AreReplied, Setting}
 use Rattle.command_line.specs.Due.{Found, IsFound, IsOwnThere, OwnFiles, check_due, dictionary_due}
 use Rattle.command_line.specs.Due.{forms_due, make_due, own_found_in}
 use Rattle.command_line.specs.Failures.{is_fault}
@@ -32,12 +32,14 @@ use Rattle.command_line.specs.declared.failure.Failure.TheVariants.{ManyForms}
 use Rattle.input_lines.specs.declared.limits.TheConstants.{INPUT_LIMIT, LINE_LIMIT}
 
 -- What a call meets outside: what the folder tells, how often the files had failed before the call
--- and behind it, and what was read of the input.
+-- and behind it, and what was read of the input. With it stands what the call gives back beside its
+-- status: the history of the desk that it has closed, if it tells one.
 pub record Met : Type 0 where
   pub folder : Option Folder
   pub files_before : ℕ
   pub files_after : ℕ
   pub reading : Reading
+  pub closed : Option Run
 
 -- nothing was taken of the input
 pub record IsUntouched (reading : Reading) : Type 0 where
@@ -48,6 +50,8 @@ pub record IsUntouched (reading : Reading) : Type 0 where
 pub record Form : Type 1 where
   pub names_files : Bool
   pub reads_input : Bool
+  -- whether it opens a desk, whose history is told where the status is 0
+  pub opens_desk : Bool
   -- by what is met outside, this text may be written, and the call then ends so
   pub answers : Met → List ℕ → End → Type 0
   -- where nothing fails and no limit is passed, the text is whole, or memory was wanting
@@ -99,6 +103,7 @@ abbrev pub report_form : Bool → (Met → Result Printed Failure → Type 0) �
 report_form names_files may_be_due = record {
   names_files = names_files;
   reads_input = false;
+  opens_desk = false;
   answers = λ met text end. (due : Result Printed Failure) × may_be_due met due
       × IsReport due text end;
   whole = λ met text end. (printed : Printed)
@@ -108,19 +113,21 @@ report_form names_files may_be_due = record {
 
 -- ---- forms that begin a dialogue
 
--- these lines were replied to so, by a console that opens with a dictionary and its personal words,
--- and the files failed as often at least as was told
-pub record AreReplied (met : Met) (dictionary : OwnSeen) (lines : List (List ℕ)) (said : List ℕ) : Type
-    0 where
-  pub replies : List Reply
-  pub said_is : said ≡ written_of replies
-  pub transcript : IsTranscript 0 met.folder dictionary.base dictionary.own lines replies
-  pub failures : met.files_before + failures_in replies ≤ met.files_after
+-- a dialogue of a console that opens with a dictionary, beside so many workers
+abbrev pub setting_of : Met → ℕ → OwnSeen → Setting
+setting_of met workers dictionary = record {
+  workers = workers;
+  dictionary = dictionary;
+  folder = met.folder;
+  failed = met.files_before;
+  failed_now = met.files_after;
+}
 
 -- the reading of the input of a dialogue has ended so
-abbrev pub HasReplied : Met → OwnSeen → ReadingEnd → List ℕ → Type 0
-HasReplied met dictionary ended text =
-    HasEnded is_quit (AreReplied met dictionary) met.reading ended text
+abbrev pub HasReplied : Met → ℕ → OwnSeen → ReadingEnd → List ℕ → Type 0
+HasReplied met workers dictionary ended text =
+    HasEnded is_quit (AreReplied (setting_of met workers dictionary) met.closed) met.reading ended
+    text
 
 -- how a dialogue ends where its reading ends so; where the sink fails, nothing is told
 abbrev pub end_of : ReadingEnd → Option End
@@ -133,36 +140,40 @@ end_of reading.SinkFailed = None
 
 -- a console that has opened with a dictionary has replied so, and then the reading of the input
 -- ended
-pub record IsDialogue (met : Met) (dictionary : OwnSeen) (text : List ℕ) (end : End) : Type 0 where
+pub record IsDialogue (met : Met) (workers : ℕ) (dictionary : OwnSeen) (text : List ℕ)
+    (end : End) : Type 0 where
   pub ended : ReadingEnd
   pub end_is : end_of ended ≡ Some end
-  pub is : HasReplied met dictionary ended text
+  pub is : HasReplied met workers dictionary ended text
 
 -- how the words of `edit` may be answered: the console that opens has replied; or before that it is
 -- due that the dictionary is refused, the files failed, or memory was wanting
-pub data IsEdited (met : Met) (names : DictionaryNamed) (text : List ℕ) (end : End) : Type 0 where
+pub data IsEdited (met : Met) (names : DictionaryNamed) (workers : ℕ) (text : List ℕ) (end : End)
+    : Type 0 where
   Opened : (there : OwnFiles) (dictionary : OwnSeen)
       → IsOwnThere met.folder names there → dictionary_due there ≡ Ok dictionary
-      → IsDialogue met dictionary text end → IsEdited met names text end
+      → IsDialogue met workers dictionary text end → IsEdited met names workers text end
   NotOpened : (there : OwnFiles) (failure : Failure)
       → IsOwnThere met.folder names there → dictionary_due there ≡ Err failure
-      → end ≡ Failed failure → text ≡ [] → IsUntouched met.reading → IsEdited met names text end
+      → end ≡ Failed failure → text ≡ [] → IsUntouched met.reading
+      → IsEdited met names workers text end
   FilesFailedFirst : end ≡ Failed (Load FailedLoad) → IsUntouched met.reading
-      → IsEdited met names text end
-  WantingFirst : end ≡ Failed NoMemory → text ≡ [] → IsEdited met names text end
+      → IsEdited met names workers text end
+  WantingFirst : end ≡ Failed NoMemory → text ≡ [] → IsUntouched met.reading
+      → IsEdited met names workers text end
 
 -- the files failed before anything was taken of the input
 abbrev pub FailedFirst : Met → Type 0
 FailedFirst met = (met.files_before < met.files_after) × IsUntouched met.reading
 
 -- all lines were replied to, or memory was wanting
-pub data IsWholeDialogue (met : Met) (dictionary : OwnSeen) (text : List ℕ) (end : End) : Type
-    0 where
-  AllReplied : end ≡ Quiet → HasReplied met dictionary reading.Finished text
-      → IsWholeDialogue met dictionary text end
-  SomeReplied : end ≡ Failed NoMemory → HasReplied met dictionary reading.NoMemory text
-      → IsWholeDialogue met dictionary text end
-  NoneReplied : end ≡ Failed NoMemory → text ≡ [] → IsWholeDialogue met dictionary text end
+pub data IsWholeDialogue (met : Met) (workers : ℕ) (dictionary : OwnSeen) (text : List ℕ)
+    (end : End) : Type 0 where
+  AllReplied : end ≡ Quiet → HasReplied met workers dictionary reading.Finished text
+      → IsWholeDialogue met workers dictionary text end
+  SomeReplied : end ≡ Failed NoMemory → HasReplied met workers dictionary reading.NoMemory text
+      → IsWholeDialogue met workers dictionary text end
+  NoneReplied : end ≡ Failed NoMemory → text ≡ [] → IsWholeDialogue met workers dictionary text end
 
 -- the folder has the dictionary and the list that is named, and the input passes no limit
 pub record IsFit (met : Met) (names : DictionaryNamed) (dictionary : OwnSeen) : Type 0 where
@@ -181,6 +192,7 @@ abbrev pub form_of : Option Request → Form
 form_of None = record {
   names_files = false;
   reads_input = false;
+  opens_desk = false;
   answers = λ met text end. end ≡ Failed Words;
   whole = λ met text end. Unit {0};
 }
@@ -194,10 +206,11 @@ form_of (Some (Make asked)) = report_form false (λ met due. due ≡ make_due as
 form_of (Some (Edit names workers)) = record {
   names_files = true;
   reads_input = true;
-  answers = λ met text end. IsEdited met names text end;
+  opens_desk = true;
+  answers = λ met text end. IsEdited met names workers text end;
   whole = λ met text end. (dictionary : OwnSeen) → IsFit met names dictionary
       → ¬ (FailedFirst met) → met.reading.faults_after ≡ met.reading.faults_before
-      → IsWholeDialogue met dictionary text end;
+      → IsWholeDialogue met workers dictionary text end;
 }
 -- `forms AFF DIC`
 form_of (Some (Listing names)) =
@@ -208,6 +221,10 @@ form_of (Some (Listing names)) =
 -- what words ask for that do without an input
 abbrev pub without_input : Option Request → Option Request
 without_input asked = if (form_of asked).reads_input then None else asked
+
+-- the history of a desk is told exactly where the words open one and the status is 0
+abbrev pub IsClosedAfter : Bool → ℕ → Option Run → Type 0
+IsClosedAfter opens status closed = is_some closed ≡ (opens && (status == 0))
 
 -- where words, files or a document are refused, or a dictionary has too many forms to be listed,
 -- that is the only line

@@ -1,14 +1,14 @@
 -- What the words of a command line ask for: one form of words for each command, a name, its
 -- operands, and options behind them.
 use Rattle.std.specs.Prelude.{ℕ, nat_le, ◌&&◌, List, [], ◌∷◌, length, codes, Option}
-use Rattle.std.specs.Prelude.{Some, None, if◌then◌else◌, option_and_then}
+use Rattle.std.specs.Prelude.{Some, None, if◌then◌else◌}
 use Rattle.std.specs.Option.{option_map}
 use Rattle.std.specs.Str.{bytes_eq}
 use Rattle.text_lines.specs.Fields.{decimal_of}
 use Rattle.command_line.specs.Operands.{DictionaryNamed, Said, StartAndSize}
 use Rattle.command_line.specs.declared.requests.Request.{Request}
 use Rattle.command_line.specs.declared.requests.Request.TheVariants.{Check, Make, Edit, Listing}
-use Rattle.command_line.specs.declared.limits.TheConstants.{MOST_WORKERS, MOST_EDIT_WORKERS}
+use Rattle.command_line.specs.declared.limits.TheConstants.{MOST_WORKERS}
 
 -- ---- options
 
@@ -71,15 +71,10 @@ make_in (start ∷ size ∷ []) =
     option_map Make (of_numbers (decimal_of start) (decimal_of size))
 make_in _ = None
 
--- what options ask of `edit` with a dictionary, if they say no more workers than it takes
-abbrev pub edit_with : List ℕ → List ℕ → Said → Option Request
-edit_with aff dic said =
-    if nat_le said.workers MOST_EDIT_WORKERS then Some (Edit (named aff dic said) said.workers)
-    else None
-
 -- `edit AFF DIC` and options
 abbrev pub edit_in : List (List ℕ) → Option Request
-edit_in (aff ∷ dic ∷ options) = option_and_then (edit_with aff dic) (options_in options)
+edit_in (aff ∷ dic ∷ options) =
+    option_map (λ said. Edit (named aff dic said) said.workers) (options_in options)
 edit_in _ = None
 
 -- `forms AFF DIC`

@@ -1,17 +1,29 @@
 //! How a call ends, and the writing of it.
 
-ghost use Rattle.std.specs.Prelude.{◌≡◌, ◌<◌, ◌≤◌, ◌++◌, Ok};
+ghost use Rattle.std.specs.Prelude.{◌≡◌, ◌==◌, ◌<◌, ◌≤◌, ◌++◌, Ok, false};
 ghost use Rattle.std.specs.String.{string_bytes};
-ghost use Rattle.command_line.specs.Ends.{IsEndPut, IsOrWanting, IsPut, status_at, tail_of};
+ghost use Rattle.command_line.specs.Ends.{IsEndPut, IsOrWanting, IsPut, is_quiet, status_at, tail_of};
 ghost use Rattle.command_line.specs.Given.{end_by, text_by};
 
 use crate::failure::Failure;
+use board_share::Closed;
 use document_report::Report;
 use outside::Sink;
 use std::alloc::{AllocError, Global};
+use word_verdict::Speller;
 
 /// The exit status where the sink failed.
 pub const SINK_FAILED: u8 = 6;
+
+/// How a run of the program ended.
+#[derive(Drop)]
+pub struct Ended {
+    /// The exit status.
+    pub status: u8,
+    /// The history of the desk that the words opened. There is one exactly where they open one and the
+    /// status is 0.
+    pub closed: Option<Closed<Speller>>,
+}
 
 /// How a call ends.
 #[derive(Clone, Copy, Debug, PartialEq, Eq)]
@@ -42,6 +54,7 @@ impl End {
 pub fn put_end<K: Sink>(alloc: Global, out: &mut K, end: End) -> u8
     ensures puts { IsEndPut end (K.faults out.old < K.faults out.new) (K.written out.old)
         (K.written out.new) result }
+    ensures zero { (result == 0) ≡ is_quiet end }
     ensures count { K.faults out.old ≤ K.faults out.new }
 {
     match end {
@@ -53,6 +66,7 @@ pub fn put_end<K: Sink>(alloc: Global, out: &mut K, end: End) -> u8
 fn put_line<K: Sink>(alloc: Global, out: &mut K, failure: Failure) -> u8
     ensures puts { IsEndPut (End.Failed failure) (K.faults out.old < K.faults out.new)
         (K.written out.old) (K.written out.new) result }
+    ensures zero { (result == 0) ≡ false }
     ensures count { K.faults out.old ≤ K.faults out.new }
 {
     let mut line = String::new(alloc);

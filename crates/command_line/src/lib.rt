@@ -8,11 +8,10 @@ mod forms;
 mod limits;
 mod loading;
 mod names;
-mod no_input;
 mod options;
 mod requests;
 mod top_call;
 
-pub use ending::put_wanting;
-pub use limits::{DOCUMENT_LIMIT, MOST_EDIT_WORKERS, MOST_FORMS, MOST_WORKERS};
-pub use top_call::{Ended, run, run_check};
+pub use ending::{Ended, put_wanting};
+pub use limits::{DOCUMENT_LIMIT, MOST_FORMS, MOST_WORKERS};
+pub use top_call::{run, run_check};

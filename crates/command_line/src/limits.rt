@@ -8,6 +8,3 @@ pub const MOST_FORMS: u64 = 1_000_000;
 
 /// How many workers words may ask for.
 pub const MOST_WORKERS: u64 = 16;
-
-/// How many of them `edit` takes.
-pub const MOST_EDIT_WORKERS: u64 = 0;

@@ -2,7 +2,6 @@
 
 ghost use Rattle.std.specs.Prelude.{◌≡◌, map};
 ghost use Rattle.std.specs.String.{string_bytes};
-ghost use Rattle.command_line.specs.Forms.{without_input};
 ghost use Rattle.command_line.specs.Requests.{asked_in};
 
 use crate::forms::check::{CheckNames, check_of};
@@ -38,15 +37,5 @@ pub fn request_of(words: &[String]) -> Option<Request<'_>>
         "edit" => edit_of(operands),
         "forms" => listing_of(operands),
         _ => None,
-    }
-}
-
-/// What is asked for that does without an input.
-pub fn without_input(request: Option<Request<'_>>) -> Option<Request<'_>>
-    ensures { result ≡ without_input request.entry }
-{
-    match request {
-        Some(Request::Edit { .. }) => None,
-        other => other,
     }
 }

@@ -7,34 +7,27 @@ ghost use Rattle.outside.specs.Sink.{Appends};
 ghost use Rattle.input_lines.specs.Ends.{Reading};
 ghost use Rattle.command_line.specs.Ends.{EndsAs, sink_status};
 ghost use Rattle.command_line.specs.Failures.{last_line};
-ghost use Rattle.command_line.specs.Forms.{IsAnswerTo, IsUntouched, Met, form_of, without_input};
+ghost use Rattle.command_line.specs.Forms.{IsAnswerTo, IsClosedAfter, IsUntouched, Met, form_of};
+ghost use Rattle.command_line.specs.Forms.{without_input};
 ghost use Rattle.command_line.specs.Requests.{asked_in};
 ghost use Rattle.command_line.specs.declared.failure.Failure.TheVariants.{Load};
 ghost use Rattle.dictionary_swap.specs.declared.fault.LoadFault.TheVariants.{Missing};
 
-use crate::ending::{End, put_end};
+use crate::ending::{End, Ended, put_end};
 use crate::failure::Failure;
 use crate::forms::check::check;
 use crate::forms::edit::edit;
 use crate::forms::listing::list_forms;
 use crate::forms::make::make;
-use crate::no_input::NoInput;
-use crate::requests::{Request, request_of, without_input};
+use crate::requests::{Request, request_of};
+use desk_dialogue::Place;
 use outside::{Files, Gate, Sink, Source};
 use std::alloc::Global;
 use std::sync::Wait;
 use std::thread::Threads;
 
-/// How a run of the program ended.
-#[derive(Clone, Copy, Debug, PartialEq, Eq)]
-pub struct Ended {
-    /// The exit status.
-    pub status: u8,
-}
-
 /// Does what the words ask for, and tells how it ended. `words` are the arguments without the
-/// program's name; everything that is printed goes to `out`. The gate serves commands that are not
-/// built yet.
+/// program's name; everything that is printed goes to `out`. Each check of a worker passes the gate.
 pub fn run<R, F, S, K, G>(
     rt: &R,
     alloc: Global,
@@ -42,7 +35,7 @@ pub fn run<R, F, S, K, G>(
     files: &mut F,
     input: &mut S,
     out: &mut K,
-    _gate: &G,
+    gate: &G,
 ) -> Ended
 where
     R: Threads + Wait + Sync,
@@ -61,6 +54,7 @@ where
         faults_before = S.Source.faults input.old;
         faults_after = S.Source.faults input.new;
       };
+      closed = result.closed;
     })) (K.Sink.faults out.old < K.Sink.faults out.new) (K.written out.old) (K.written out.new)
         result.status }
 
@@ -77,7 +71,12 @@ where
             faults_before = S.Source.faults input.old;
             faults_after = S.Source.faults input.new;
           };
+          closed = result.closed;
         })) ⊥ (K.written out.old) (K.written out.new) result.status }
+
+    // The history of a desk is told exactly where the words open one and the status is 0.
+    ensures closed { IsClosedAfter (form_of (asked_in (map string_bytes words.now))).opens_desk
+        result.status result.closed }
 
     // What a reader may take from these alone, whatever is told.
     ensures no_form { result.status ≡ 2 → asked_in (map string_bytes words.now) ≡ None }
@@ -92,8 +91,77 @@ where
     ensures files_count { F.Files.faults files.old ≤ F.Files.faults files.new }
     ensures sink_count { K.Sink.faults out.old ≤ K.Sink.faults out.new }
 {
-    let status = answer(rt, alloc, request_of(words), files, input, out);
-    Ended { status }
+    let place = Place { rt, alloc, gate };
+    answer(&place, request_of(words), files, input, out)
+}
+
+/// Does what a request asks for, and answers 2 where words ask for nothing.
+fn answer<R, F, S, K, G>(
+    place: &Place<'_, R, G>,
+    request: Option<Request<'_>>,
+    files: &mut F,
+    input: &mut S,
+    out: &mut K,
+) -> Ended
+where
+    R: Threads + Wait + Sync,
+    F: Files,
+    S: Source,
+    K: Sink,
+    G: Gate + Sync,
+    ensures due { EndsAs (IsAnswerTo request.entry (record {
+      folder = F.told files.old;
+      files_before = F.Files.faults files.old;
+      files_after = F.Files.faults files.new;
+      reading = record {
+        before = S.left input.old;
+        after = S.left input.new;
+        faults_before = S.Source.faults input.old;
+        faults_after = S.Source.faults input.new;
+      };
+      closed = result.closed;
+    })) (K.Sink.faults out.old < K.Sink.faults out.new) (K.written out.old) (K.written out.new)
+        result.status }
+    ensures complete { K.Sink.faults out.new ≡ K.Sink.faults out.old
+        → EndsAs ((form_of request.entry).whole (record {
+          folder = F.told files.old;
+          files_before = F.Files.faults files.old;
+          files_after = F.Files.faults files.new;
+          reading = record {
+            before = S.left input.old;
+            after = S.left input.new;
+            faults_before = S.Source.faults input.old;
+            faults_after = S.Source.faults input.new;
+          };
+          closed = result.closed;
+        })) ⊥ (K.written out.old) (K.written out.new) result.status }
+    ensures closed { IsClosedAfter (form_of request.entry).opens_desk result.status result.closed }
+    ensures same { F.told files.new ≡ F.told files.old }
+    ensures input_count { S.Source.faults input.old ≤ S.Source.faults input.new }
+    ensures files_count { F.Files.faults files.old ≤ F.Files.faults files.new }
+    ensures sink_count { K.Sink.faults out.old ≤ K.Sink.faults out.new }
+{
+    let (rt, alloc) = (place.rt, place.alloc);
+    match request {
+        Some(Request::Check { names, workers }) => {
+            told(check(rt, alloc, names, workers, files, out))
+        }
+        Some(Request::Make(making)) => told(make(rt, alloc, making, out)),
+        Some(Request::Edit { names, workers }) => edit(place, names, workers, files, input, out),
+        Some(Request::Listing(names)) => told(list_forms(alloc, names, files, out)),
+        None => told(tell_words(alloc, out)),
+    }
+}
+
+/// The end of a call that opens no desk.
+fn told(status: u8) -> Ended
+    ensures status { result.status ≡ status }
+    ensures closed { result.closed ≡ None }
+{
+    Ended {
+        status,
+        closed: None,
+    }
 }
 
 /// Does all of `check`, `make` and `forms`, and answers 2 for other words. It always returns.
@@ -110,6 +178,7 @@ where
           files_before = F.faults files.old;
           files_after = F.faults files.new;
           reading = record { before = None; after = None; faults_before = 0; faults_after = 0 };
+          closed = None;
         })) (K.faults out.old < K.faults out.new) (K.written out.old) (K.written out.new) result }
 
     // If the sink does not fail, the answer is whole as the form of the words says.
@@ -119,6 +188,7 @@ where
           files_before = F.faults files.old;
           files_after = F.faults files.new;
           reading = record { before = None; after = None; faults_before = 0; faults_after = 0 };
+          closed = None;
         })) ⊥ (K.written out.old) (K.written out.new) result }
 
     // What a reader may take from these alone, whatever is told.
@@ -132,53 +202,44 @@ where
     ensures files_count { F.faults files.old ≤ F.faults files.new }
     ensures sink_count { K.faults out.old ≤ K.faults out.new }
 {
-    let request = without_input(request_of(words));
-    answer(rt, alloc, request, files, &mut NoInput, out)
+    answer_unread(rt, alloc, request_of(words), files, out)
 }
 
-/// Does what a request asks for, and answers 2 where words ask for nothing.
-fn answer<R: Threads + Sync, F: Files, S: Source, K: Sink>(
+/// Does what a request asks for that does without an input, and answers 2 to others, as where words
+/// ask for nothing.
+fn answer_unread<R: Threads + Sync, F: Files, K: Sink>(
     rt: &R,
     alloc: Global,
     request: Option<Request<'_>>,
     files: &mut F,
-    input: &mut S,
     out: &mut K,
 ) -> u8
-    ensures due { EndsAs (IsAnswerTo request.entry (record {
-      folder = F.told files.old;
-      files_before = F.Files.faults files.old;
-      files_after = F.Files.faults files.new;
-      reading = record {
-        before = S.left input.old;
-        after = S.left input.new;
-        faults_before = S.Source.faults input.old;
-        faults_after = S.Source.faults input.new;
-      };
-    })) (K.Sink.faults out.old < K.Sink.faults out.new) (K.written out.old) (K.written out.new)
-        result }
-    ensures complete { K.Sink.faults out.new ≡ K.Sink.faults out.old
-        → EndsAs ((form_of request.entry).whole (record {
+    // Whatever there is of an input, which stays untouched.
+    ensures due { (reading : Reading) → IsUntouched reading
+        → EndsAs (IsAnswerTo (without_input request.entry) (record {
           folder = F.told files.old;
-          files_before = F.Files.faults files.old;
-          files_after = F.Files.faults files.new;
-          reading = record {
-            before = S.left input.old;
-            after = S.left input.new;
-            faults_before = S.Source.faults input.old;
-            faults_after = S.Source.faults input.new;
-          };
+          files_before = F.faults files.old;
+          files_after = F.faults files.new;
+          reading = reading;
+          closed = None;
+        })) (K.faults out.old < K.faults out.new) (K.written out.old) (K.written out.new) result }
+    ensures complete { (reading : Reading) → K.faults out.new ≡ K.faults out.old
+        → EndsAs ((form_of (without_input request.entry)).whole (record {
+          folder = F.told files.old;
+          files_before = F.faults files.old;
+          files_after = F.faults files.new;
+          reading = reading;
+          closed = None;
         })) ⊥ (K.written out.old) (K.written out.new) result }
     ensures same { F.told files.new ≡ F.told files.old }
-    ensures input_count { S.Source.faults input.old ≤ S.Source.faults input.new }
-    ensures files_count { F.Files.faults files.old ≤ F.Files.faults files.new }
-    ensures sink_count { K.Sink.faults out.old ≤ K.Sink.faults out.new }
+    ensures files_count { F.faults files.old ≤ F.faults files.new }
+    ensures sink_count { K.faults out.old ≤ K.faults out.new }
 {
     match request {
         Some(Request::Check { names, workers }) => check(rt, alloc, names, workers, files, out),
         Some(Request::Make(making)) => make(rt, alloc, making, out),
-        Some(Request::Edit { names, workers }) => edit(alloc, names, workers, files, input, out),
         Some(Request::Listing(names)) => list_forms(alloc, names, files, out),
+        Some(Request::Edit { .. }) => tell_words(alloc, out),
         None => tell_words(alloc, out),
     }
 }
@@ -192,6 +253,7 @@ fn tell_words<K: Sink>(alloc: Global, out: &mut K) -> u8
           files_before = files;
           files_after = files;
           reading = reading;
+          closed = None;
         })) (K.faults out.old < K.faults out.new) (K.written out.old) (K.written out.new) result }
     ensures complete { (met : Met) → K.faults out.new ≡ K.faults out.old
         → EndsAs ((form_of None).whole met) ⊥ (K.written out.old) (K.written out.new) result }

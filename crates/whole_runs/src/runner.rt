@@ -10,7 +10,9 @@
 //! | `aff ..`, `dic ..`, `text ..` | the bytes of the files `a.aff`, `a.dic` and `text` |
 //! | `file NAME ..` | the bytes of a file with that name |
 //! | `words ..` | the words of the command line |
-//! | `workers 4` | so many workers, where no words are given |
+//! | `workers 4` | so many workers, behind the files of the words |
+//! | `held` | each worker is held until all lines with `<` are written |
+//! | `closed 3 1` | the history that is told has so many edits and loads |
 //! | `> ..` | a line of the input |
 //! | `< ..` | a line that is written |
 //! | `STATUS ..` | runs the program: a status, and what is written behind the lines with `<` |
@@ -27,7 +29,9 @@
 //!
 //! A dialogue that is to end with the status 0, and with nothing behind its last reply, needs no
 //! line that runs it. Each run with an input is tried in pieces of one byte, of seven, and in one,
-//! unless `piece` says how long they are, and without its last line feed as well.
+//! unless `piece` says how long they are, and without its last line feed as well. A dialogue whose
+//! puts do not fail is run again by each number of workers: first they are held until all is written,
+//! and then they are free, so that marks may stand where it is wanted that a paragraph is not checked.
 //!
 //! Of a file bars part the lines: the last one has an end where a bar stands behind it. `3*LINE` is
 //! a line three times. `@9 TEXT@` is a text nine times, and `@xc0af@` are the bytes of these
@@ -37,9 +41,12 @@
 //! Nothing is passed over in silence: a line with no such name fails, and so does one that no run
 //! takes in.
 
+mod dialogues;
 mod files;
 mod given;
+mod held;
 
+use dialogues::{assert_closed, assert_dialogue, assert_dialogues};
 use files::push_file;
 pub(crate) use given::{files_of, input_of, seen_of, words_of};
 use given::{has_input, last, parted, push_lines};
@@ -49,7 +56,7 @@ use std::sync::Wait;
 use std::thread::Threads;
 
 /// The names of lines that say what a run meets, and what it is to write.
-const NAMES: &str = "aff dic text file words workers > < loads reads puts piece";
+const NAMES: &str = "aff dic text file words workers closed > < loads reads puts piece";
 
 /// The numbers of workers by which each check is run again.
 const WORKERS: [u32; 4] = [0, 1, 4, 16];
@@ -161,7 +168,7 @@ fn run_line<R: Threads + Wait + Sync + Abort>(
     let input = input_of(alloc, given)?;
     match last(given, "piece").unwrap_or("").parse::<usize>() {
         Ok(piece) => assert_dialogue(rt, alloc, given, line, &input, piece),
-        Err(_) => assert_pieces(rt, alloc, given, line, &input),
+        Err(_) => assert_dialogues(rt, alloc, given, line, &input),
     }
 }
 
@@ -181,34 +188,6 @@ fn assert_checked<R: Threads + Wait + Sync + Abort>(
         assert_ended(rt, alloc, &shared, line, &[], 1)?;
     }
     Ok(())
-}
-
-/// Runs the program over an input in pieces of each length.
-fn assert_pieces<R: Threads + Wait + Sync + Abort>(
-    rt: &R,
-    alloc: Global,
-    given: &str,
-    line: &str,
-    input: &[u8],
-) -> Result<(), AllocError> {
-    for piece in [1, 7, usize::MAX] {
-        assert_dialogue(rt, alloc, given, line, input, piece)?;
-    }
-    Ok(())
-}
-
-/// Runs the program over an input, and over what is left without its last line feed.
-fn assert_dialogue<R: Threads + Wait + Sync + Abort>(
-    rt: &R,
-    alloc: Global,
-    given: &str,
-    line: &str,
-    input: &[u8],
-    piece: usize,
-) -> Result<(), AllocError> {
-    let cut = input.strip_suffix(b"\n").unwrap_or(input);
-    assert_ended(rt, alloc, given, line, input, piece)?;
-    assert_ended(rt, alloc, given, line, cut, piece)
 }
 
 /// Runs the program, which ends as a line says.
@@ -233,7 +212,7 @@ fn assert_ended<R: Threads + Wait + Sync + Abort>(
         "{given}\n{line}\nbut it wrote {written:?}"
     );
     assert_eq!(rt; seen.status, status, "{given}\n{line}");
-    Ok(())
+    assert_closed(rt, alloc, given, status, seen.closed)
 }
 
 /// All that is to be written: the replies that the given lines say, and the lines behind them.

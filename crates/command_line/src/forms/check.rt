@@ -80,6 +80,7 @@ pub fn check<R: Threads + Sync, F: Files, K: Sink>(
           files_before = F.faults files.old;
           files_after = F.faults files.new;
           reading = reading;
+          closed = None;
         })) (K.faults out.old < K.faults out.new) (K.written out.old) (K.written out.new) result }
     ensures complete { (reading : Reading) → K.faults out.new ≡ K.faults out.old
         → EndsAs ((form_of (Some (Check names.entry workers))).whole (record {
@@ -87,6 +88,7 @@ pub fn check<R: Threads + Sync, F: Files, K: Sink>(
           files_before = F.faults files.old;
           files_after = F.faults files.new;
           reading = reading;
+          closed = None;
         })) ⊥ (K.written out.old) (K.written out.new) result }
     ensures same { F.told files.new ≡ F.told files.old }
     ensures files_count { F.faults files.old ≤ F.faults files.new }

@@ -74,6 +74,7 @@ pub fn list_forms<F: Files, K: Sink>(
           files_before = F.faults files.old;
           files_after = F.faults files.new;
           reading = reading;
+          closed = None;
         })) (K.faults out.old < K.faults out.new) (K.written out.old) (K.written out.new) result }
     ensures complete { (reading : Reading) → K.faults out.new ≡ K.faults out.old
         → EndsAs ((form_of (Some (Listing names.entry))).whole (record {
@@ -81,6 +82,7 @@ pub fn list_forms<F: Files, K: Sink>(
           files_before = F.faults files.old;
           files_after = F.faults files.new;
           reading = reading;
+          closed = None;
         })) ⊥ (K.written out.old) (K.written out.new) result }
     ensures same { F.told files.new ≡ F.told files.old }
     ensures files_count { F.faults files.old ≤ F.faults files.new }

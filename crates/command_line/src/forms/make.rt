@@ -87,6 +87,7 @@ pub fn make<R: Threads + Sync, K: Sink>(rt: &R, alloc: Global, making: Making, o
           files_before = files;
           files_after = files;
           reading = reading;
+          closed = None;
         })) (K.faults out.old < K.faults out.new) (K.written out.old) (K.written out.new) result }
     ensures complete { (met : Met) → K.faults out.new ≡ K.faults out.old
         → EndsAs ((form_of (Some (Make making))).whole met) ⊥ (K.written out.old)

@@ -1,5 +1,6 @@
 /// Dialogues that are also cut, and whose reads and puts fail, at each place.
 pub const ROWS: &str = "
+closed 3 0
 > ins 1 hello wrold
 < ok 1
 > ins 2 wurk
@@ -42,6 +43,7 @@ pub const ROWS: &str = "
 < .
 > quit
 
+closed 1 1
 > ins 1 hello wrold
 < ok 1
 > settle

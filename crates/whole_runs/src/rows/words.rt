@@ -67,7 +67,13 @@ words check --workers 4 a b c
 2 affedit: words
 words make 1 4 --workers 4
 2 affedit: words
+words edit a b --workers 0
+0
+words edit a b --workers 16
+0
 words edit a b --workers 17
+2 affedit: words
+words edit a b --workers four
 2 affedit: words
 words edit a b --own own --workers 0
 2 affedit: words

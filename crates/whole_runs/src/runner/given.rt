@@ -1,8 +1,9 @@
 //! What a run meets: words, files, an input and a sink in memory, as the lines of a block say.
 
 use super::files::{push_file, push_line};
+use super::held::{Counted, Held};
 use command_line::run;
-use outside::{FreeGate, MemFiles, MemSink, MemSource};
+use outside::{MemFiles, MemSink, MemSource};
 use std::alloc::{AllocError, Global};
 use std::sync::Wait;
 use std::thread::Threads;
@@ -22,6 +23,8 @@ file signs.dic 2|é-é|naïve";
 #[derive(Drop)]
 pub(crate) struct Seen {
     pub(crate) status: u8,
+    /// How many edits and loads the history has that is told, if one is.
+    pub(crate) closed: Option<(u64, u64)>,
     sink: MemSink,
 }
 
@@ -71,7 +74,7 @@ pub(crate) fn input_of(alloc: Global, given: &str) -> Result<Vec<u8>, AllocError
 }
 
 /// The numbers of the last line with a name.
-fn numbers(alloc: Global, given: &str, name: &str) -> Result<Vec<u64>, AllocError> {
+pub(super) fn numbers(alloc: Global, given: &str, name: &str) -> Result<Vec<u64>, AllocError> {
     let mut numbers = Vec::new(alloc);
     for word in last(given, name).unwrap_or("").split(' ') {
         if let Ok(number) = word.parse::<u64>() {
@@ -89,10 +92,17 @@ pub(crate) fn words_of(alloc: Global, given: &str) -> Result<Vec<String>, AllocE
     };
     let line = last(given, "words").unwrap_or(usual);
     let mut words = Vec::new(alloc);
-    push_words(alloc, line, &mut words)?;
-    if let (None, Some(workers)) = (last(given, "words"), last(given, "workers")) {
+    if let Some(workers) = last(given, "workers") {
+        let (files, options) = line.split_once(" --own ").unwrap_or((line, ""));
+        push_words(alloc, files, &mut words)?;
         words.push(String::from_str(alloc, "--workers")?)?;
         push_words(alloc, workers, &mut words)?;
+        if !options.is_empty() {
+            words.push(String::from_str(alloc, "--own")?)?;
+        }
+        push_words(alloc, options, &mut words)?;
+    } else {
+        push_words(alloc, line, &mut words)?;
     }
     Ok(words)
 }
@@ -179,6 +189,16 @@ fn sink_of(alloc: Global, given: &str) -> Result<MemSink, AllocError> {
     Ok(MemSink::new(alloc, puts, taken.parse().unwrap_or(0)))
 }
 
+/// The gate of a run: where the given lines say so, it holds all workers until all lines with `<` are
+/// written.
+fn held_by(alloc: Global, given: &str) -> Result<Held, AllocError> {
+    let mut replies = Vec::new(alloc);
+    if last(given, "held").is_some() {
+        push_lines(given, "<", &mut replies)?;
+    }
+    Ok(Held::until(replies.len() as u64))
+}
+
 /// Runs the program over what the given lines say, with an input in pieces of so many bytes.
 pub(crate) fn seen_of<R: Threads + Wait + Sync>(
     rt: &R,
@@ -190,18 +210,19 @@ pub(crate) fn seen_of<R: Threads + Wait + Sync>(
     let words = words_of(alloc, given)?;
     let mut files = files_of(alloc, given)?;
     let mut source = source_of(alloc, given, input, piece)?;
-    let mut sink = sink_of(alloc, given)?;
-    let ended = run(
-        rt,
-        alloc,
-        &words,
-        &mut files,
-        &mut source,
-        &mut sink,
-        &FreeGate,
-    );
+    let held = held_by(alloc, given)?;
+    let mut out = Counted {
+        sink: sink_of(alloc, given)?,
+        held: &held,
+    };
+    let ended = run(rt, alloc, &words, &mut files, &mut source, &mut out, &held);
+    let Counted { sink, .. } = out;
     Ok(Seen {
         status: ended.status,
+        closed: match ended.closed {
+            Some(closed) => Some((closed.edits(), closed.loads())),
+            None => None,
+        },
         sink,
     })
 }

@@ -3,6 +3,7 @@ use Rattle.std.proofs.Common.{◌≡◌, ◌∙◌, ◌++◌, inl, inr, refl, ap
 use Rattle.command_line.specs.Failures.{last_line}
 use Rattle.command_line.specs.declared.ending.End.TheVariants.{Failed}
 use Rattle.command_line.specs.declared.failure.Failure.TheVariants.{NoMemory}
+use Rattle.command_line.proofs.EndLemmas.{failure-nonzero, put-nonzero}
 use Rattle.command_line.proofs.ending.put_line.Goals as goal
 
 pub returns-in-Ok-clause-puts : goal.returns-in-Ok-clause-puts
@@ -14,3 +15,11 @@ returns-in-Ok-clause-puts g c =
 
 pub returns-clause-puts : goal.returns-clause-puts
 returns-clause-puts g c = (Failed NoMemory, inl refl, c.put_wanting.ensures.puts)
+
+-- no failure has the status 0, and no sink that failed
+pub returns-in-Ok-clause-zero : goal.returns-in-Ok-clause-zero
+returns-in-Ok-clause-zero g c =
+    put-nonzero (rw c.status.ensures at c.put.ensures.puts) (failure-nonzero c.args.failure)
+
+pub returns-clause-zero : goal.returns-clause-zero
+returns-clause-zero g c = put-nonzero c.put_wanting.ensures.puts refl

@@ -11,7 +11,7 @@ returns-in-Ok-clause-due g c =
     let opened = c.in-Ok.ensures in
     let counted = opened.count in
     ends-weaker (λ failed. failed) (λ text due is. dialogue-answers opened.due is)
-    (c.converse.ensures.dialogue (g.F.Files.told c.args.files.now)
+    (c.talk.ensures.dialogue (g.F.Files.told c.args.files.now)
     (g.F.Files.faults c.args.files.now) (sym opened.same) counted)
 
 pub returns-in-Ok-clause-complete : goal.returns-in-Ok-clause-complete
@@ -19,9 +19,9 @@ returns-in-Ok-clause-complete g c = λ same.
     let opened = c.in-Ok.ensures in
     let counted = opened.count in
     ends-weaker (λ failed. omega (arith, failed, same))
-    (λ text due is. dialogue-whole c.args._workers c.fitting_inputs_are_read.ensures
+    (λ text due is. dialogue-whole c.args.workers c.fitting_inputs_are_read.ensures
     c.quits_are_short.ensures opened.due is)
-    (c.converse.ensures.dialogue (g.F.Files.told c.args.files.now)
+    (c.talk.ensures.dialogue (g.F.Files.told c.args.files.now)
     (g.F.Files.faults c.args.files.now) (sym opened.same) counted)
 
 pub returns-in-Err-clause-due : goal.returns-in-Err-clause-due
@@ -34,5 +34,5 @@ pub returns-in-Err-clause-complete : goal.returns-in-Err-clause-complete
 returns-in-Err-clause-complete g c = λ same.
     ends-behind [] (λ failed. omega (arith, failed, same))
     (appends-none (g.K.Sink.written c.args.out.now))
-    (not-opened-whole c.args._workers c.in-Err.ensures.due (λ is. c.in-Err.ensures.failed (ap Err is))
+    (not-opened-whole c.args.workers c.in-Err.ensures.due (λ is. c.in-Err.ensures.failed (ap Err is))
     (record { same = refl; count = refl })) c.put_end.ensures.puts
