@@ -1,7 +1,5 @@
 pub mod ConsoleCommands
 pub mod ConsoleLoads
-pub mod ConsoleSettling
 pub mod ConsoleViews
 pub mod TranscriptLaws
 pub mod LineLemmas
-pub mod OwnLemmas

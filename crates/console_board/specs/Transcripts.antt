@@ -1,6 +1,6 @@
 -- What a console replies to its lines: a transcript.
-use Rattle.std.specs.Prelude.{◌≡◌, ℕ, zero, suc, ◌+◌, ◌≤◌, Bool, true, false, not, ◌⊎◌, List, []}
-use Rattle.std.specs.Prelude.{◌∷◌, ◌++◌, filter_map, take_while, Option, Some, None, Result, Ok}
+use Rattle.std.specs.Prelude.{◌≡◌, ℕ, zero, suc, Bool, true, false, not, ◌⊎◌, List, []}
+use Rattle.std.specs.Prelude.{◌∷◌, filter_map, take_while, Option, Some, None, Result, Ok}
 use Rattle.std.specs.Prelude.{Err, if◌then◌else◌}
 use Rattle.std.specs.List.{AllZip, count_by, flat_map}
 use Rattle.std.specs.Str.{is_utf8}
@@ -168,22 +168,3 @@ is_no_files _ = false
 
 abbrev pub failures_in : List Reply → ℕ
 failures_in replies = count_by is_no_files replies
-
--- what is asked for was replied to, and the reply was added to a text; the files, which tell this,
--- failed as often at least as it says
-pub record IsReplied (told : Option Folder) (failed failed_now : ℕ) (before after : OwnConsole)
-    (asked : Option Command) (text text_now : List ℕ) : Type 0 where
-  pub reply : Reply
-  pub replies : IsReplyToAsked told before asked reply after
-  pub text_is : text_now ≡ text ++ written_of (reply ∷ [])
-  pub failures : failed + failures_in (reply ∷ []) ≤ failed_now
-
--- From one console on these lines were replied to with this text, and then it is another console.
--- The files tell the same as before, and failed as often at least as was said.
-pub record IsRepliedTo (told told_now : Option Folder) (failed failed_now : ℕ)
-    (before after : OwnConsole) (lines : List (List ℕ)) (text : List ℕ) : Type 0 where
-  pub replies : List Reply
-  pub answers : Answers 0 told before (asked_by lines) replies after
-  pub text_is : text ≡ written_of replies
-  pub failures : failed + failures_in replies ≤ failed_now
-  pub same : told_now ≡ told
