@@ -51,8 +51,8 @@ pub enum Edit {
 }
 
 impl Edit {
-    /// The id of the paragraph that is named.
-    fn named(&self) -> Option<u64>
+    /// The id of the paragraph that it names. An insert at the end names none.
+    pub fn named(&self) -> Option<u64>
         ensures { result ≡ named_by self.now }
     {
         match self {

@@ -1,7 +1,7 @@
 //! Paragraphs, and lists of them whose versions share what an edit does not touch.
 
 ghost use Rattle.std.specs.Prelude.{◌≡◌, ◌<◌, ◌≤◌, ◌==◌, length, position, slice_get, slice_set};
-ghost use Rattle.std.specs.Prelude.{IfOk};
+ghost use Rattle.std.specs.Prelude.{IfOk, Some, true};
 ghost use Rattle.std.specs.List.{insert, remove};
 ghost use Rattle.std.specs.Option.{option_copied};
 ghost use Rattle.paragraph_text.specs.Paragraphs.{HaveOwnIds, numbered_from};
@@ -41,19 +41,23 @@ impl Copied for Para {
     }
 }
 
-/// Paragraphs in their order. Contracts see it as the list of these.
+/// How far from the place that is guessed a paragraph is looked for first, to both sides.
+const NEARBY: usize = 32;
+
+/// Paragraphs in their order. Contracts see it as the list of these. A copy shares all of it.
 #[derive(Debug, Drop)]
 pub struct Paragraphs {
-    kept: SharedItems<Para>,
+    kept: Arc<SharedItems<Para>>,
 }
 
 impl Model for Paragraphs {
     ghost use Rattle.std.specs.Prelude.{List};
+    ghost use Rattle.std.specs.Arc.{arc_value};
     ghost use Rattle.paragraph_text.specs.Paragraphs.{Paragraph};
 
     ghost Value = { List Paragraph };
 
-    ghost view = { λ inside. inside.kept };
+    ghost view = { λ inside. arc_value inside.kept };
 }
 
 impl Paragraphs {
@@ -70,8 +74,15 @@ impl Paragraphs {
                 text: Arc::new(alloc, text)?,
             })?;
         }
+        Paragraphs::of(alloc, SharedItems::from_vec(alloc, paras)?)
+    }
+
+    /// The list of these.
+    fn of(alloc: Global, kept: SharedItems<Para>) -> Result<Paragraphs, NoMemory>
+        ensures { IfOk result (λ made. made ≡ kept) }
+    {
         Ok(Paragraphs {
-            kept: SharedItems::from_vec(alloc, paras)?,
+            kept: Arc::new(alloc, kept)?,
         })
     }
 
@@ -114,14 +125,32 @@ impl Paragraphs {
     }
 
     /// The place of the paragraph with an id, where no id stands twice. It looks at the place
-    /// `near` first, and goes over the ids only where the paragraph does not stand there.
+    /// `near` first, then at those up to 32 places from it, and goes over all ids only where the
+    /// paragraph does not stand there.
     pub fn place_near(&self, id: u64, near: usize) -> Option<usize>
         requires { HaveOwnIds self.now }
         ensures { result ≡ position (λ paragraph. paragraph.id == id) self.now }
     {
-        match self.get(near) {
-            Some(para) if para.id == id => Some(near),
-            _ => self.place_of(id),
+        if self.has_at(near, id) {
+            return Some(near);
+        }
+        for place in near.saturating_sub(NEARBY)..near.saturating_add(NEARBY) {
+            if self.has_at(place, id) {
+                return Some(place);
+            }
+        }
+        self.place_of(id)
+    }
+
+    /// Whether the paragraph with this place has an id, where no id stands twice.
+    fn has_at(&self, place: usize, id: u64) -> bool
+        requires { HaveOwnIds self.now }
+        ensures { result ≡ true
+            → position (λ paragraph. paragraph.id == id) self.now ≡ Some place }
+    {
+        match self.get(place) {
+            Some(para) if para.id == id => true,
+            _ => false,
         }
     }
 
@@ -135,9 +164,7 @@ impl Paragraphs {
         requires { place < length self.now }
         ensures { IfOk result (λ made. made ≡ slice_set self.now place para) }
     {
-        Ok(Paragraphs {
-            kept: self.kept.replaced(alloc, place, para)?,
-        })
+        Paragraphs::of(alloc, self.kept.replaced(alloc, place, para)?)
     }
 
     /// The list with a paragraph put before the one with this place, or behind the last.
@@ -150,9 +177,7 @@ impl Paragraphs {
         requires { place ≤ length self.now }
         ensures { IfOk result (λ made. made ≡ insert self.now place para) }
     {
-        Ok(Paragraphs {
-            kept: self.kept.inserted(alloc, place, para)?,
-        })
+        Paragraphs::of(alloc, self.kept.inserted(alloc, place, para)?)
     }
 
     /// The list without the paragraph with this place.
@@ -160,16 +185,14 @@ impl Paragraphs {
         requires { place < length self.now }
         ensures { IfOk result (λ made. made ≡ remove self.now place) }
     {
-        Ok(Paragraphs {
-            kept: self.kept.removed(alloc, place)?,
-        })
+        Paragraphs::of(alloc, self.kept.removed(alloc, place)?)
     }
 }
 
 impl Copied for Paragraphs {
-    fn copy(&self, alloc: Global) -> Result<Paragraphs, NoMemory> {
+    fn copy(&self, _alloc: Global) -> Result<Paragraphs, NoMemory> {
         Ok(Paragraphs {
-            kept: self.kept.copy(alloc)?,
+            kept: Arc::try_clone(&self.kept)?,
         })
     }
 }

@@ -302,15 +302,35 @@ fn a_hint_changes_no_edit(rt: HostRuntime) -> Result<(), Fail> {
     Ok(())
 }
 
-fn place_near(alloc: Global, id: u64, near: usize) -> Result<Option<usize>, NoMemory> {
-    Ok(opening(alloc, 4)?.place_near(id, near))
+fn place_near(alloc: Global, count: u64, id: u64, near: usize) -> Result<Option<usize>, NoMemory> {
+    Ok(opening(alloc, count)?.place_near(id, near))
 }
 
+/// Of four paragraphs, and of so many that most places are far from the one that is guessed.
 #[test]
 fn a_hint_changes_no_place(rt: HostRuntime) -> Result<(), Fail> {
+    let alloc = rt.alloc();
     for near in 0..6 {
-        assert_eq!(rt; place_near(rt.alloc(), 2, near), Ok(Some(2)));
-        assert_eq!(rt; place_near(rt.alloc(), 4, near), Ok(None));
+        assert_eq!(rt; place_near(alloc, 4, 2, near), Ok(Some(2)));
+        assert_eq!(rt; place_near(alloc, 4, 4, near), Ok(None));
+    }
+    for near in [
+        0,
+        17,
+        18,
+        49,
+        50,
+        51,
+        81,
+        82,
+        83,
+        199,
+        200,
+        1000,
+        usize::MAX,
+    ] {
+        assert_eq!(rt; place_near(alloc, 200, 50, near), Ok(Some(50)));
+        assert_eq!(rt; place_near(alloc, 200, 200, near), Ok(None));
     }
     Ok(())
 }
