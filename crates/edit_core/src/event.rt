@@ -73,6 +73,20 @@ impl<J: Judge> Event<J> {
         }
     }
 
+    /// A guess of the place where the paragraph stands that it names: ids are given from 0 on, as
+    /// paragraphs come, and most come one behind another.
+    pub(crate) fn likely_place(&self) -> usize {
+        let named = match self {
+            Event::Edit { edit, .. } => edit.named(),
+            Event::Load { .. } => None,
+            Event::Claim { id, .. } => Some(*id),
+            Event::Finish { id, .. } => Some(*id),
+            Event::Park { id, .. } => Some(*id),
+            Event::Ask { id, .. } => Some(*id),
+        };
+        named.unwrap_or(0) as usize
+    }
+
     /// The number of the session or the worker that it names. A load names none.
     pub fn caller(&self) -> Option<u32>
         ensures { result ≡ caller_of (event_of J.lexicon self.now) }

@@ -44,18 +44,20 @@ struct Found {
 impl<J: Judge + Drop> Board<J> {
     /// The board that an event makes of this one, which stays as it is. A check that is finished is
     /// one of the paragraph's text by the dictionary in force, if its rev and its dictionary
-    /// version are the board's.
+    /// version are the board's. The paragraph that the event names is looked for near the place
+    /// that has the number of its id.
     pub fn next(&self, alloc: Global, event: Event<J>) -> Result<Board<J>, Refusal>
         requires { IsFit self.now (event_of J.lexicon event) }
         ensures stepped { IfOk result (Step self.now (event_of J.lexicon event)) }
         ensures refused { IfErr result
             (IsDueOr OutOfMemory (first_refusal self.now (event_of J.lexicon event))) }
     {
-        self.next_near(alloc, event, 0)
+        let near = event.likely_place();
+        self.next_near(alloc, event, near)
     }
 
-    /// The same board. The paragraph that the event names is looked for at `near` first; where it
-    /// stands there no other is looked at.
+    /// The same board. The paragraph that the event names is looked for at the place `near` first;
+    /// where it stands there no other is looked at.
     pub fn next_near(
         &self,
         alloc: Global,
