@@ -1,50 +1,47 @@
-//! The causes of faults in words, each with what mends it. They stand behind the number of a line.
+//! The causes of faults in words, which stand behind the number of a line. The launcher's table
+//! `tools/launcher/causes` has the same sentences, and `tests/launcher.sh` compares the two.
 
 use aff_lines::AffWhy;
 use dic_reader::DicWhy;
 
-/// What is wrong with a line of an .aff file, and what mends it.
+/// What is wrong with a line of an .aff file.
 pub fn aff_cause(why: &AffWhy) -> &'static str {
     match why {
-        AffWhy::NotUtf8 => "is not UTF-8: convert the file to UTF-8",
-        AffWhy::OtherEncoding => {
-            "names another encoding: convert the file to UTF-8 and write `SET UTF-8`"
+        AffWhy::NotUtf8 => "the line is not UTF-8",
+        AffWhy::OtherEncoding => "the file is in another encoding than UTF-8",
+        AffWhy::LeftOut => "the dictionary needs an option that is not built",
+        AffWhy::MissingField => "the line lacks a field that its option needs",
+        AffWhy::Twice => {
+            "the line says again what may be said once, or is past the rows that its table announces"
         }
-        AffWhy::LeftOut => {
-            "has an option that is not built: this dictionary cannot be used as it is"
+        AffWhy::BadNumber => {
+            "a field is not a number, or too high a number, or the rule has no header of its class above it"
         }
-        AffWhy::MissingField => "lacks a field: write what the option needs behind its name",
-        AffWhy::Twice => "gives again what may be given once: leave the line out, or count it in",
-        AffWhy::BadNumber => "has a field that is no number, or one that is too high: write digits",
-        AffWhy::TooMany => "announces more lines than are allowed: leave some out",
-        AffWhy::TableShort => "announces more lines than follow: correct its number",
+        AffWhy::TooMany => "more rows or rules are announced than are allowed",
+        AffWhy::TableShort => "the table announces more rows than it has",
         AffWhy::OtherFlag => {
-            "names a type of flags that there is not: write `long`, `num` or `UTF-8`"
+            "there is no such type of flags: `long`, `num` and `UTF-8` are the types"
         }
-        AffWhy::BadCross => "does not say whether its class may be crossed: write `Y` or `N`",
-        AffWhy::BadFlag => "has a field that is no flag of the file's type: write it as FLAG says",
-        AffWhy::BadAlias => {
-            "has a field that is not the number of an alias: write one that AF gives"
+        AffWhy::BadCross => "whether affixes of the class go with others is neither `Y` nor `N`",
+        AffWhy::BadFlag => {
+            "a field is not a flag, or not a list of flags, of the type that FLAG names"
         }
-        AffWhy::BadCondition => "has a condition with an open bracket: close it",
+        AffWhy::BadAlias => "a field is not the number of a row of AF",
+        AffWhy::BadCondition => "a bracket of the condition is not closed",
         AffWhy::BadPattern => {
-            "has a compound rule that is no list of flags: put `*` and `?` behind flags alone"
+            "the compound rule is not a list of flags with `*` or `?` behind some"
         }
     }
 }
 
-/// What is wrong with a line of a .dic file, and what mends it.
+/// What is wrong with a line of a .dic file.
 pub fn dic_cause(why: &DicWhy) -> &'static str {
     match why {
-        DicWhy::NotUtf8 => "is not UTF-8: convert the file to UTF-8",
-        DicWhy::BadCount => "does not begin with a count: write how many entries there are",
-        DicWhy::EmptyWord => "has an entry without a word: write the word, or leave the line out",
-        DicWhy::BadFlag => {
-            "has flags that are none of the dictionary's type: write them as FLAG says"
-        }
-        DicWhy::BadAlias => {
-            "has a field that is not the number of an alias: write one that AF gives"
-        }
-        DicWhy::TooMany => "is one entry too many: leave some out",
+        DicWhy::NotUtf8 => "the line is not UTF-8",
+        DicWhy::BadCount => "the first line does not begin with the number of entries",
+        DicWhy::EmptyWord => "the entry has no word",
+        DicWhy::BadFlag => "a field is not a list of flags of the type that FLAG names",
+        DicWhy::BadAlias => "a field is not the number of a row of AF",
+        DicWhy::TooMany => "there are more than 1,000,000 entries",
     }
 }

@@ -25,10 +25,10 @@ pub enum LoadFault {
     #[error("a file of the dictionary has more than {limit} bytes, which is the most that is read")]
     TooLong { limit: u64 },
     /// The first fault of the .aff file. Lines count from 1.
-    #[error("line {line} of the .aff file {}", aff_cause(.why))]
+    #[error("line {line} of the .aff file: {}", aff_cause(.why))]
     Aff { line: u64, why: AffWhy },
     /// The first fault of the .dic file. Lines count from 1.
-    #[error("line {line} of the .dic file {}", dic_cause(.why))]
+    #[error("line {line} of the .dic file: {}", dic_cause(.why))]
     Dic { line: u64, why: DicWhy },
     /// Memory for the dictionary could not be had.
     #[error("memory for the dictionary could not be had")]

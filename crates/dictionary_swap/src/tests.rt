@@ -16,9 +16,9 @@ bare.dic=>hello|
 /// Two names, and what is said of the load. The tenth file that is asked for fails.
 const LOADS: &str = "good.aff good.dic=>loaded
 none.aff bare.dic=>a file of the dictionary is not there
-other.aff none.dic=>line 1 of the .aff file names another encoding: convert the file to UTF-8 and write `SET UTF-8`
+other.aff none.dic=>line 1 of the .aff file: the file is in another encoding than UTF-8
 good.aff none.dic=>a file of the dictionary is not there
-good.aff bare.dic=>line 1 of the .dic file does not begin with a count: write how many entries there are
+good.aff bare.dic=>line 1 of the .dic file: the first line does not begin with the number of entries
 good.aff good.dic=>a file of the dictionary could not be read
 good.aff good.dic=>loaded
 ";
