@@ -1,40 +1,209 @@
--- How a dialogue ends, by how its reading has ended.
+-- How a dialogue ends, by how the reading of its input has ended.
 use Rattle.std.proofs.Common.{◌≡◌, ◌∙◌, ◌⊎◌, ⊎_elim, inl, inr, ℕ, ◌<◌, ◌≤◌, Bool, true, List, []}
-use Rattle.std.proofs.Common.{Option, Some, None, IfSome, is_some, Ok, Err, refl, sym, ap, subst}
-use Rattle.std.proofs.Common.{◌==◌, false, arith}
+use Rattle.std.proofs.Common.{Option, Some, None, IfSome, IfErr, is_some, Result, Ok, Err, refl}
+use Rattle.std.proofs.Common.{◌==◌, false, arith, sym, ap, subst}
 use Rattle.std.specs.List.{AllByRecursion}
 use Rattle.lists.specs.Answers.{FailsAs}
 use Rattle.text_lines.specs.Lines.{line_texts}
 use Rattle.outside.specs.Files.{Folder}
 use Rattle.outside.specs.Laws.{front-longer}
 use Rattle.outside.specs.Sink.{Appends}
+use Rattle.spell_types.specs.declared.Lexicon.{Lexicon}
 use Rattle.own_dictionary.specs.Dictionaries.{OwnSeen}
 use Rattle.dictionary_swap.specs.declared.fault.LoadFault.TheVariants.{Failed as FailedLoad}
 use Rattle.input_lines.specs.Ends.{HasEnded, IsWritten, Reading}
-use Rattle.input_lines.specs.Laws.{ended-weaker}
+use Rattle.input_lines.specs.Laws.{Told, ended-weaker}
 use Rattle.input_lines.specs.Lines.{IsBounded, IsShort, before_quit}
 use Rattle.input_lines.specs.declared.reading_end.ReadingEnd.{ReadingEnd}
 use Rattle.input_lines.specs.declared.reading_end.ReadingEnd.TheVariants as reading
 use Rattle.edit_core.specs.Runs.{Run}
-use Rattle.console_board.specs.Transcripts.{IsTranscript, asked_by, is_quit}
+use Rattle.pipe_mode.specs.Pipes.{ends_input, pipe_answers}
+use Rattle.console_board.specs.Transcripts.{IsTranscript, asked_by}
 use Rattle.console_history.specs.Followed.{IsConsoleHistory}
 use Rattle.desk_console.specs.declared.console.TheConstants.{SESSION}
 use Rattle.desk_dialogue.specs.Dialogues.{AreReplied, IsClosedAt}
-use Rattle.command_line.specs.Due.{IsOwnThere, MayCome, OwnFiles, dictionary_due, own_found_in}
+use Rattle.command_line.specs.Due.{IsOwnThere, MayCome, OwnFiles, own_found_in}
 use Rattle.command_line.specs.Ends.{Cut, EndsAs, IsEndPut, is_quiet}
 use Rattle.command_line.specs.Failures.{last_line}
-use Rattle.command_line.specs.Forms.{AllReplied, FilesFailedFirst, HasReplied, IsClosedAfter}
-use Rattle.command_line.specs.Forms.{IsAnswerTo, IsCaused, IsDialogue, IsEdited, IsFit, IsUntouched}
-use Rattle.command_line.specs.Forms.{IsWholeDialogue, Met, NoneReplied, NotOpened, Opened}
-use Rattle.command_line.specs.Forms.{SomeReplied, WantingFirst, end_of, form_of, setting_of}
+use Rattle.command_line.specs.Forms.{AllAnswered, Answering, FilesFailedFirst, IsCaused}
+use Rattle.command_line.specs.Forms.{IsClosedAfter, IsDialogue, IsFit, IsOpened, IsUntouched}
+use Rattle.command_line.specs.Forms.{IsWholeDialogue, Met, NoneAnswered, NotOpened}
+use Rattle.command_line.specs.Forms.{SomeAnswered, WantingFirst, end_of}
 use Rattle.command_line.specs.Operands.{DictionaryNamed}
 use Rattle.command_line.specs.declared.ending.End.{End}
 use Rattle.command_line.specs.declared.ending.End.TheVariants.{Quiet, Failed}
 use Rattle.command_line.specs.declared.failure.Failure.{Failure}
 use Rattle.command_line.specs.declared.failure.Failure.TheVariants.{Load, NoMemory}
-use Rattle.command_line.specs.declared.requests.Request.TheVariants.{Edit}
-use Rattle.command_line.proofs.DueLemmas.{comes-as, dictionary-told, failure-caused, failure-told}
+use Rattle.command_line.specs.declared.requests.Request.{Request}
+use Rattle.command_line.proofs.DueLemmas.{IsTold, comes-as, failure-caused, failure-told}
 use Rattle.command_line.proofs.EndLemmas.{ends-behind, goes-on}
+
+-- ---- how a dialogue ends
+
+-- where its reading has ended, and the sink did not fail
+pub dialogue-ends : {read : Reading} {quits : List ℕ → Bool} {answered : Told}
+    {put_failed whole_failed : Type 0} {end : End} {before middle now : Option (List ℕ)} {status : ℕ}
+    (sink_failed : Type 0) (ended : ReadingEnd) (said : List ℕ)
+    → HasEnded quits answered read ended said
+    → IsWritten ended sink_failed before middle said
+    → end_of ended ≡ Some end → (put_failed → whole_failed)
+    → IsEndPut end put_failed middle now status
+    → EndsAs (IsDialogue read quits answered) whole_failed before now status
+dialogue-ends {end = end} {before = before} {middle = middle} sink_failed ended said is written told
+    fails put =
+    ends-behind said fails (by ended written told)
+    (record { ended = ended; end_is = told; is = is }) put
+  where
+    by : (ended : ReadingEnd) → IsWritten ended sink_failed before middle said
+        → end_of ended ≡ Some end → Appends before middle said
+    by reading.SinkFailed written told = absurd (cc)
+    by _ written told = written
+
+-- where it did
+pub dialogue-cut : {read : Reading} {quits : List ℕ → Bool} {answered : Told}
+    {before now : Option (List ℕ)} (sink_failed : Type 0) (ended : ReadingEnd) (said : List ℕ)
+    → HasEnded quits answered read ended said
+    → IsWritten ended sink_failed before now said
+    → end_of ended ≡ None → EndsAs (IsDialogue read quits answered) sink_failed before now 6
+dialogue-cut {before = before} {now = now} sink_failed reading.SinkFailed said is written told =
+    record {
+      text = said;
+      due = Failed NoMemory;
+      answer = record { ended = reading.NoMemory; end_is = refl; is = is };
+      end = Failed NoMemory;
+      end_is = inr refl;
+      put = Cut written.0 refl (front-longer before now said (last_line NoMemory) written.1);
+    }
+dialogue-cut sink_failed _ said is written told = absurd (cc)
+
+-- ---- forms that ask for a dialogue
+
+-- what ends it is caused
+pub dialogue-caused : {asked : Option Request} {met : Met} {quits : List ℕ → Bool} {answered : Told}
+    {text : List ℕ} {end : End} → IsDialogue met.reading quits answered text end
+    → IsCaused asked met text end
+dialogue-caused {asked} {met} {quits} {answered} {text} {end} dialogue =
+    by dialogue.ended dialogue.end_is dialogue.is
+  where
+    by : (ended : ReadingEnd) → end_of ended ≡ Some end
+        → HasEnded quits answered met.reading ended text → IsCaused asked met text end
+    by reading.Interrupted is ended = goes-on (cc) (λ input. ended.failed)
+    by reading.SinkFailed is ended = absurd (cc)
+    by _ is ended = goes-on (cc) (λ input. absurd (cc))
+
+-- none is opened
+pub not-opened : {T : Type 0} {met : Met} {names : DictionaryNamed} {quits : List ℕ → Bool}
+    {answered : Answering T} {failure : Failure} {due : OwnFiles → Result T Failure}
+    → (there : OwnFiles) × IsOwnThere met.folder names there × FailsAs MayCome (due there) failure
+    → IsUntouched met.reading → IsOpened met names due quits answered [] (Failed failure)
+not-opened {T} {met} {names} {quits} {answered} {failure} {due} (there, is, fails) untouched =
+    by fails
+  where
+    by : FailsAs MayCome (due there) failure
+        → IsOpened met names due quits answered [] (Failed failure)
+    by (inl comes) =
+        ⊎_elim (λ failed. FilesFailedFirst (ap Failed failed) untouched)
+        (λ wanting. WantingFirst (ap Failed wanting) refl untouched) (comes-as failure comes)
+    by (inr is_due) = NotOpened there failure is is_due refl refl untouched
+
+-- and that is caused
+pub not-opened-caused : {T : Type 0} {asked : Option Request} {met : Met} {failure : Failure}
+    (names : DictionaryNamed) (due : OwnFiles → Result T Failure)
+    → ((there : OwnFiles) → IfErr (due there) IsTold)
+    → (there : OwnFiles) × IsOwnThere met.folder names there × FailsAs MayCome (due there) failure
+    → (failure ≡ Load FailedLoad → met.files_before < met.files_after)
+    → IsCaused asked met [] (Failed failure)
+not-opened-caused names due told (there, is, fails) rose = failure-caused (failure-told (told there) fails) rose
+
+-- ---- where nothing fails and no limit is passed
+
+-- what is due where the files are fit
+fit-due : {T : Type 0} {met : Met} {names : DictionaryNamed} {quits : List ℕ → Bool} {opened : T}
+    (due : OwnFiles → Result T Failure) (there : OwnFiles)
+    → IsFit met names due quits opened → IsOwnThere met.folder names there
+    → due there ≡ Ok opened
+fit-due {names = names} due there fit is =
+    let found : there ≡ own_found_in fit.folder names =
+    subst (λ told. IsOwnThere told names there) fit.folder_is is in
+    ap due found ∙ fit.is_due
+
+-- what is fit is loaded, unless the files fail first
+pub not-opened-whole : {T : Type 0} {met : Met} {names : DictionaryNamed} {quits : List ℕ → Bool}
+    {failure : Failure} (due : OwnFiles → Result T Failure) (answered : Answering T)
+    → (there : OwnFiles) × IsOwnThere met.folder names there × FailsAs MayCome (due there) failure
+    → (failure ≡ Load FailedLoad → met.files_before < met.files_after) → IsUntouched met.reading
+    → (opened : T) → IsFit met names due quits opened
+    → ¬ ((met.files_before < met.files_after) × IsUntouched met.reading)
+    → IsWholeDialogue met.reading quits (answered met opened) [] (Failed failure)
+not-opened-whole {T} {met} {names} {quits} {failure} due answered (there, is, fails) rose untouched
+    opened fit first =
+    by fails
+  where
+    by : FailsAs MayCome (due there) failure
+        → IsWholeDialogue met.reading quits (answered met opened) [] (Failed failure)
+    by (inl comes) =
+        ⊎_elim (λ failed. absurd (first (rose failed, untouched)))
+        (λ wanting. NoneAnswered (ap Failed wanting) refl) (comes-as failure comes)
+    by (inr is_due) =
+        let never : Ok opened ≡ Err failure = sym (fit-due due there fit is) ∙ is_due in
+        absurd (cc)
+
+-- what the law of readings says, of a dialogue
+abbrev pub AreRead : Type 0
+AreRead = (quits : List ℕ → Bool) (read : Reading) (input said : List ℕ) (ended : ReadingEnd)
+    → HasEnded quits (λ lines answers. Unit {0}) read ended said → read.before ≡ Some input
+    → IsBounded quits input
+    → ((line : List ℕ) → quits line ≡ true → IsShort line)
+    → AllByRecursion IsShort (before_quit quits (line_texts input))
+    → read.faults_after ≡ read.faults_before → (ended ≡ reading.Finished)
+    ⊎ ((ended ≡ reading.NoMemory) ⊎ (ended ≡ reading.SinkFailed))
+
+-- a dialogue over an input that is fit answers all its lines
+pub dialogue-whole : {T : Type 0} {met : Met} {names : DictionaryNamed} {quits : List ℕ → Bool}
+    {opened : T} {text : List ℕ} {end : End} (due : OwnFiles → Result T Failure)
+    (answered : Answering T) → AreRead
+    → ((line : List ℕ) → quits line ≡ true → IsShort line)
+    → (there : OwnFiles) × IsOwnThere met.folder names there × (due there ≡ Ok opened)
+    → IsDialogue met.reading quits (answered met opened) text end
+    → (other : T) → IsFit met names due quits other
+    → met.reading.faults_after ≡ met.reading.faults_before
+    → IsWholeDialogue met.reading quits (answered met other) text end
+dialogue-whole {T} {met} {names} {quits} {opened} {text} {end} due answered read quits_short
+    (there, is, is_due) dialogue other fit reads =
+    let also : due there ≡ Ok other = fit-due due there fit is in
+    let same : opened ≡ other = cc in
+    subst (λ opened. IsWholeDialogue met.reading quits (answered met opened) text end) same
+    (by dialogue.ended dialogue.end_is dialogue.is
+    (read quits met.reading fit.input text dialogue.ended
+    (ended-weaker quits (answered met opened) (λ lines answers. Unit {0}) met.reading
+    dialogue.ended text (λ lines said is. tt) dialogue.is)
+    fit.input_is fit.bounded quits_short fit.short reads))
+  where
+    by : (ended : ReadingEnd) → end_of ended ≡ Some end
+        → HasEnded quits (answered met opened) met.reading ended text
+        → (ended ≡ reading.Finished) ⊎ ((ended ≡ reading.NoMemory) ⊎ (ended ≡ reading.SinkFailed))
+        → IsWholeDialogue met.reading quits (answered met opened) text end
+    by ended told is (inl finished) =
+        let quiet : Some end ≡ Some Quiet = sym told ∙ ap end_of finished in
+        AllAnswered (cc)
+        (subst (λ ended. HasEnded quits (answered met opened) met.reading ended text) finished is)
+    by ended told is (inr (inl wanting)) =
+        let memory : Some end ≡ Some (Failed NoMemory) = sym told ∙ ap end_of wanting in
+        SomeAnswered (cc)
+        (subst (λ ended. HasEnded quits (answered met opened) met.reading ended text) wanting is)
+    by ended told is (inr (inr cut)) =
+        let never : Some end ≡ None = sym told ∙ ap end_of cut in absurd (cc)
+
+-- ---- what a pipe has answered
+
+-- by a dictionary, which is this one
+pub piped-by : {read : Reading} {lexicon other : Lexicon} {text : List ℕ} {end : End}
+    → lexicon ≡ other
+    → IsDialogue read ends_input (λ lines said. said ≡ pipe_answers lexicon lines) text end
+    → IsDialogue read ends_input (λ lines said. said ≡ pipe_answers other lines) text end
+piped-by {read} {text = text} {end = end} same is =
+    subst (λ lexicon.
+    IsDialogue read ends_input (λ lines said. said ≡ pipe_answers lexicon lines) text end) same is
 
 -- ---- what a console has replied
 
@@ -70,44 +239,6 @@ replied-so {workers} {dictionary} {closed = closed} {lines = lines} same sooner 
   failures = omega (arith, is.failures, sooner);
 }
 
--- ---- how a dialogue ends
-
--- where its reading has ended, and the sink did not fail
-pub dialogue-ends : {met : Met} {workers : ℕ} {dictionary : OwnSeen} {put_failed whole_failed : Type 0} {end : End}
-    {before middle now : Option (List ℕ)} {status : ℕ}
-    (sink_failed : Type 0) (ended : ReadingEnd) (said : List ℕ)
-    → HasReplied met workers dictionary ended said
-    → IsWritten ended sink_failed before middle said
-    → end_of ended ≡ Some end → (put_failed → whole_failed)
-    → IsEndPut end put_failed middle now status
-    → EndsAs (IsDialogue met workers dictionary) whole_failed before now status
-dialogue-ends {end = end} {before = before} {middle = middle} sink_failed ended said is written told
-    fails put =
-    ends-behind said fails (by ended written told)
-    (record { ended = ended; end_is = told; is = is }) put
-  where
-    by : (ended : ReadingEnd) → IsWritten ended sink_failed before middle said
-        → end_of ended ≡ Some end → Appends before middle said
-    by reading.SinkFailed written told = absurd (cc)
-    by _ written told = written
-
--- where it did
-pub dialogue-cut : {met : Met} {workers : ℕ} {dictionary : OwnSeen} {before now : Option (List ℕ)}
-    (sink_failed : Type 0) (ended : ReadingEnd) (said : List ℕ)
-    → HasReplied met workers dictionary ended said
-    → IsWritten ended sink_failed before now said
-    → end_of ended ≡ None → EndsAs (IsDialogue met workers dictionary) sink_failed before now 6
-dialogue-cut {before = before} {now = now} sink_failed reading.SinkFailed said is written told =
-    record {
-      text = said;
-      due = Failed NoMemory;
-      answer = record { ended = reading.NoMemory; end_is = refl; is = is };
-      end = Failed NoMemory;
-      end_is = inr refl;
-      put = Cut written.0 refl (front-longer before now said (last_line NoMemory) written.1);
-    }
-dialogue-cut sink_failed _ said is written told = absurd (cc)
-
 -- ---- what is told of the history
 
 -- by how the call ends; where the sink failed, there is no end to tell
@@ -132,112 +263,3 @@ closed-after closed status ended at told zero = ends-after closed ended at ∙ a
 pub none-after : (closed : Option Run) (ended : ReadingEnd)
     → IsClosedAt ended closed → end_of ended ≡ None → IsClosedAfter true 6 closed
 none-after closed ended at told = ends-after closed ended at ∙ ap tells told
-
--- ---- the words of `edit`
-
--- the console opened
-pub dialogue-answers : {met : Met} {names : DictionaryNamed} {workers : ℕ} {dictionary : OwnSeen}
-    {text : List ℕ} {end : End}
-    → (there : OwnFiles) × IsOwnThere met.folder names there
-    × (dictionary_due there ≡ Ok dictionary) → IsDialogue met workers dictionary text end
-    → IsAnswerTo (Some (Edit names workers)) met text end
-dialogue-answers {met} {names} {workers} {dictionary} {text} {end} (there, is, due) dialogue = record {
-  answer = Opened there dictionary is due dialogue;
-  caused = by dialogue.ended dialogue.end_is dialogue.is;
-  input = tt;
-  files = tt;
-}
-  where
-    by : (ended : ReadingEnd) → end_of ended ≡ Some end → HasReplied met workers dictionary ended text
-        → IsCaused (Some (Edit names workers)) met text end
-    by reading.Interrupted is ended = goes-on (cc) (λ input. ended.failed)
-    by reading.SinkFailed is ended = absurd (cc)
-    by _ is ended = goes-on (cc) (λ input. absurd (cc))
-
--- it did not
-pub not-opened : {met : Met} {names : DictionaryNamed} {workers : ℕ} {failure : Failure}
-    → (there : OwnFiles) × IsOwnThere met.folder names there
-    × FailsAs MayCome (dictionary_due there) failure
-    → (failure ≡ Load FailedLoad → met.files_before < met.files_after) → IsUntouched met.reading
-    → IsAnswerTo (Some (Edit names workers)) met [] (Failed failure)
-not-opened {met} {names} {workers} {failure} (there, is, fails) rose untouched =
-    let told = failure-told (dictionary-told there) fails in
-    record { answer = by fails; caused = failure-caused told rose; input = tt; files = tt }
-  where
-    by : FailsAs MayCome (dictionary_due there) failure → IsEdited met names workers [] (Failed failure)
-    by (inl comes) =
-        ⊎_elim (λ failed. FilesFailedFirst (ap Failed failed) untouched)
-        (λ wanting. WantingFirst (ap Failed wanting) refl untouched) (comes-as failure comes)
-    by (inr due) = NotOpened there failure is due refl refl untouched
-
--- ---- where nothing fails and no limit is passed
-
--- what a dictionary that is fit says
-fit-due : {met : Met} {names : DictionaryNamed} {dictionary : OwnSeen} (there : OwnFiles)
-    → IsFit met names dictionary → IsOwnThere met.folder names there
-    → dictionary_due there ≡ Ok dictionary
-fit-due {names = names} there fit is =
-    let found : there ≡ own_found_in fit.folder names =
-    subst (λ told. IsOwnThere told names there) fit.folder_is is in
-    ap dictionary_due found ∙ fit.is_due
-
--- a dictionary that is fit is loaded, unless the files fail first
-pub not-opened-whole : (workers : ℕ) {met : Met} {names : DictionaryNamed} {failure : Failure}
-    → (there : OwnFiles) × IsOwnThere met.folder names there
-    × FailsAs MayCome (dictionary_due there) failure
-    → (failure ≡ Load FailedLoad → met.files_before < met.files_after) → IsUntouched met.reading
-    → (form_of (Some (Edit names workers))).whole met [] (Failed failure)
-not-opened-whole workers {met} {names} {failure} (there, is, fails) rose untouched =
-    λ dictionary fit first reads. by dictionary fit first fails
-  where
-    by : (dictionary : OwnSeen) → IsFit met names dictionary
-        → ¬ ((met.files_before < met.files_after) × IsUntouched met.reading)
-        → FailsAs MayCome (dictionary_due there) failure
-        → IsWholeDialogue met workers dictionary [] (Failed failure)
-    by dictionary fit first (inl comes) =
-        ⊎_elim (λ failed. absurd (first (rose failed, untouched)))
-        (λ wanting. NoneReplied (ap Failed wanting) refl) (comes-as failure comes)
-    by dictionary fit first (inr due) =
-        let never : Ok dictionary ≡ Err failure = sym (fit-due there fit is) ∙ due in
-        absurd (cc)
-
--- what the law of readings says, of a dialogue
-abbrev pub AreRead : Type 0
-AreRead = (quits : List ℕ → Bool) (read : Reading) (input said : List ℕ) (ended : ReadingEnd)
-    → HasEnded quits (λ lines answers. Unit {0}) read ended said → read.before ≡ Some input
-    → IsBounded quits input
-    → ((line : List ℕ) → quits line ≡ true → IsShort line)
-    → AllByRecursion IsShort (before_quit quits (line_texts input))
-    → read.faults_after ≡ read.faults_before → (ended ≡ reading.Finished)
-    ⊎ ((ended ≡ reading.NoMemory) ⊎ (ended ≡ reading.SinkFailed))
-
--- a dialogue over an input that is fit replies to all its lines
-pub dialogue-whole : (workers : ℕ) {met : Met} {names : DictionaryNamed} {dictionary : OwnSeen}
-    {text : List ℕ} {end : End} → AreRead
-    → ((line : List ℕ) → is_quit line ≡ true → IsShort line)
-    → (there : OwnFiles) × IsOwnThere met.folder names there
-    × (dictionary_due there ≡ Ok dictionary) → IsDialogue met workers dictionary text end
-    → (form_of (Some (Edit names workers))).whole met text end
-dialogue-whole workers {met} {names} {dictionary} {text} {end} read quits_short (there, is, due)
-    dialogue =
-    λ other fit first reads.
-    let also : dictionary_due there ≡ Ok other = fit-due there fit is in
-    let same : dictionary ≡ other = cc in
-    subst (λ dictionary. IsWholeDialogue met workers dictionary text end) same
-    (by dialogue.ended dialogue.end_is dialogue.is
-    (read is_quit met.reading fit.input text dialogue.ended
-    (ended-weaker is_quit (AreReplied (setting_of met workers dictionary) met.closed) (λ lines answers. Unit {0}) met.reading
-    dialogue.ended text (λ lines said is. tt) dialogue.is)
-    fit.input_is fit.bounded quits_short fit.short reads))
-  where
-    by : (ended : ReadingEnd) → end_of ended ≡ Some end → HasReplied met workers dictionary ended text
-        → (ended ≡ reading.Finished) ⊎ ((ended ≡ reading.NoMemory) ⊎ (ended ≡ reading.SinkFailed))
-        → IsWholeDialogue met workers dictionary text end
-    by ended told is (inl finished) =
-        let quiet : Some end ≡ Some Quiet = sym told ∙ ap end_of finished in
-        AllReplied (cc) (subst (λ ended. HasReplied met workers dictionary ended text) finished is)
-    by ended told is (inr (inl wanting)) =
-        let memory : Some end ≡ Some (Failed NoMemory) = sym told ∙ ap end_of wanting in
-        SomeReplied (cc) (subst (λ ended. HasReplied met workers dictionary ended text) wanting is)
-    by ended told is (inr (inr cut)) =
-        let never : Some end ≡ None = sym told ∙ ap end_of cut in absurd (cc)

@@ -143,7 +143,7 @@ dictionary-told there =
     then-told (base_due there.dictionary) _ (base-told there.dictionary) (λ base.
     then-told (own_due base.affixes there.own) _ (own-told base.affixes there.own) (λ own. tt))
 
-in-force-told : (there : OwnFiles) → IfErr (in_force_due there) IsTold
+pub in-force-told : (there : OwnFiles) → IfErr (in_force_due there) IsTold
 unfolding in_force_due
 in-force-told there =
     then-told (dictionary_due there) _ (dictionary-told there) (λ dictionary. tt)

@@ -5,6 +5,7 @@ use Rattle.std.specs.Prelude.{Option, Some, None, is_some, Result, Ok, Err, if�
 use Rattle.std.specs.Bool.{OnFalse}
 use Rattle.std.specs.List.{AllByRecursion}
 use Rattle.outside.specs.Files.{Folder}
+use Rattle.spell_types.specs.declared.Lexicon.{Lexicon}
 use Rattle.own_dictionary.specs.Dictionaries.{OwnSeen}
 use Rattle.edit_core.specs.Runs.{Run}
 use Rattle.text_lines.specs.Lines.{line_texts}
@@ -17,12 +18,14 @@ use Rattle.input_lines.specs.declared.reading_end.ReadingEnd.{ReadingEnd}
 use Rattle.input_lines.specs.declared.reading_end.ReadingEnd.TheVariants as reading
 use Rattle.console_board.specs.Transcripts.{IsThere, is_quit}
 use Rattle.desk_dialogue.specs.Dialogues.{AreReplied, Setting}
+use Rattle.pipe_mode.specs.Pipes.{ends_input, pipe_answers}
 use Rattle.command_line.specs.Due.{Found, IsFound, IsOwnThere, OwnFiles, check_due, dictionary_due}
-use Rattle.command_line.specs.Due.{forms_due, make_due, own_found_in}
+use Rattle.command_line.specs.Due.{forms_due, in_force_due, make_due, own_found_in}
 use Rattle.command_line.specs.Failures.{is_fault}
 use Rattle.command_line.specs.Operands.{DictionaryNamed}
 use Rattle.command_line.specs.declared.requests.Request.{Request}
 use Rattle.command_line.specs.declared.requests.Request.TheVariants.{Check, Make, Edit, Listing}
+use Rattle.command_line.specs.declared.requests.Request.TheVariants.{Pipe}
 use Rattle.command_line.specs.declared.ending.End.{End}
 use Rattle.command_line.specs.declared.ending.End.TheVariants.{Quiet, Marked, Failed}
 use Rattle.command_line.specs.declared.failure.Failure.{Failure}
@@ -111,7 +114,86 @@ report_form names_files may_be_due = record {
       → met.files_after ≡ met.files_before → IsWholeReport printed text end;
 }
 
--- ---- forms that begin a dialogue
+-- ---- forms that read the input
+
+-- how a call ends where the reading of its input ends so; where the sink fails, nothing is told
+abbrev pub end_of : ReadingEnd → Option End
+end_of reading.Finished = Some Quiet
+end_of reading.Interrupted = Some (Failed Input)
+end_of reading.TooMuch = Some (Failed (Limit INPUT_LIMIT))
+end_of reading.LongLine = Some (Failed (Limit LINE_LIMIT))
+end_of reading.NoMemory = Some (Failed NoMemory)
+end_of reading.SinkFailed = None
+
+-- what may be said of the lines of an input and their answers, by what is met outside and by what
+-- was opened for them
+abbrev pub Answering : Type 0 → Type 1
+Answering T = Met → T → List (List ℕ) → List ℕ → Type 0
+
+-- the lines of the input have had these answers, and then its reading ended, which ends the call
+pub record IsDialogue (read : Reading) (quits : List ℕ → Bool)
+    (answered : List (List ℕ) → List ℕ → Type 0) (text : List ℕ) (end : End) : Type 0 where
+  pub ended : ReadingEnd
+  pub end_is : end_of ended ≡ Some end
+  pub is : HasEnded quits answered read ended text
+
+-- How words may be answered that ask for a dialogue by a dictionary: it is due that this opens, and
+-- the lines were answered; or before that it is due that the dictionary is refused, the files
+-- failed, or memory was wanting.
+pub data IsOpened {T : Type 0} (met : Met) (names : DictionaryNamed)
+    (due : OwnFiles → Result T Failure) (quits : List ℕ → Bool) (answered : Answering T)
+    (text : List ℕ) (end : End) : Type 0 where
+  Opened : (there : OwnFiles) (opened : T)
+      → IsOwnThere met.folder names there → due there ≡ Ok opened
+      → IsDialogue met.reading quits (answered met opened) text end
+      → IsOpened met names due quits answered text end
+  NotOpened : (there : OwnFiles) (failure : Failure)
+      → IsOwnThere met.folder names there → due there ≡ Err failure
+      → end ≡ Failed failure → text ≡ [] → IsUntouched met.reading
+      → IsOpened met names due quits answered text end
+  FilesFailedFirst : end ≡ Failed (Load FailedLoad) → IsUntouched met.reading
+      → IsOpened met names due quits answered text end
+  WantingFirst : end ≡ Failed NoMemory → text ≡ [] → IsUntouched met.reading
+      → IsOpened met names due quits answered text end
+
+-- the files failed before anything was taken of the input
+abbrev pub FailedFirst : Met → Type 0
+FailedFirst met = (met.files_before < met.files_after) × IsUntouched met.reading
+
+-- all lines were answered, or memory was wanting
+pub data IsWholeDialogue (read : Reading) (quits : List ℕ → Bool)
+    (answered : List (List ℕ) → List ℕ → Type 0) (text : List ℕ) (end : End) : Type 0 where
+  AllAnswered : end ≡ Quiet → HasEnded quits answered read reading.Finished text
+      → IsWholeDialogue read quits answered text end
+  SomeAnswered : end ≡ Failed NoMemory → HasEnded quits answered read reading.NoMemory text
+      → IsWholeDialogue read quits answered text end
+  NoneAnswered : end ≡ Failed NoMemory → text ≡ []
+      → IsWholeDialogue read quits answered text end
+
+-- the folder has what the dialogue is opened by, and the input passes no limit
+pub record IsFit {T : Type 0} (met : Met) (names : DictionaryNamed)
+    (due : OwnFiles → Result T Failure) (quits : List ℕ → Bool) (opened : T) : Type 0 where
+  pub folder : Folder
+  pub folder_is : met.folder ≡ Some folder
+  pub is_due : due (own_found_in folder names) ≡ Ok opened
+  pub input : List ℕ
+  pub input_is : met.reading.before ≡ Some input
+  pub bounded : IsBounded quits input
+  pub short : AllByRecursion IsShort (before_quit quits (line_texts input))
+
+-- A form of words that asks for a dialogue, by what is due of the files that are named. Where that
+-- is fit, nothing fails and no limit is passed, all lines are answered.
+abbrev pub dialogue_form : {T : Type 0} → Bool → DictionaryNamed → (OwnFiles → Result T Failure)
+    → (List ℕ → Bool) → Answering T → Form
+dialogue_form {T} opens_desk names due quits answered = record {
+  names_files = true;
+  reads_input = true;
+  opens_desk = opens_desk;
+  answers = λ met text end. IsOpened met names due quits answered text end;
+  whole = λ met text end. (opened : T) → IsFit met names due quits opened
+      → ¬ (FailedFirst met) → met.reading.faults_after ≡ met.reading.faults_before
+      → IsWholeDialogue met.reading quits (answered met opened) text end;
+}
 
 -- a dialogue of a console that opens with a dictionary, beside so many workers
 abbrev pub setting_of : Met → ℕ → OwnSeen → Setting
@@ -123,67 +205,14 @@ setting_of met workers dictionary = record {
   failed_now = met.files_after;
 }
 
--- the reading of the input of a dialogue has ended so
-abbrev pub HasReplied : Met → ℕ → OwnSeen → ReadingEnd → List ℕ → Type 0
-HasReplied met workers dictionary ended text =
-    HasEnded is_quit (AreReplied (setting_of met workers dictionary) met.closed) met.reading ended
-    text
+-- the console has replied so to these lines
+abbrev pub HasReplied : ℕ → Answering OwnSeen
+HasReplied workers met dictionary lines said =
+    AreReplied (setting_of met workers dictionary) met.closed lines said
 
--- how a dialogue ends where its reading ends so; where the sink fails, nothing is told
-abbrev pub end_of : ReadingEnd → Option End
-end_of reading.Finished = Some Quiet
-end_of reading.Interrupted = Some (Failed Input)
-end_of reading.TooMuch = Some (Failed (Limit INPUT_LIMIT))
-end_of reading.LongLine = Some (Failed (Limit LINE_LIMIT))
-end_of reading.NoMemory = Some (Failed NoMemory)
-end_of reading.SinkFailed = None
-
--- a console that has opened with a dictionary has replied so, and then the reading of the input
--- ended
-pub record IsDialogue (met : Met) (workers : ℕ) (dictionary : OwnSeen) (text : List ℕ)
-    (end : End) : Type 0 where
-  pub ended : ReadingEnd
-  pub end_is : end_of ended ≡ Some end
-  pub is : HasReplied met workers dictionary ended text
-
--- how the words of `edit` may be answered: the console that opens has replied; or before that it is
--- due that the dictionary is refused, the files failed, or memory was wanting
-pub data IsEdited (met : Met) (names : DictionaryNamed) (workers : ℕ) (text : List ℕ) (end : End)
-    : Type 0 where
-  Opened : (there : OwnFiles) (dictionary : OwnSeen)
-      → IsOwnThere met.folder names there → dictionary_due there ≡ Ok dictionary
-      → IsDialogue met workers dictionary text end → IsEdited met names workers text end
-  NotOpened : (there : OwnFiles) (failure : Failure)
-      → IsOwnThere met.folder names there → dictionary_due there ≡ Err failure
-      → end ≡ Failed failure → text ≡ [] → IsUntouched met.reading
-      → IsEdited met names workers text end
-  FilesFailedFirst : end ≡ Failed (Load FailedLoad) → IsUntouched met.reading
-      → IsEdited met names workers text end
-  WantingFirst : end ≡ Failed NoMemory → text ≡ [] → IsUntouched met.reading
-      → IsEdited met names workers text end
-
--- the files failed before anything was taken of the input
-abbrev pub FailedFirst : Met → Type 0
-FailedFirst met = (met.files_before < met.files_after) × IsUntouched met.reading
-
--- all lines were replied to, or memory was wanting
-pub data IsWholeDialogue (met : Met) (workers : ℕ) (dictionary : OwnSeen) (text : List ℕ)
-    (end : End) : Type 0 where
-  AllReplied : end ≡ Quiet → HasReplied met workers dictionary reading.Finished text
-      → IsWholeDialogue met workers dictionary text end
-  SomeReplied : end ≡ Failed NoMemory → HasReplied met workers dictionary reading.NoMemory text
-      → IsWholeDialogue met workers dictionary text end
-  NoneReplied : end ≡ Failed NoMemory → text ≡ [] → IsWholeDialogue met workers dictionary text end
-
--- the folder has the dictionary and the list that is named, and the input passes no limit
-pub record IsFit (met : Met) (names : DictionaryNamed) (dictionary : OwnSeen) : Type 0 where
-  pub folder : Folder
-  pub folder_is : met.folder ≡ Some folder
-  pub is_due : dictionary_due (own_found_in folder names) ≡ Ok dictionary
-  pub input : List ℕ
-  pub input_is : met.reading.before ≡ Some input
-  pub bounded : IsBounded is_quit input
-  pub short : AllByRecursion IsShort (before_quit is_quit (line_texts input))
+-- the pipe has answered these lines so
+abbrev pub HasPiped : Answering Lexicon
+HasPiped met lexicon lines said = said ≡ pipe_answers lexicon lines
 
 -- ---- all forms
 
@@ -203,15 +232,10 @@ form_of (Some (Check names workers)) =
 -- `make START SIZE`
 form_of (Some (Make asked)) = report_form false (λ met due. due ≡ make_due asked)
 -- `edit AFF DIC` and options
-form_of (Some (Edit names workers)) = record {
-  names_files = true;
-  reads_input = true;
-  opens_desk = true;
-  answers = λ met text end. IsEdited met names workers text end;
-  whole = λ met text end. (dictionary : OwnSeen) → IsFit met names dictionary
-      → ¬ (FailedFirst met) → met.reading.faults_after ≡ met.reading.faults_before
-      → IsWholeDialogue met workers dictionary text end;
-}
+form_of (Some (Edit names workers)) =
+    dialogue_form true names dictionary_due is_quit (HasReplied workers)
+-- `pipe AFF DIC`
+form_of (Some (Pipe names)) = dialogue_form false names in_force_due ends_input HasPiped
 -- `forms AFF DIC`
 form_of (Some (Listing names)) =
     report_form true

@@ -8,6 +8,7 @@ use Rattle.text_lines.specs.Fields.{decimal_of}
 use Rattle.command_line.specs.Operands.{DictionaryNamed, Said, StartAndSize}
 use Rattle.command_line.specs.declared.requests.Request.{Request}
 use Rattle.command_line.specs.declared.requests.Request.TheVariants.{Check, Make, Edit, Listing}
+use Rattle.command_line.specs.declared.requests.Request.TheVariants.{Pipe}
 use Rattle.command_line.specs.declared.limits.TheConstants.{MOST_WORKERS}
 
 -- ---- options
@@ -82,6 +83,11 @@ abbrev pub listing_in : List (List ℕ) → Option Request
 listing_in (aff ∷ dic ∷ []) = Some (Listing (record { aff = aff; dic = dic }))
 listing_in _ = None
 
+-- `pipe AFF DIC`
+abbrev pub pipe_in : List (List ℕ) → Option Request
+pipe_in (aff ∷ dic ∷ []) = Some (Pipe (record { aff = aff; dic = dic; own = None }))
+pipe_in _ = None
+
 -- what these words ask for, if they are of one of the forms
 abbrev pub asked_in : List (List ℕ) → Option Request
 asked_in [] = None
@@ -90,4 +96,5 @@ asked_in (name ∷ operands) =
     else (if bytes_eq name (codes "make") then make_in operands
     else (if bytes_eq name (codes "edit") then edit_in operands
     else (if bytes_eq name (codes "forms") then listing_in operands
-    else None)))
+    else (if bytes_eq name (codes "pipe") then pipe_in operands
+    else None))))

@@ -3,11 +3,13 @@
 ghost use Rattle.std.specs.Prelude.{◌≡◌, ◌==◌, ◌<◌, ◌≤◌, ◌++◌, Ok, false};
 ghost use Rattle.std.specs.String.{string_bytes};
 ghost use Rattle.command_line.specs.Ends.{IsEndPut, IsOrWanting, IsPut, is_quiet, status_at, tail_of};
+ghost use Rattle.command_line.specs.Forms.{end_of};
 ghost use Rattle.command_line.specs.Given.{end_by, text_by};
 
 use crate::failure::Failure;
 use board_share::Closed;
 use document_report::Report;
+use input_lines::{INPUT_LIMIT, LINE_LIMIT, ReadingEnd};
 use outside::Sink;
 use std::alloc::{AllocError, Global};
 use word_verdict::Speller;
@@ -124,4 +126,21 @@ fn put_report<K: Sink>(out: &mut K, report: &Report) -> u8
         End::Marked
     };
     put(out, report.text.as_bytes(), end.status())
+}
+
+/// How a call ends where the reading of its input ends so. Where the sink failed, nothing more is
+/// written.
+pub fn end_of(ended: ReadingEnd) -> Option<End>
+    ensures { result ≡ end_of ended }
+{
+    match ended {
+        ReadingEnd::Finished => Some(End::Quiet),
+        ReadingEnd::Interrupted => Some(End::Failed(Failure::Input)),
+        ReadingEnd::TooMuch => Some(End::Failed(Failure::Limit { limit: INPUT_LIMIT })),
+        ReadingEnd::LongLine => Some(End::Failed(Failure::Limit {
+            limit: LINE_LIMIT as u64,
+        })),
+        ReadingEnd::NoMemory => Some(End::Failed(Failure::NoMemory)),
+        ReadingEnd::SinkFailed => None,
+    }
 }

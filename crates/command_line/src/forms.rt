@@ -4,3 +4,4 @@ pub mod check;
 pub mod edit;
 pub mod listing;
 pub mod make;
+pub mod pipe;

@@ -8,6 +8,7 @@ use crate::forms::check::{CheckNames, check_of};
 use crate::forms::edit::edit_of;
 use crate::forms::listing::{ListedNames, listing_of};
 use crate::forms::make::{Making, make_of};
+use crate::forms::pipe::pipe_of;
 use crate::names::DictionaryNames;
 use crate::options::Workers;
 
@@ -24,6 +25,7 @@ pub enum Request<'a> {
         workers: Workers,
     },
     Listing(ListedNames<'a>),
+    Pipe(DictionaryNames<'a>),
 }
 
 /// What the words ask for, if they are of one of the forms.
@@ -36,6 +38,7 @@ pub fn request_of(words: &[String]) -> Option<Request<'_>>
         "make" => make_of(operands),
         "edit" => edit_of(operands),
         "forms" => listing_of(operands),
+        "pipe" => pipe_of(operands),
         _ => None,
     }
 }

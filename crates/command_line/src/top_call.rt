@@ -19,6 +19,7 @@ use crate::forms::check::check;
 use crate::forms::edit::edit;
 use crate::forms::listing::list_forms;
 use crate::forms::make::make;
+use crate::forms::pipe::pipe;
 use crate::requests::{Request, request_of};
 use desk_dialogue::Place;
 use outside::{Files, Gate, Sink, Source};
@@ -149,6 +150,7 @@ where
         Some(Request::Make(making)) => told(make(rt, alloc, making, out)),
         Some(Request::Edit { names, workers }) => edit(place, names, workers, files, input, out),
         Some(Request::Listing(names)) => told(list_forms(alloc, names, files, out)),
+        Some(Request::Pipe(names)) => told(pipe(alloc, names, files, input, out)),
         None => told(tell_words(alloc, out)),
     }
 }
@@ -240,6 +242,7 @@ fn answer_unread<R: Threads + Sync, F: Files, K: Sink>(
         Some(Request::Make(making)) => make(rt, alloc, making, out),
         Some(Request::Listing(names)) => list_forms(alloc, names, files, out),
         Some(Request::Edit { .. }) => tell_words(alloc, out),
+        Some(Request::Pipe(_)) => tell_words(alloc, out),
         None => tell_words(alloc, out),
     }
 }

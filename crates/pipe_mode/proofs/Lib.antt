@@ -1,3 +1,4 @@
 pub mod LeastLemmas
 pub mod LineLemmas
+pub mod PipeLemmas
 pub mod StemLemmas

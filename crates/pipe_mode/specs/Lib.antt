@@ -1,3 +1,4 @@
 pub mod Answers
+pub mod Pipes
 pub mod Prepared
 pub mod Stems

@@ -29,11 +29,13 @@ ghost use Rattle.pipe_mode.specs.Answers.{pipe_answer_of};
 
 mod cases;
 mod lines;
+mod pipe;
 mod stems;
 mod words;
 
 use lines::{begins_with, text_answer};
 use lists::NoMemory;
+pub use pipe::Pipe;
 use std::alloc::Global;
 pub use stems::told_derivations_are_least;
 use text_lines::Text;

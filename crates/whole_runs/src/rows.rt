@@ -47,6 +47,7 @@ pub mod numbers;
 pub mod onlyincompound;
 pub mod own;
 pub mod pfx_sfx;
+pub mod pipe;
 pub mod put_and_sub;
 pub mod quit;
 pub mod rep;

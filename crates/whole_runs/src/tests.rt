@@ -144,6 +144,13 @@ fn dialogues(rt: HostRuntime) -> Result<(), Fail> {
     Ok(())
 }
 
+/// Lines of words.
+#[test]
+fn piped_lines(rt: HostRuntime) -> Result<(), Fail> {
+    run_rows(&rt, rt.alloc(), rows::pipe::ROWS)?;
+    Ok(())
+}
+
 /// The largest files, and the longest lines.
 #[test]
 fn limits(rt: HostRuntime) -> Result<(), Fail> {

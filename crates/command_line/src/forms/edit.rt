@@ -5,19 +5,20 @@ ghost use Rattle.std.specs.Prelude.{◌≡◌, ◌<◌, ◌≤◌, ℕ, Option, 
 ghost use Rattle.std.specs.String.{string_bytes};
 ghost use Rattle.outside.specs.Files.{Folder};
 ghost use Rattle.command_line.specs.Ends.{EndsAs};
-ghost use Rattle.command_line.specs.Forms.{IsAnswerTo, IsClosedAfter, IsDialogue, end_of, form_of};
+ghost use Rattle.console_board.specs.Transcripts.{is_quit};
+ghost use Rattle.desk_dialogue.specs.Dialogues.{AreReplied};
+ghost use Rattle.command_line.specs.Forms.{IsAnswerTo, IsClosedAfter, IsDialogue, form_of};
 ghost use Rattle.command_line.specs.Requests.{edit_in};
 ghost use Rattle.command_line.specs.declared.requests.Request.TheVariants.{Edit};
 
-use crate::ending::{End, Ended, SINK_FAILED, put_end};
-use crate::failure::Failure;
+use crate::ending::{End, Ended, SINK_FAILED, end_of, put_end};
 use crate::loading::load_dictionary;
 use crate::names::{DictionaryNames, named};
 use crate::options::{Workers, options_of};
 use crate::requests::Request;
 use console_board::quits_are_short;
 use desk_dialogue::{Place, converse};
-use input_lines::{INPUT_LIMIT, LINE_LIMIT, ReadingEnd, fitting_inputs_are_read};
+use input_lines::fitting_inputs_are_read;
 use outside::{Files, Gate, Sink, Source};
 use own_dictionary::OwnDictionary;
 use std::sync::Wait;
@@ -117,17 +118,17 @@ where
     ensures dialogue { (folder : Option Folder) (files_before : ℕ) → folder ≡ F.told files.old
         → files_before ≤ F.Files.faults files.old
         → EndsAs (IsDialogue (record {
+          before = S.left input.old;
+          after = S.left input.new;
+          faults_before = S.Source.faults input.old;
+          faults_after = S.Source.faults input.new;
+        }) is_quit (AreReplied (record {
+          workers = workers;
+          dictionary = dictionary;
           folder = folder;
-          files_before = files_before;
-          files_after = F.Files.faults files.new;
-          reading = record {
-            before = S.left input.old;
-            after = S.left input.new;
-            faults_before = S.Source.faults input.old;
-            faults_after = S.Source.faults input.new;
-          };
-          closed = result.closed;
-        }) workers dictionary) (K.Sink.faults out.old < K.Sink.faults out.new)
+          failed = files_before;
+          failed_now = F.Files.faults files.new;
+        }) result.closed)) (K.Sink.faults out.old < K.Sink.faults out.new)
         (K.written out.old) (K.written out.new) result.status }
     ensures closed { IsClosedAfter true result.status result.closed }
     ensures same { F.told files.new ≡ F.told files.old }
@@ -146,21 +147,5 @@ where
             status: SINK_FAILED,
             closed: done.closed,
         },
-    }
-}
-
-/// How a dialogue ends where its reading ends so. Where the sink failed, nothing more is written.
-fn end_of(ended: ReadingEnd) -> Option<End>
-    ensures { result ≡ end_of ended }
-{
-    match ended {
-        ReadingEnd::Finished => Some(End::Quiet),
-        ReadingEnd::Interrupted => Some(End::Failed(Failure::Input)),
-        ReadingEnd::TooMuch => Some(End::Failed(Failure::Limit { limit: INPUT_LIMIT })),
-        ReadingEnd::LongLine => Some(End::Failed(Failure::Limit {
-            limit: LINE_LIMIT as u64,
-        })),
-        ReadingEnd::NoMemory => Some(End::Failed(Failure::NoMemory)),
-        ReadingEnd::SinkFailed => None,
     }
 }

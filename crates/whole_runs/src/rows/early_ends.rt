@@ -70,4 +70,18 @@ closed 1 1
 < text 1 dict 1
 < 1 0 5 hello
 < .
+
+words pipe a.aff a.dic
+> hello wrold
+< *
+< # wrold 6
+< 
+> tried
+< + try
+< 
+> !
+> rework wurk
+< # wurk 7
+< 
+> %
 ";

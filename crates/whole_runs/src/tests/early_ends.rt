@@ -147,15 +147,18 @@ fn assert_cuts<R: Threads + Wait + Sync + Abort>(
     Ok(())
 }
 
-/// The first dialogue has 110 bytes with `quit`, which seven reads bring; the second 86, and is
-/// read to its end.
+/// The first dialogue has 110 bytes with `quit`, which seven reads bring; the second 86, and the
+/// third, of `pipe`, 34; both are read to their end.
 #[test]
 fn ends_where_the_outside_fails(rt: HostRuntime) -> Result<(), Fail> {
     let alloc = rt.alloc();
     assert_failing_reads(&rt, alloc, block(0), 7)?;
     assert_failing_reads(&rt, alloc, block(1), 7)?;
+    assert_failing_reads(&rt, alloc, block(2), 4)?;
     assert_failing_puts(&rt, alloc, block(0), 6)?;
     assert_failing_puts(&rt, alloc, block(1), 4)?;
+    assert_failing_puts(&rt, alloc, block(2), 2)?;
     assert_cuts(&rt, alloc, block(1))?;
+    assert_cuts(&rt, alloc, block(2))?;
     Ok(())
 }

@@ -44,15 +44,17 @@ fn holds_no_more_than_is_allowed(rt: HostRuntime) -> Result<(), Fail> {
     Ok(())
 }
 
-/// What does without an input does not know the words of `edit`.
+/// What does without an input does not know the words of `edit` and `pipe`.
 #[test]
-fn a_check_alone_does_not_edit(rt: HostRuntime) -> Result<(), Fail> {
+fn a_check_alone_reads_no_input(rt: HostRuntime) -> Result<(), Fail> {
     let alloc = rt.alloc();
-    let words = words_of(alloc, ">")?;
-    let mut files = files_of(alloc, ">")?;
-    let mut out = MemSink::new(alloc, Vec::new(alloc), 0);
-    let status = run_check(&rt, alloc, &words, &mut files, &mut out);
-    assert_eq!(rt; out.written(), b"affedit: words\n".as_slice());
-    assert_eq!(rt; status, 2);
+    for given in [">", ">\nwords pipe a.aff a.dic"] {
+        let words = words_of(alloc, given)?;
+        let mut files = files_of(alloc, given)?;
+        let mut out = MemSink::new(alloc, Vec::new(alloc), 0);
+        let status = run_check(&rt, alloc, &words, &mut files, &mut out);
+        assert_eq!(rt; out.written(), b"affedit: words\n".as_slice());
+        assert_eq!(rt; status, 2);
+    }
     Ok(())
 }

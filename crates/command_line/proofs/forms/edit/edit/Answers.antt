@@ -1,8 +1,11 @@
 -- The dictionary is refused, or the dialogue is that of a console that opens with it.
 use Rattle.std.proofs.Common.{[], ap, arith, refl, sym, Err}
 use Rattle.outside.specs.Laws.{appends-none}
-use Rattle.command_line.proofs.DialogueLemmas.{dialogue-answers, dialogue-whole, not-opened}
-use Rattle.command_line.proofs.DialogueLemmas.{not-opened-whole}
+use Rattle.command_line.specs.Due.{dictionary_due}
+use Rattle.command_line.specs.Forms.{HasReplied, Opened}
+use Rattle.command_line.proofs.DialogueLemmas.{dialogue-caused, dialogue-whole, not-opened}
+use Rattle.command_line.proofs.DialogueLemmas.{not-opened-caused, not-opened-whole}
+use Rattle.command_line.proofs.DueLemmas.{dictionary-told}
 use Rattle.command_line.proofs.EndLemmas.{ends-behind, ends-weaker}
 use Rattle.command_line.proofs.forms.edit.edit.Goals as goal
 
@@ -10,7 +13,12 @@ pub returns-in-Ok-clause-due : goal.returns-in-Ok-clause-due
 returns-in-Ok-clause-due g c =
     let opened = c.in-Ok.ensures in
     let counted = opened.count in
-    ends-weaker (λ failed. failed) (λ text due is. dialogue-answers opened.due is)
+    ends-weaker (λ failed. failed) (λ text due is. record {
+      answer = Opened opened.due.0 _ opened.due.1 opened.due.2 is;
+      caused = dialogue-caused is;
+      input = tt;
+      files = tt;
+    })
     (c.talk.ensures.dialogue (g.F.Files.told c.args.files.now)
     (g.F.Files.faults c.args.files.now) (sym opened.same) counted)
 
@@ -19,20 +27,28 @@ returns-in-Ok-clause-complete g c = λ same.
     let opened = c.in-Ok.ensures in
     let counted = opened.count in
     ends-weaker (λ failed. omega (arith, failed, same))
-    (λ text due is. dialogue-whole c.args.workers c.fitting_inputs_are_read.ensures
-    c.quits_are_short.ensures opened.due is)
+    (λ text due is. λ other fit first reads.
+    dialogue-whole dictionary_due (HasReplied c.args.workers)
+    c.fitting_inputs_are_read.ensures c.quits_are_short.ensures opened.due is other fit reads)
     (c.talk.ensures.dialogue (g.F.Files.told c.args.files.now)
     (g.F.Files.faults c.args.files.now) (sym opened.same) counted)
 
 pub returns-in-Err-clause-due : goal.returns-in-Err-clause-due
 returns-in-Err-clause-due g c =
-    ends-behind [] (λ failed. failed) (appends-none (g.K.Sink.written c.args.out.now))
-    (not-opened c.in-Err.ensures.due (λ is. c.in-Err.ensures.failed (ap Err is))
-    (record { same = refl; count = refl })) c.put_end.ensures.puts
+    let fails = c.in-Err.ensures in
+    ends-behind [] (λ failed. failed) (appends-none (g.K.Sink.written c.args.out.now)) (record {
+      answer = not-opened fails.due (record { same = refl; count = refl });
+      caused = not-opened-caused c.args.names dictionary_due dictionary-told fails.due (λ is. fails.failed (ap Err is));
+      input = tt;
+      files = tt;
+    }) c.put_end.ensures.puts
 
 pub returns-in-Err-clause-complete : goal.returns-in-Err-clause-complete
 returns-in-Err-clause-complete g c = λ same.
+    let fails = c.in-Err.ensures in
     ends-behind [] (λ failed. omega (arith, failed, same))
     (appends-none (g.K.Sink.written c.args.out.now))
-    (not-opened-whole c.args.workers c.in-Err.ensures.due (λ is. c.in-Err.ensures.failed (ap Err is))
-    (record { same = refl; count = refl })) c.put_end.ensures.puts
+    (λ opened fit first reads.
+    not-opened-whole dictionary_due (HasReplied c.args.workers) fails.due (λ is. fails.failed (ap Err is))
+    (record { same = refl; count = refl }) opened fit first)
+    c.put_end.ensures.puts
