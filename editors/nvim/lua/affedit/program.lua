@@ -1,0 +1,262 @@
+-- One process `affedit edit AFF DIC --own OWN`, and the dialogue with it (docs/CONSOLE.md). Between requests its text has no
+-- paragraphs: a request inserts its lines, has them checked and shown, and deletes them. Answers come in the order of requests.
+local uv = vim.loop
+local M = {}
+local Program = {}
+Program.__index = Program
+
+-- A paragraph has at most so many bytes.
+M.paragraph_bytes = 65536
+
+-- A process that owes an answer and writes nothing for so many milliseconds is killed.
+M.silence = 60000
+
+-- The places at which a text is cut into paragraphs: behind spaces and tabs, which are of no word. Nil where it cannot be cut.
+local function cuts(text)
+    local starts, from = { 0 }, 0
+    while #text - from > M.paragraph_bytes do
+        local at = from + M.paragraph_bytes
+        while at > from do
+            local byte = text:byte(at)
+            if byte == 32 or byte == 9 then
+                break
+            end
+            at = at - 1
+        end
+        if at == from then
+            return nil
+        end
+        from = at
+        starts[#starts + 1] = from
+    end
+    return starts
+end
+
+-- Starts the process. `ended(code, signal, last)` is called once, on the main loop, when it is gone, and has to call `fail`: `last` is
+-- the line that it ended with. Returns nil and a reason where there is nothing to start.
+function M.start(words, ended)
+    local self = setmetatable({ requests = {}, first = 1, last = 0, tail = '', sent = 0, answered = 0 }, Program)
+    local environment = {}
+    for name, value in pairs(vim.fn.environ()) do
+        environment[#environment + 1] = name .. '=' .. value
+    end
+    environment[#environment + 1] = 'AFFEDIT_NO_BUILD=1'
+    self.input, self.output = uv.new_pipe(false), uv.new_pipe(false)
+    self.watch = uv.new_timer()
+    local left = 2
+    local function finish()
+        left = left - 1
+        if left == 0 then
+            vim.schedule(function()
+                ended(self.code, self.signal, self.told)
+            end)
+        end
+    end
+    local arguments = vim.list_slice(words, 2)
+    local options = { args = arguments, stdio = { self.input, self.output, nil }, env = environment, hide = true }
+    local handle, pid = uv.spawn(words[1], options, function(code, signal)
+        self.code, self.signal = code, signal
+        self.input:close()
+        self.handle:close()
+        self.watch:close()
+        finish()
+    end)
+    if not handle then
+        self.input:close()
+        self.output:close()
+        self.watch:close()
+        return nil, tostring(pid)
+    end
+    self.handle, self.pid, self.heard = handle, pid, uv.now()
+    self.watch:start(M.silence / 4, M.silence / 4, function()
+        if self:is_waiting() and uv.now() - self.heard > M.silence then
+            self.told = 'no answer for ' .. M.silence / 1000 .. ' seconds'
+            self.handle:kill(9)
+        end
+    end)
+    self.output:read_start(function(_, data)
+        if data then
+            self:take(data)
+        else
+            self.output:close()
+            finish()
+        end
+    end)
+    return self
+end
+
+-- Every request that waits is told that no answer comes, and none is taken any more.
+function Program:fail()
+    local requests, first, last = self.requests, self.first, self.last
+    self.requests, self.first, self.last = {}, 1, 0
+    for at = first, last do
+        if not requests[at].complete then
+            requests[at].complete = true
+            requests[at].done(nil)
+        end
+    end
+end
+
+function Program:push(request, lines)
+    if not self:is_waiting() then
+        self.heard = uv.now()
+    end
+    self.last = self.last + 1
+    self.requests[self.last] = request
+    local message = table.concat(lines, '\n') .. '\n'
+    self.sent = self.sent + #message
+    if not self.input:is_closing() then
+        self.input:write(message)
+    end
+end
+
+function Program:is_waiting()
+    return self.first <= self.last
+end
+
+-- One command with one line of answer, which `done` gets.
+function Program:command(line, done)
+    self:push({ done = done, left = 0, skip = 0 }, { line })
+end
+
+-- Checks texts: `done` gets a list with the answer to each, as `memo` has them, or nil where the process ended.
+function Program:ask(texts, done)
+    local request = { done = done, answers = {}, owners = {}, offsets = {}, stands = {}, at = 0 }
+    local lines, paragraphs = {}, 0
+    for index, text in ipairs(texts) do
+        local starts = #text <= M.paragraph_bytes and { 0 } or cuts(text)
+        request.answers[index] = starts and {} or 'TooLong'
+        for number, from in ipairs(starts or {}) do
+            local piece = text
+            if #starts > 1 then
+                piece = text:sub(from + 1, starts[number + 1] or #text)
+            end
+            paragraphs = paragraphs + 1
+            lines[paragraphs] = 'ins 1 ' .. piece:gsub('\n', '\0')
+            request.owners[paragraphs], request.offsets[paragraphs] = index, from
+        end
+    end
+    request.left, request.skip = paragraphs, paragraphs
+    lines[paragraphs + 1], lines[paragraphs + 2] = 'settle', 'show'
+    for number = 1, paragraphs do
+        lines[paragraphs + 2 + number] = 'del 1'
+    end
+    self:push(request, lines)
+end
+
+-- The answer to one `ins`: a line that is refused stands nowhere, so those that stand are counted.
+local function inserted(request, line)
+    request.at = request.at + 1
+    request.left = request.left - 1
+    if line:sub(1, 3) == 'ok ' then
+        request.stands[#request.stands + 1] = request.at
+    else
+        request.answers[request.owners[request.at]] = line:match('^no (%a+)') or line
+    end
+end
+
+-- One mark `P S E WORD`. Each line was inserted before those that stood, so paragraph P is the P-th of them from the last.
+local function marked(request, line)
+    local paragraph, start, stop = line:match('^(%d+) (%d+) (%d+) ')
+    local at = paragraph and request.stands[#request.stands + 1 - tonumber(paragraph)]
+    if not at then
+        return
+    end
+    local answer, offset = request.answers[request.owners[at]], request.offsets[at]
+    if type(answer) == 'table' then
+        answer[#answer + 1], answer[#answer + 2] = start + offset, stop + offset
+    end
+end
+
+-- Paragraphs are shown in the reverse order, so a line that was cut has its pieces the wrong way round.
+local function in_order(request)
+    for index, answer in ipairs(request.answers) do
+        local ordered = true
+        for at = 3, type(answer) == 'table' and #answer or 0, 2 do
+            ordered = ordered and answer[at] > answer[at - 2]
+        end
+        if not ordered then
+            local starts, stops, sorted = {}, {}, {}
+            for at = 1, #answer, 2 do
+                starts[#starts + 1] = answer[at]
+                stops[answer[at]] = answer[at + 1]
+            end
+            table.sort(starts)
+            for _, start in ipairs(starts) do
+                sorted[#sorted + 1], sorted[#sorted + 2] = start, stops[start]
+            end
+            request.answers[index] = sorted
+        end
+    end
+end
+
+function Program:complete(request, result)
+    self.answered = self.answered + 1
+    request.complete = true
+    vim.schedule(function()
+        -- By now another process may have taken the place of this one, and another dictionary.
+        request.done(not self.is_void and result or nil)
+    end)
+    if request.skip == 0 then
+        self:drop()
+    end
+end
+
+function Program:drop()
+    self.requests[self.first] = nil
+    self.first = self.first + 1
+end
+
+-- One line of what the process writes.
+function Program:line(line)
+    local request = self.requests[self.first]
+    local kind = line:match('^%d') and 'mark' or line:match('^(%l*) ') or line
+    if not (kind == 'mark' or kind == 'ok' or kind == 'no' or kind == 'dict' or kind == 'text' or kind == '.') or not request then
+        self.told = line
+    elseif request.complete then
+        request.skip = request.skip - 1
+        if request.skip == 0 then
+            self:drop()
+        end
+    elseif not request.answers then
+        self:complete(request, line)
+    elseif request.left > 0 then
+        inserted(request, line)
+    elseif kind == 'mark' then
+        marked(request, line)
+    elseif line == '.' then
+        in_order(request)
+        self:complete(request, request.answers)
+    end
+end
+
+function Program:take(data)
+    self.heard = uv.now()
+    data = self.tail .. data
+    local from = 1
+    while true do
+        local stop = data:find('\n', from, true)
+        if not stop then
+            break
+        end
+        self:line(data:sub(from, stop - 1))
+        from = stop + 1
+    end
+    self.tail = data:sub(from)
+end
+
+-- What it has answered, and is not taken yet, does not count either.
+function Program:void()
+    self.is_void = true
+    self:quit()
+    self:fail()
+end
+
+-- The process ends when it has answered what it was asked.
+function Program:quit()
+    if not self.input:is_closing() then
+        self.input:write('quit\n')
+    end
+end
+
+return M

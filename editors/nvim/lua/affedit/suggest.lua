@@ -1,0 +1,43 @@
+-- Suggestions, only when they are asked for: by `hunspell -a`, where it is installed. Affedit itself suggests nothing.
+local marks = require('affedit.marks')
+local service = require('affedit.service')
+local M = {}
+
+-- The suggestions of hunspell for a word, or nil and a reason.
+function M.of(word)
+    if vim.fn.executable('hunspell') == 0 then
+        return nil, 'there is no hunspell, so there are no suggestions'
+    end
+    local output = vim.fn.systemlist({ 'hunspell', '-a', '-i', 'utf-8', '-d', service.options.pair.stem }, '^' .. word .. '\n')
+    for _, line in ipairs(output) do
+        local list = line:match('^& .- %d+ %d+: (.*)$')
+        if list then
+            return vim.split(list, ', ', { plain = true })
+        end
+    end
+    return nil, 'hunspell suggests nothing for ' .. word
+end
+
+-- Offers suggestions for the mark at the cursor, and puts the chosen one in its place.
+function M.choose()
+    local buf, cursor = vim.api.nvim_get_current_buf(), vim.api.nvim_win_get_cursor(0)
+    local row = cursor[1] - 1
+    local mark = marks.at(buf, row, cursor[2])
+    if not mark then
+        service.tell('there is no mark at the cursor')
+        return
+    end
+    local text = vim.api.nvim_buf_get_lines(buf, row, row + 1, false)[1]
+    local list, reason = M.of(text:sub(mark[1] + 1, mark[2]))
+    if not list then
+        service.tell(reason)
+        return
+    end
+    vim.ui.select(list, { prompt = 'Instead of ' .. text:sub(mark[1] + 1, mark[2]) .. ':' }, function(choice)
+        if choice and vim.api.nvim_buf_get_lines(buf, row, row + 1, false)[1] == text then
+            vim.api.nvim_buf_set_text(buf, row, mark[1], row, mark[2], { choice })
+        end
+    end)
+end
+
+return M

@@ -1,0 +1,610 @@
+-- The marks of editors/nvim beside those of `affedit check` on the text of the buffer, after each of many edits, and what the user
+-- is told where something is wrong. The environment has TOP, WORK (a folder), PROGRAM, EDITS and SEED. Ends with status 1 where
+-- something differs.
+local top, work, program = vim.env.TOP, vim.env.WORK, vim.env.PROGRAM
+vim.env.XDG_DATA_HOME = work .. '/data'
+vim.opt.runtimepath:prepend(top .. '/editors/nvim')
+vim.cmd('runtime plugin/affedit.lua')
+-- Lines are wrapped: where they are scrolled sideways behind a tab, Neovim 0.7.2 draws all marks wrong at the window's left edge.
+vim.o.wrap, vim.o.hidden, vim.o.swapfile, vim.o.hlsearch, vim.o.undolevels = true, true, false, false, 2000
+vim.o.lines, vim.o.columns, vim.o.report, vim.o.more = 30, 100, 1000000, false
+local affedit = require('affedit')
+local marks = require('affedit.marks')
+local service = require('affedit.service')
+local api = vim.api
+local failures, compared, looks, dropped = 0, 0, 0, 0
+
+local told = {}
+vim.notify = function(text)
+    told[#told + 1] = text
+end
+
+local function fail(what, detail)
+    failures = failures + 1
+    if failures <= 20 then
+        io.stdout:write('nvim: ' .. what .. (detail and ': ' .. detail or '') .. '\n')
+    end
+end
+
+local function expect(what, holds, detail)
+    if not holds then
+        fail(what, detail)
+    end
+end
+
+local function expect_told(what, pattern)
+    local all = table.concat(told, '\n')
+    expect(what, all:find(pattern), 'told was: ' .. all)
+    told = {}
+end
+
+local function settle(what)
+    expect(what .. ': the marks are in after 100 seconds', vim.wait(100000, marks.is_idle, 1), service.failed)
+end
+
+local function read(path)
+    local file = assert(io.open(path, 'rb'))
+    local text = file:read('*a')
+    file:close()
+    return text
+end
+
+local function write(path, text)
+    local file = assert(io.open(path, 'wb'))
+    file:write(text)
+    file:close()
+end
+
+local pair = { aff = top .. '/examples/sample.aff', dic = top .. '/examples/sample.dic' }
+local own = work .. '/data/affedit/words'
+
+-- The marks that `check` prints of lines, as `line start stop`. A line that it refuses has none.
+local checked
+checked = function(lines)
+    write(work .. '/text', table.concat(lines, '\n') .. '\n')
+    local words = { program, 'check', pair.aff, pair.dic, work .. '/text', '--own', own }
+    local printed = vim.fn.systemlist(words)
+    local status = vim.v.shell_error
+    if status == 4 then
+        lines = vim.deepcopy(lines)
+        lines[tonumber(printed[#printed]:match('^doc (%d+)$'))] = ''
+        return checked(lines)
+    end
+    assert(status == 0 or status == 1, 'check ended with ' .. status .. ': ' .. table.concat(printed, ' '))
+    local found = {}
+    for _, line in ipairs(printed) do
+        local mark = line:match('^(%d+ %d+ %d+) ')
+        if mark then
+            found[#found + 1] = mark
+        end
+    end
+    assert(printed[#printed]:match('^' .. #found .. ' of '), 'check printed ' .. printed[#printed])
+    return found
+end
+
+local function shown(buf)
+    return vim.tbl_map(function(mark)
+        return ('%d %d %d'):format(mark[1] + 1, mark[2], mark[3])
+    end, marks.list(buf))
+end
+
+-- Which bytes of the visible lines of a window are drawn as marks, beside those that are marked.
+local function look(what, win, wanted)
+    vim.cmd('redraw')
+    for row = 1, vim.o.lines do
+        if vim.fn.screenattr(row, 1) == -1 then
+            -- Neovim has dropped all attributes, and has not drawn the screen anew yet.
+            vim.cmd('redraw!')
+            dropped = dropped + 1
+            break
+        end
+    end
+    local info, buf = vim.fn.getwininfo(win)[1], api.nvim_win_get_buf(win)
+    local marked = {}
+    for _, mark in ipairs(wanted) do
+        local line, start, stop = mark:match('(%d+) (%d+) (%d+)')
+        for byte = start, stop - 1 do
+            marked[line .. ' ' .. byte] = true
+        end
+    end
+    for line = info.topline, math.min(info.botline, api.nvim_buf_line_count(buf)) do
+        local text = api.nvim_buf_get_lines(buf, line - 1, line, false)[1]
+        for byte = 0, math.min(#text, 400) - 1 do
+            local at = vim.fn.screenpos(win, line, byte + 1)
+            if at.row > 0 and at.col > 0 and at.col < info.wincol + info.width and at.row < info.winrow + info.height then
+                looks = looks + 1
+                local is_drawn = vim.fn.screenattr(at.row, at.col) ~= 0
+                if is_drawn ~= (marked[line .. ' ' .. byte] or false) then
+                    fail(what, ('byte %d of line %d is drawn %s: %s'):format(byte, line, is_drawn and 'marked' or 'plain', text))
+                    return
+                end
+            end
+        end
+    end
+end
+
+-- Compares all marks of the current buffer, and those on the screen, with `check` of its text.
+-- `lines` are what `check` gets instead; `unseen` leaves the screen out.
+local function compare(what, lines, unseen)
+    settle(what)
+    local buf = api.nvim_get_current_buf()
+    local wanted = checked(lines or api.nvim_buf_get_lines(buf, 0, -1, true))
+    local found = shown(buf)
+    compared = compared + 1
+    if not vim.deep_equal(wanted, found) then
+        for at = 1, math.max(#wanted, #found) do
+            if wanted[at] ~= found[at] then
+                fail(what, ('mark %d is %s, wanted %s'):format(at, found[at] or 'none', wanted[at] or 'none'))
+                break
+            end
+        end
+    end
+    for _, win in ipairs(unseen and {} or vim.fn.win_findbuf(buf)) do
+        look(what, win, wanted)
+    end
+    return wanted
+end
+
+-- Random numbers of our own, the same on each machine.
+local seed = tonumber(vim.env.SEED)
+local function random(below)
+    seed = (seed * 16807) % 2147483647
+    return seed % below
+end
+local vocabulary = {
+    'the', 'citys', 'city', 'fox', 'foxs', 'rereads', 'wrold', '2nd', '11st', "who's", 'naïve', 'straße', 'слово', '東京', 'In',
+    'THE', 'read-order', 'e\204\129t', '', '\t', '“fox”', 'x', 'in', 'was', 'orders.', 'a.b.', "'the'", '\240\159\153\130',
+}
+local function words(count)
+    local list = {}
+    for _ = 1, count do
+        list[#list + 1] = vocabulary[random(#vocabulary) + 1]
+    end
+    return table.concat(list, ' ')
+end
+local function lines_of(count)
+    local lines = {}
+    for at = 1, count do
+        lines[at] = words(random(9))
+    end
+    return lines
+end
+
+local function open(lines)
+    vim.cmd('silent only | enew!')
+    api.nvim_buf_set_lines(0, 0, -1, true, lines)
+    vim.cmd('Affedit on')
+end
+
+local function keys(text)
+    vim.cmd('silent! normal! ' .. api.nvim_replace_termcodes(text, true, true, true))
+end
+
+local function somewhere()
+    local row = random(api.nvim_buf_line_count(0)) + 1
+    local text = api.nvim_buf_get_lines(0, row - 1, row, true)[1]
+    local character = random(vim.fn.strchars(text) + 1)
+    api.nvim_win_set_cursor(0, { row, math.max(vim.fn.byteidx(text, character), 0) })
+    return row
+end
+
+local function range()
+    local one, two = random(api.nvim_buf_line_count(0)) + 1, random(api.nvim_buf_line_count(0)) + 1
+    return math.min(one, two) .. ',' .. math.max(one, two)
+end
+
+local edits = {
+    insert = function() somewhere() keys('i' .. words(2)) end,
+    append = function() somewhere() keys('A ' .. words(1)) end,
+    letter = function() somewhere() keys('ix') end,
+    delete = function() somewhere() keys('x') end,
+    delete_word = function() somewhere() keys('daw') end,
+    delete_lines = function() somewhere() keys((random(3) + 1) .. 'dd') end,
+    delete_much = function() if random(4) == 0 then vim.cmd(range() .. 'delete') end end,
+    open_line = function() somewhere() keys('o' .. words(4) .. '<CR>' .. words(3)) end,
+    split_line = function() somewhere() keys('i<CR>') end,
+    join = function() somewhere() keys('J') end,
+    put = function() somewhere() keys('yyp') end,
+    put_many = function() somewhere() api.nvim_put(lines_of(random(40)), 'l', true, false) end,
+    undo = function() keys((random(4) + 1) .. 'u') end,
+    redo = function() keys((random(3) + 1) .. '<C-r>') end,
+    sort = function() vim.cmd(range() .. 'sort' .. (random(2) == 0 and '!' or '')) end,
+    global_delete = function() vim.cmd('silent! ' .. range() .. 'g/wrold/d') end,
+    global_normal = function() vim.cmd('silent! ' .. range() .. 'g/fox/normal! Ax') end,
+    global_move = function() vim.cmd('silent! ' .. range() .. 'g/the/m0') end,
+    substitute = function() vim.cmd('silent! ' .. range() .. 's/city/citx/g') end,
+    back = function() vim.cmd('silent! %s/citx/city/g') end,
+    move = function() vim.cmd(range() .. 'm0') end,
+    copy = function() somewhere() vim.cmd('.t$') end,
+    rectangle = function() somewhere() keys('<C-v>3j2ld') end,
+    rectangle_insert = function() somewhere() keys('<C-v>2jIwr<Esc>') end,
+    rectangle_put = function() somewhere() keys('<C-v>2jly') somewhere() keys('p') end,
+    case = function() somewhere() keys('g~w') end,
+    set_text = function()
+        local row = somewhere() - 1
+        local text = api.nvim_buf_get_lines(0, row, row + 1, true)[1]
+        api.nvim_buf_set_text(0, row, 0, row, #text, { words(2), words(3) })
+    end,
+    several = function() somewhere() keys('ixy<Esc>') somewhere() keys('dd') somewhere() keys('Ofoxx') end,
+    empty = function() if random(3) == 0 then vim.cmd('%delete') end end,
+    fill = function() if api.nvim_buf_line_count(0) < 5 then api.nvim_buf_set_lines(0, 0, -1, true, lines_of(5)) end end,
+}
+local names = vim.tbl_keys(edits)
+table.sort(names)
+
+local function edit_at_random(size)
+    open(lines_of(size))
+    compare('opened with ' .. size .. ' lines')
+    for at = 1, tonumber(vim.env.EDITS) do
+        local name = names[random(#names) + 1]
+        pcall(edits[name])
+        compare(('edit %d of %d lines, %s, seed %s'):format(at, size, name, vim.env.SEED))
+        if api.nvim_buf_line_count(0) > 15000 then
+            api.nvim_buf_set_lines(0, size, -1, true, {})
+        elseif api.nvim_buf_line_count(0) < size / 2 then
+            api.nvim_buf_set_lines(0, 0, 0, true, lines_of(size))
+        end
+    end
+end
+
+-- Neovim draws what is no character in a colour of its own, so the screen is not looked at here.
+local function try_bytes()
+    write(work .. '/bytes', 'the citys\ncaf\233 wrold citys\nfoxs was \237\160\128 wrold\nread wrold\r\nfox\0citys wrold\n')
+    told = {}
+    vim.cmd('silent only | edit ++enc=utf-8 ++bad=keep ++ff=unix ' .. work .. '/bytes')
+    vim.cmd('Affedit on')
+    compare('bytes that are not UTF-8', { 'the citys', '', '', 'read wrold\r', 'fox\0citys wrold' }, true)
+    expect_told('a line that is not UTF-8 is told', 'line 2 of buffer %d+ is not checked: it is not UTF%-8')
+    api.nvim_buf_set_lines(0, 1, 3, true, { 'café wrold citys', 'foxs' })
+    compare('bytes that are mended', { 'the citys', 'café wrold citys', 'foxs', 'read wrold\r', 'fox\0citys wrold' }, true)
+end
+
+local function try_long_lines()
+    -- Pieces of the long line, and where each begins.
+    local pieces, from, text = {}, {}, {}
+    local at = 0
+    for number = 1, 30000 do
+        local piece = number % 3 == 0 and 'citys ' or 'naïve\t'
+        pieces[number], from[number] = piece, at
+        at = at + #piece
+    end
+    local long = table.concat(pieces)
+    told = {}
+    open({ 'wrold', long, 'wrold' })
+    settle('a long line')
+    local wanted = { '1 0 5' }
+    for number, piece in ipairs(pieces) do
+        wanted[#wanted + 1] = ('2 %d %d'):format(from[number], from[number] + #piece - 1)
+    end
+    wanted[#wanted + 1] = '3 0 5'
+    compared = compared + 1
+    expect('the marks of a line of ' .. #long .. ' bytes', vim.deep_equal(wanted, shown(0)), #shown(0) .. ' marks')
+    -- What `check` says of a piece is what was taken for granted above.
+    text = checked({ 'citys ', 'naïve\t' })
+    expect('the pieces of the long line', vim.deep_equal(text, { '1 0 5', '2 0 6' }), vim.inspect(text))
+    open({ 'wrold', ('x'):rep(200000), 'wrold' })
+    compare('a line that cannot be cut', { 'wrold', '', 'wrold' })
+    expect_told('a line that cannot be cut is told', 'line 2 of buffer %d+ is not checked: it has no space')
+    open({ ('x'):rep(65536), ('x'):rep(65535) .. 'é' })
+    compare('lines as long as they may be', { ('x'):rep(65536), '' })
+    told = {}
+end
+
+local function try_states()
+    open({})
+    compare('a new buffer')
+    open(lines_of(2000))
+    compare('before many lines are deleted')
+    vim.cmd('10,1500delete')
+    compare('many lines are deleted')
+    keys('u')
+    compare('the deletion is undone')
+    keys('<C-r>')
+    compare('and done again')
+    keys('u')
+    for _ = 1, 1000 do
+        vim.cmd('$')
+        keys('ofoxx')
+    end
+    compare('a thousand lines in a thousand steps')
+    keys('1000u')
+    compare('a thousand steps undone')
+    vim.cmd('%delete')
+    compare('an emptied buffer')
+    keys('u')
+    compare('and undone')
+    vim.cmd('sort')
+    compare('sorted')
+    vim.cmd('silent g/^/m0')
+    compare('reversed')
+    -- Two windows of one buffer, at other places of it.
+    vim.cmd('split')
+    keys('G')
+    compare('two windows')
+    keys('ofoxx')
+    compare('two windows, and a change in one')
+    vim.cmd('wincmd w')
+    keys('ggOfoxx')
+    compare('two windows, and a change in the other')
+    vim.cmd('only')
+    vim.cmd('Affedit off')
+    vim.cmd('redraw')
+    look('switched off', api.nvim_get_current_win(), {})
+    vim.cmd('Affedit toggle')
+    compare('switched on again')
+    write(work .. '/reload', table.concat(lines_of(50), '\n') .. '\n')
+    vim.cmd('edit! ' .. work .. '/reload')
+    vim.cmd('Affedit on')
+    compare('a file')
+    write(work .. '/reload', table.concat(lines_of(60), '\n') .. '\n')
+    vim.cmd('edit!')
+    if not marks.is_on(api.nvim_get_current_buf()) then
+        vim.cmd('Affedit on')
+    end
+    compare('a file that is read again')
+    expect('nothing was told', #told == 0, table.concat(told, '\n'))
+end
+
+-- Both commands go from mark to mark, in the order of the text, and around its end.
+local function try_jumps()
+    open(lines_of(300))
+    local wanted = compare('before the jumps')
+    for _, way in ipairs({ 'next', 'previous' }) do
+        api.nvim_win_set_cursor(0, { 1, 0 })
+        vim.cmd('Affedit previous')
+        if way == 'previous' then
+            vim.cmd('Affedit next')
+        end
+        local visited = {}
+        for _ = 1, #wanted do
+            vim.cmd('Affedit ' .. way)
+            local cursor = api.nvim_win_get_cursor(0)
+            visited[#visited + 1] = cursor[1] .. ' ' .. cursor[2]
+        end
+        local starts = vim.tbl_map(function(mark)
+            return mark:match('^%d+ %d+')
+        end, wanted)
+        if way == 'previous' then
+            local reversed = {}
+            for at = #starts, 1, -1 do
+                reversed[#reversed + 1] = starts[at]
+            end
+            starts = reversed
+        end
+        expect('all marks in turn, by ' .. way, vim.deep_equal(starts, visited), #starts .. ' and ' .. #visited)
+    end
+    vim.cmd('Affedit diagnostics')
+    expect('the diagnostics are there', vim.wait(60000, function()
+        return #vim.diagnostic.get(0) == #wanted
+    end, 5), #vim.diagnostic.get(0) .. ' of ' .. #wanted)
+    local listed = vim.tbl_map(function(found)
+        return ('%d %d %d'):format(found.lnum + 1, found.col, found.end_col)
+    end, vim.diagnostic.get(0))
+    local ordered = vim.deepcopy(wanted)
+    table.sort(listed)
+    table.sort(ordered)
+    expect('the diagnostics are the marks', vim.deep_equal(ordered, listed))
+    vim.cmd('Affedit nodiagnostics')
+    expect('the diagnostics are gone', #vim.diagnostic.get(0) == 0)
+end
+
+local function try_dictionaries()
+    write(work .. '/other.aff', 'SET UTF-8\n')
+    write(work .. '/other.dic', '2\ncitys\nwrold\n')
+    write(work .. '/bad.aff', 'SET ISO8859-1\n')
+    write(work .. '/bad.dic', '1\ncitys\n')
+    vim.fn.mkdir(work .. '/a folder', 'p')
+    write(work .. '/a folder/third.aff', 'SET UTF-8\n')
+    write(work .. '/a folder/third.dic', '1\nfox\n')
+    open(lines_of(400))
+    compare('before another dictionary')
+    told = {}
+    vim.cmd('Affedit dictionary ' .. work .. '/none')
+    expect_told('a dictionary that is not there is told', 'no dictionary')
+    vim.cmd('Affedit dictionary ' .. work .. '/bad')
+    vim.wait(60000, function() return #told > 0 end, 5)
+    compare('a dictionary that is refused')
+    expect_told('it is told', 'bad is not read: aff 1 OtherEncoding; sample stays')
+    vim.cmd('Affedit dictionary ' .. work .. '/other')
+    vim.wait(60000, function() return service.options.pair.name == 'other' end, 1)
+    pair = { aff = work .. '/other.aff', dic = work .. '/other.dic' }
+    compare('another dictionary')
+    vim.cmd('Affedit dictionary ' .. work .. '/a folder/third')
+    pair = { aff = work .. '/a folder/third.aff', dic = work .. '/a folder/third.dic' }
+    compare('a dictionary with a space in its path')
+    vim.cmd('Affedit dictionary ' .. top .. '/examples/sample')
+    vim.wait(60000, function() return service.options.pair.name == 'sample' end, 1)
+    pair = { aff = top .. '/examples/sample.aff', dic = top .. '/examples/sample.dic' }
+    compare('the first dictionary again')
+    expect('nothing more was told', #told == 0, table.concat(told, '\n'))
+end
+
+local function try_ends()
+    open(lines_of(3000))
+    told = {}
+    vim.loop.kill(service.process().pid, 9)
+    keys('ofoxx wrold')
+    compare('the program is killed between requests')
+    expect_told('its end is told', 'the program ended by signal 9; it is started again')
+    affedit.run('restart')
+    compare('restarted')
+    vim.cmd('%s/$/ x/')
+    vim.wait(5, function() return false end, 1)
+    vim.loop.kill(service.process().pid, 9)
+    compare('the program is killed while it is asked')
+    expect_told('its end is told too', 'it is started again')
+    affedit.run('restart')
+    -- What the program ends itself for: a personal list with a fault.
+    local kept = read(own)
+    write(own, kept .. '*\n')
+    affedit.run('restart')
+    expect('the end is seen', vim.wait(60000, function() return service.failed ~= nil end, 5))
+    expect_told('a fault of the list is told with its line', 'words:%d+: EmptyWord; there are no marks until :Affedit restart')
+    write(own, kept)
+    affedit.run('restart')
+    compare('the list is mended')
+    told = {}
+    local real = service.options.program
+    service.options.program = work .. '/none'
+    affedit.run('restart')
+    expect_told('a program that is not there is told', 'ENOENT')
+    keys('ofoxx wrold')
+    vim.cmd('Affedit status')
+    expect_told('and the status says so', 'ENOENT')
+    service.options.program = real
+    affedit.run('restart')
+    compare('the program is there again')
+    -- More lines change than the program takes paragraphs, before it answers.
+    vim.loop.kill(service.process().pid, 'sigstop')
+    for at = 1, 160 do
+        local lines = {}
+        for number = 1, 150 do
+            lines[number] = 'wrold fox' .. at * 1000 + number .. ' citys'
+        end
+        api.nvim_buf_set_lines(0, at % 2 == 0 and 0 or -1, at % 2 == 0 and 0 or -1, true, lines)
+        vim.wait(2, function() return false end, 1)
+    end
+    vim.loop.kill(service.process().pid, 'sigcont')
+    settle('many changes at once')
+    local count = marks.count(0)
+    expect('all of them are checked', count.refused == 0 and count.waiting == 0, vim.inspect(count))
+    api.nvim_buf_set_lines(0, 3000, -1, true, {})
+    compare('some of many changes')
+    -- A program that does not answer.
+    require('affedit.program').silence = 4000
+    affedit.run('restart')
+    compare('the watch is shorter')
+    vim.loop.kill(service.process().pid, 'sigstop')
+    keys('ofoxx wroldx')
+    compare('a program that is stopped')
+    expect_told('its silence is told', 'by signal 9: no answer for 4 seconds; it is started again')
+    require('affedit.program').silence = 60000
+    affedit.run('restart')
+    compare('the watch is longer again')
+    -- Before its input is too large another process takes its place.
+    local pid, most = service.process().pid, service.most_sent
+    service.most_sent = service.process().sent + 1000
+    for at = 1, 40 do
+        keys('ofoxx wrold' .. at .. words(30))
+        settle('a process is renewed')
+    end
+    compare('a process is renewed')
+    expect('another process runs', service.process().pid ~= pid)
+    service.most_sent = most
+    expect('nothing is told of that', #told == 0, table.concat(told, '\n'))
+    service.ends_seconds = 1000
+    for _ = 1, 3 do
+        local ending = service.process()
+        vim.loop.kill(ending.pid, 9)
+        vim.wait(60000, function() return service.process() ~= ending end, 1)
+        vim.wait(60000, function() return service.failed or marks.is_idle() and service.process().answered > 0 end, 5)
+    end
+    service.ends_seconds = 10
+    expect('three ends in a row are no reason to start a fourth process', service.failed ~= nil)
+    affedit.run('restart')
+    compare('restarted after three ends')
+    told = {}
+end
+
+local function try_words()
+    open({ 'the citys wrold citys', 'wrold Citys' })
+    compare('before a word is added')
+    api.nvim_win_set_cursor(0, { 1, 5 })
+    vim.cmd('Affedit add')
+    settle('a word is added')
+    expect('the word is in the file', read(own):find('citys\n', 1, true), read(own))
+    local left = compare('a word is added')
+    expect('its marks are gone', vim.deep_equal(left, { '1 10 15', '2 0 5' }), vim.inspect(left))
+    told = {}
+    local before = read(own)
+    vim.cmd('Affedit add *')
+    vim.wait(60000, function() return #told > 0 end, 5)
+    expect_told('a word that is refused is told', '`%*` is not taken: no own EmptyWord')
+    expect('and is not in the file', read(own) == before)
+    vim.cmd('Affedit add *the')
+    compare('a word is prohibited')
+    write(own, 'citys')
+    affedit.run('restart')
+    compare('a list without a last line feed')
+    vim.cmd('Affedit add wrold/fox')
+    vim.loop.kill(service.process().pid, 9)
+    compare('a word is added while the program ends')
+    expect('the word is in the file once', read(own) == 'citys\nwrold/fox\n', read(own))
+    write(own, '')
+    affedit.run('restart')
+    compare('the list is emptied')
+    told = {}
+end
+
+-- The screen is marked before the rest of a large buffer is looked at.
+local function try_large()
+    local lines = {}
+    for at = 1, 100000 do
+        lines[at] = 'the citys ' .. at .. 'x was wrold'
+    end
+    vim.cmd('silent only | enew!')
+    api.nvim_buf_set_lines(0, 0, -1, true, lines)
+    api.nvim_win_set_cursor(0, { 50000, 0 })
+    vim.cmd('redraw')
+    vim.cmd('Affedit on')
+    local first = vim.fn.getwininfo(api.nvim_get_current_win())[1].topline
+    expect('the screen is marked first', vim.wait(60000, function()
+        return marks.at(0, first - 1, 4) and marks.at(0, first + 10, 4)
+    end, 1))
+    expect('and the rest waits', marks.count(0).waiting > 50000, marks.count(0).waiting .. ' lines')
+    look('the screen of a large buffer', api.nvim_get_current_win(), (function()
+        local wanted = {}
+        for line = first, first + 40 do
+            local number = #tostring(line)
+            wanted[#wanted + 1] = line .. ' 4 9'
+            wanted[#wanted + 1] = ('%d 10 %d'):format(line, 11 + number)
+            wanted[#wanted + 1] = ('%d %d %d'):format(line, 16 + number, 21 + number)
+        end
+        return wanted
+    end)())
+    expect('all lines are marked', vim.wait(600000, marks.is_idle, 1))
+    local count = marks.count(0)
+    expect('three marks a line', count.marks == 300000 and count.waiting == 0, vim.inspect(count))
+    compared = compared + 1
+    vim.cmd('bwipeout!')
+end
+
+local function try_help()
+    local listed = vim.fn.execute('checkhealth affedit') and table.concat(api.nvim_buf_get_lines(0, 0, -1, true), '\n')
+    expect('checkhealth finds the program and the dictionary', listed:find('the program reads it', 1, true), listed)
+    expect('and no fault', not listed:find('ERROR', 1, true), listed)
+    expect('names are completed', vim.tbl_contains(affedit.complete('ne', 'Affedit ne'), 'next'))
+    if vim.fn.executable('hunspell') == 1 then
+        local list = require('affedit.suggest').of('citys')
+        expect('hunspell suggests', list and vim.tbl_contains(list, 'city'), vim.inspect(list))
+    end
+end
+
+local function try_edits()
+    edit_at_random(5)
+    edit_at_random(5000)
+end
+
+local tests = {
+    try_edits, try_bytes, try_long_lines, try_states, try_jumps, try_dictionaries, try_words, try_ends, try_large, try_help,
+}
+
+local function run()
+    -- With ONLY, the number of one of the tests.
+    local only = vim.env.ONLY
+    affedit.setup({ program = program, dictionary = top .. '/examples/sample' })
+    for _, test in ipairs(only and { tests[tonumber(only)] } or tests) do
+        test()
+    end
+end
+
+local done, fault = xpcall(run, debug.traceback)
+if not done then
+    fail('an error', fault)
+end
+expect('states were compared', compared > 2 * tonumber(vim.env.EDITS))
+expect('the screen was looked at', looks > 1000)
+local version = vim.fn.execute('version'):match('NVIM v[^\n]*')
+local report = '%s: %d states compared, %d places of the screen, drawn anew %d times, %d failures\n'
+io.stdout:write(report:format(version, compared, looks, dropped, failures))
+vim.cmd(failures == 0 and 'qall!' or 'cquit 1')
