@@ -1,11 +1,13 @@
 #!/usr/bin/env bash
-# What README.md shows of the sample, of its forms and of a dialogue, what docs/LIBRARY.md shows of two sessions, and the scripts in `examples/` on a text
-# with addresses, by the programs that are built. Prints what differs; the status is 0 where nothing does.
+# What README.md shows, what docs/LIBRARY.md shows of two sessions, and the scripts in `examples/` on a text with addresses, by the programs that are
+# built. And whether the documents say the same of commands and statuses. Prints what differs; the status is 0 where nothing does.
+# shellcheck disable=SC2016,SC2317
 set -euo pipefail
 top=$(cd "$(dirname "$0")/.." && pwd)
 work=$(mktemp -d)
 trap 'rm -rf "$work"' EXIT
 cd "$top"
+export AFFEDIT_QUIET=1
 failed=0
 
 # expect WHAT STATUS COMMAND..: the command ends so, and prints what stands on standard input.
@@ -20,29 +22,113 @@ expect() {
     fi
 }
 check() { ./affedit check examples/sample.aff examples/sample.dic "$1"; }
-piped() { echo 'the citys' | check /dev/stdin; }
 without() { { check "$1" || true; } | examples/without-addresses "$1"; }
 
-# The blocks of README.md that a command line stands before, and what it prints.
-block() { command="    $1" awk 'found == 2 && !/^    /{ exit } found == 2 { print substr($0, 5) } found == 1 && /^    / { found = 2; print substr($0, 5) } $0 == ENVIRON["command"] { found = 1; while ((getline) > 0 && /^    /) ; }' README.md; }
+# Each block of README.md is a command that is run here, or what the command before it prints; or it is a picture: of the parts, or of a
+# terminal, as editors/README.md has it. The gate itself is not run from here.
+declare -A ends=(
+    ['./affedit check examples/sample.aff examples/sample.dic examples/sample.txt']=1
+    ['./affedit forms examples/sample.aff examples/sample.dic | tail -n 3']=0
+    ["printf 'ins 1 hello wrld\\nsettle\\nshow\\n' | ./affedit edit crates/affedit/data/a.aff crates/affedit/data/a.dic"]=0
+)
+terminal=$(awk '/^    / { print substr($0, 5) }' editors/README.md | head -n 2 | tr '\n' '\037')
+# The blocks, one a line, with a byte 1F where a line of a block ends.
+mapfile -t blocks < <(awk '/^    / { printf "%s%s", inside ? "\037" : "", substr($0, 5); inside = 1; next } inside { print ""; inside = 0 } END { if (inside) print "" }' README.md)
+command=''
+for block in "${blocks[@]}"; do
+    first=${block%%$'\037'*}
+    if [ -n "${ends[$first]-}" ]; then
+        command=$first
+        [ "$block" = "$first" ] || [ "$block" = "$first"$'\037''bash .ci/run' ] || { echo "README.md: a command that is not run: $block"; failed=1; }
+    elif [ -n "$command" ]; then
+        expect "README.md: $command" "${ends[$command]}" bash -c "$command" <<< "${block//$'\037'/$'\n'}"
+        unset 'ends[$command]'
+        command=''
+    elif [[ $first != +--* && $block != "${terminal%?}" ]]; then
+        echo "README.md: a block that is not run: $first"
+        failed=1
+    fi
+done
+[ ${#ends[@]} = 0 ] || { echo "README.md has not got: ${!ends[*]}"; failed=1; }
 
-block './affedit check examples/sample.aff examples/sample.dic examples/sample.txt' > "$work/block"
-[ -s "$work/block" ] || { echo 'README.md has no block behind the sample'; failed=1; }
-expect 'the sample' 1 check examples/sample.txt < "$work/block"
-block "echo 'the citys' | ./affedit check examples/sample.aff examples/sample.dic /dev/stdin" > "$work/block"
-[ -s "$work/block" ] || { echo 'README.md has no block behind standard input'; failed=1; }
-expect 'standard input' 1 piped < "$work/block"
-IFS= read -r dialogue << 'LINE'
-printf 'ins 1 hello wrld\nsettle\nshow\nsub 1 6 10 2nd\nshow\n' | ./affedit edit crates/affedit/data/a.aff crates/affedit/data/a.dic
-LINE
-block "$dialogue" > "$work/block"
-[ -s "$work/block" ] || { echo 'README.md has no block behind the dialogue'; failed=1; }
-expect 'a dialogue' 0 bash -c "$dialogue" < "$work/block"
+# One table says what the commands are, and one what the statuses are. README.md, the manual page, --help and docs/CONSOLE.md say the same.
+rows() { grep -v '^#' "tools/launcher/$1"; }
+# same WHAT FILE: this file has what stands on standard input.
+same() { diff - "$2" > "$work/diff" || { echo "$1:"; cat "$work/diff"; failed=1; }; }
+# table FILE HEAD: the rows of the table with this head in a document.
+table() { awk -v head="$2" '$0 == head { inside = 1; next } inside && !/^\|/ { exit } inside && !/^\|-/ { print }' "$1"; }
+rows commands | awk -F '\t' '{ printf "| `%s` | %s |\n", $1, $2 }' | same 'the commands of README.md' <(table README.md '| command | what it does |')
+as_rows() { awk -F '\t' '{ printf "| %s | %s | %s |\n", $1, $2, $3 }'; }
+rows statuses | as_rows | same 'the statuses of README.md' <(table README.md '| status | when | last line |')
+rows statuses | awk -F '\t' '$4 ~ /edit/ && $1 != 125' | as_rows | same 'the statuses of docs/CONSOLE.md' <(table docs/CONSOLE.md '| status | when | last line |')
+./affedit --help > "$work/help"
+{ rows commands | awk -F '\t' '{ print "affedit " $1; print "        " $2 }'; rows statuses | awk -F '\t' '{ printf "%-6s  %s; %s\n", $1, $2, $3 }'; } > "$work/wanted"
+grep -Fxf "$work/wanted" "$work/help" | same 'the commands and statuses of --help' "$work/wanted"
+# In the manual page what stands between signs ` is a literal, with the sign behind it as an argument of its own.
+rows statuses | awk -F '\t' '
+function emit(said,    parts, count, place, text, sign) {
+    count = split(said, parts, "`")
+    for (place = 1; place <= count; place++) {
+        text = parts[place]
+        sign = substr(parts[place + 1], 1, 1)
+        if (place % 2 == 0 && sign ~ /[,.;:]/) {
+            print ".Ql " text " " sign
+            parts[place + 1] = substr(parts[place + 1], 2)
+        } else if (place % 2 == 0) {
+            print ".Ql " text
+        } else {
+            gsub(/^ +| +$/, "", text)
+            if (text != "") print text
+        }
+    }
+}
+{
+    print ".It " $1
+    emit(toupper(substr($2, 1, 1)) substr($2, 2) ".")
+    emit("Last line: " $3 ".")
+}' | same 'the statuses of the manual page' <(awk '/^\.Sh EXIT STATUS/ { inside = 1 } inside && /^\.El/ { exit } inside && body { print } inside && /^\.Bl/ { body = 1 }' docs/affedit.1)
 
-forms='./affedit forms examples/sample.aff examples/sample.dic | tail -n 5'
-block "$forms" > "$work/block"
-[ -s "$work/block" ] || { echo 'README.md has no block behind the forms'; failed=1; }
-expect 'forms' 0 bash -c "$forms" < "$work/block"
+# Each definition that docs/PROOFS.md asks to be read stands in the file that it names, and each crate is told of.
+while IFS='|' read -r _ names file _; do
+    file=crates/$(tr -d ' `' <<< "$file")
+    for name in $(grep -oE '[A-Za-z_]+' <<< "$names"); do
+        grep -qE "^(unfoldable|abbrev|data|record|pub data|pub record).* $name( |$)" "$file" || { echo "docs/PROOFS.md: there is no $name in $file"; failed=1; }
+    done
+done < <(table docs/PROOFS.md '| definition | file under `crates/` | what it says | example |')
+for crate in crates/*/; do
+    crate=$(basename "$crate")
+    grep -qF "\`$crate\`" docs/PROOFS.md || { echo "docs/PROOFS.md does not tell of $crate"; failed=1; }
+done
+
+# The row that docs/CONTRIBUTING.md shows, run by the program.
+awk '/^### A row without a proof/ { inside = 1 } /^## / { inside = 0 } inside && /^    / { print substr($0, 5) }' docs/CONTRIBUTING.md | sed "s|tests/rows|$top/tests/rows|" > "$work/row.sh"
+[ "$(wc -l < "$work/row.sh")" = 2 ] || { echo 'docs/CONTRIBUTING.md shows no row'; failed=1; }
+tried() { (cd "$work" && bash row.sh); }
+expect 'a row without a proof' 0 tried <<< '2 runs, 0 left to `rt try --test`, 0 failed'
+
+# The dialogue for plugins in docs/CONSOLE.md: what is sent stands behind `> `.
+awk '/^## For authors/ { inside = 1 } inside && /^    / { print substr($0, 5) }' docs/CONSOLE.md > "$work/block"
+[ -s "$work/block" ] || { echo 'docs/CONSOLE.md has no dialogue for plugins'; failed=1; }
+sed -n 's/^> //p' "$work/block" > "$work/sent"
+dialogue() { ./affedit edit crates/affedit/data/a.aff crates/affedit/data/a.dic < "$work/sent"; }
+expect 'a dialogue for plugins' 0 dialogue < <(grep -v '^> ' "$work/block")
+
+# The lines of words in docs/PIPE.md. The empty line behind an answer ends no block there.
+awk '/^## An example/ { inside = 1; next } /^## / { inside = 0 } inside && /^    / { while (empty > 0) { print ""; empty-- } print substr($0, 5); begun = 1 } inside && /^ *$/ && begun { empty++ }' docs/PIPE.md > "$work/block"
+sed -n 's/^> //p' "$work/block" > "$work/sent"
+[ -s "$work/sent" ] || { echo 'docs/PIPE.md has no lines of words'; failed=1; }
+piped() { ./affedit pipe examples/sample.aff examples/sample.dic < "$work/sent"; }
+expect 'lines of words' 0 piped < <(grep -v '^> ' "$work/block"; echo)
+
+# The pipes of the manual page: what they print, and what an error does to them.
+[ "$(grep -c '^\.Dl \$ affedit check en_US.aff en_US.dic letter | awk \\(aqNF == 4 { print \$1 }\\(aq | uniq$' docs/affedit.1)" = 1 ] || { echo 'the pipe of the manual page is another'; failed=1; }
+printf 'the citys, the citys\nwho\nan order\n' > "$work/text"
+marked() { check "$1" | awk 'NF == 4 { print $1 }' | uniq; }
+expect 'the lines with a mark' 1 marked "$work/text" <<< $'1\n3'
+printf 'who\n\xff\n' > "$work/text"
+expect 'the lines with a mark of a text that is refused' 4 marked "$work/text" < /dev/null
+expect 'the lines with a mark of a text that is not there' 5 marked "$work/none" < /dev/null
+
 expect 'all forms' 0 ./affedit forms examples/sample.aff examples/sample.dic << 'FORMS'
 2nd
 cities
@@ -64,8 +150,7 @@ who
 17 forms
 FORMS
 
-# The personal list that README.md shows.
-grep -qF './affedit check examples/sample.aff examples/sample.dic examples/sample.txt --own words' README.md || { echo 'README.md shows no personal list'; failed=1; }
+# A personal list.
 echo citys > "$work/words"
 expect 'a personal list' 0 ./affedit check examples/sample.aff examples/sample.dic examples/sample.txt --own "$work/words" <<< '0 of 15'
 

@@ -1,7 +1,10 @@
 #!/usr/bin/env bash
-# The endings of the launcher `affedit`, over a folder with no sources to prove and a command `rt` made for this: it needs no
-# proof and builds nothing real. Prints what went wrong; the status is 0 where nothing did.
+# The launcher `affedit`. First its endings over a folder with no sources to prove and a command `rt` made for this, which needs no proof and
+# builds nothing real. Then what it says to people behind a run, and that nothing stands between the program and its input, its output
+# and its signals, by the program that the gate has built. Prints what went wrong; the status is 0 where nothing did.
+# shellcheck disable=SC2015,SC2016
 set -euo pipefail
+unset AFFEDIT_NO_BUILD AFFEDIT_QUIET
 top=$(cd "$(dirname "$0")/.." && pwd)
 # Where another user may look in.
 work=$(mktemp -d -p /tmp)
@@ -13,8 +16,9 @@ failed=0
 # A folder with the launcher and sources that are as old as can be.
 folder() {
     rm -rf "$work/here"
-    mkdir -p "$work/here/crates/affedit/src" "$work/here/crates/affedit/data"
+    mkdir -p "$work/here/crates/affedit/src" "$work/here/crates/affedit/data" "$work/here/tools"
     cp "$top/affedit" "$work/here/affedit"
+    cp -r "$top/tools/launcher" "$work/here/tools/launcher"
     touch "$work/here/crates/affedit/data"/{a.aff,a.dic,text}
     touch -d 2000-01-01 "$work/here/crates.txt" "$work/here/crates/affedit/src" "$work/here/crates/affedit/src/main.rt"
 }
@@ -100,10 +104,32 @@ rm -rf "$work/here/out"
 expect 'a program that was built elsewhere' 2 'affedit: words' launch word
 builds 1 'a program that was built elsewhere'
 
-expect 'help' 2 'status 125' launch --help
-expect 'version' 2 'made for a test' launch --version
+# Help is printed where nothing is built, on standard output alone.
+folder
+: > "$COUNT"
+for word in --help -h; do
+    expect "$word" 0 'the launcher has no program to run' launch "$word"
+    expect "$word, of a command" 0 'affedit forms AFF DIC' launch "$word"
+    [ -z "$(launch "$word" 2>&1 > /dev/null)" ] || { echo "$word: something on standard error"; failed=1; }
+done
+expect 'version' 0 'made for a test' launch --version
+[ -z "$(launch --version 2>&1 > /dev/null)" ] || { echo '--version: something on standard error'; failed=1; }
+builds 0 'help and version'
+# A wrong word is told before a build, and once.
+expect 'a wrong word before a build' 2 'is no command' launch word
+builds 1 'a wrong word before a build'
+[ "$(launch chek 2>&1 > /dev/null | grep -c 'is no command')" = 1 ] || { echo 'a wrong word is not told once'; failed=1; }
+rm -rf "$work/here/out" "$work/here/crates/affedit/out"
+[ "$(launch chek 2>&1 > /dev/null | grep -c 'is no command')" = 1 ] || { echo 'a wrong word before a build is not told once'; failed=1; }
 expect 'no words' 2 'affedit check AFF DIC FILE' launch
-expect 'a command of the help' 2 'affedit forms AFF DIC' launch
+expect 'no words, by the program' 2 'affedit: words' launch
+# Without the part that builds, what is there is run, old or not.
+change newer
+rm "$work/here/tools/launcher/building.bash"
+expect 'the part that builds is not there' 2 'affedit: words' launch word
+builds 2 'the part that builds is not there'
+rm -rf "$work/here/out"
+expect 'and no program either' 125 'is not there' launch word
 
 # A folder that cannot be written, by a user who has no right to.
 folder
@@ -113,4 +139,263 @@ if [ "$(id -u)" = 0 ]; then
 fi
 chmod -R a+rX,a-w "$work/here" "$work/bin"
 expect 'a folder that is read only' 125 'cannot be written' "${as_other[@]}" env "PATH=$work/bin:$PATH" "$work/here/affedit" word
+
+# ---- what ended a run, said to people: by the program itself, which the gate has built, in a folder without the part that builds
+
+real=$top/crates/affedit/out/affedit
+[ -x "$real" ] || real=$top/out/affedit
+[ -x "$real" ] || { echo "the program is not built: no row of what ended a run was run"; exit 1; }
+mkdir -p "$work/real/out" "$work/real/tools/launcher" "$work/in/folder"
+cp "$top/affedit" "$work/real/affedit"
+cp "$top"/tools/launcher/{explaining.bash,causes,commands,statuses} "$work/real/tools/launcher"
+cp "$real" "$work/real/out/affedit"
+affedit=$work/real/affedit
+cd "$work/in"
+chmod 755 "$work/in"
+printf 'SET UTF-8\nSFX A Y 1\nSFX A 0 s .\n' > a.aff
+printf '2\nhello\nword/A\n' > a.dic
+printf 'hello wrods\n' > text
+printf 'hello\ncaf\xe9\n' > latin
+printf 'wrods\n' > own
+printf 'SET UTF-8\nTRY a\nREP 3\nREP a b\n' > short.aff
+head -c 16777217 /dev/zero | tr '\0' '\n' > large
+{ printf '\xef\xbb\xbfhello\r\n'; head -c 65536 /dev/zero | tr '\0' a; printf '\r\n'; head -c 65537 /dev/zero | tr '\0' a; printf '\r\n'; } > long
+seq 20001 > many
+input=/dev/null
+
+# row WHAT STATUS OUTPUT WORD..: what the program prints and its status, and on standard error what stands on standard input.
+row() {
+    local what=$1 wanted=$2 output=$3 status=0
+    shift 3
+    cat > "$work/wanted"
+    "$affedit" "$@" < "$input" > "$work/out" 2> "$work/said" || status=$?
+    if [ "$status" != "$wanted" ] || [ "$(cat "$work/out")" != "$output" ] || ! diff "$work/wanted" "$work/said"; then
+        echo "$what: status $status, wanted $wanted; printed: $(head -c 300 "$work/out")"
+        failed=1
+    fi
+}
+
+row 'marks' 1 $'1 6 11 wrods\n1 of 2' check a.aff a.dic text < /dev/null
+row 'no marks' 0 '0 of 2' check a.aff a.dic text --workers 2 --own own < /dev/null
+row 'a command with a wrong letter' 2 'affedit: words' chek a.aff a.dic text << 'SAID'
+affedit: `chek` is no command; the nearest is `check`
+affedit: the form is: affedit check AFF DIC FILE [--workers N] [--own OWN]
+affedit: `affedit --help` says what they do
+SAID
+# words WHAT SAID WORD..: of a command line that is none of the forms, the first line that is said.
+words() {
+    local what=$1 wanted=$2 status=0
+    shift 2
+    "$affedit" "$@" < /dev/null > "$work/out" 2> "$work/said" || status=$?
+    if [ "$status" != 2 ] || [ "$(cat "$work/out")" != 'affedit: words' ] || [ "$(head -n 1 "$work/said")" != "affedit: $wanted" ]; then
+        echo "$what: status $status, said: $(head -n 1 "$work/said")"
+        failed=1
+    fi
+}
+words 'exchanged letters' '`fomrs` is no command; the nearest is `forms`' fomrs a.aff a.dic
+words 'capitals' '`CHECK` is no command; the nearest is `check`' CHECK a.aff a.dic text
+words 'another word' '`spell` is no command' spell text
+words 'an option of another program' '`-d` is no command' -d en_US text
+words 'an empty word' 'there is no command' ''
+words 'a file in the place of the command' '`a.aff` is no command, but a file; a command stands before the files' a.aff a.dic text
+words 'no text' '`check` takes 3 names of files, and the words behind it are 2' check a.aff a.dic
+words 'two texts' '`many` is a word too many' check a.aff a.dic text many
+words 'help behind a command' '`--help` stands alone: `affedit --help`' check --help
+words 'an option in front' '`--own` stands too early: options stand behind the names of the files' check --own own a.aff a.dic text
+words 'a misspelled option' '`--worker` is no option; the nearest is `--workers`' check a.aff a.dic text --worker 2
+words 'another option' '`--verbose` is no option' check a.aff a.dic text --verbose
+words 'an option in one word' '`--workers=2` is two words: write `--workers 2`' check a.aff a.dic text --workers=2
+words 'workers without a number' '`--workers` has no number behind it' check a.aff a.dic text --workers
+words 'too many workers' '`17` is no number of workers: 0 to 16, in one or two digits' check a.aff a.dic text --workers 17
+words 'three digits' '`004` is no number of workers: 0 to 16, in one or two digits' check a.aff a.dic text --workers 004
+words 'workers twice' '`--workers` stands there twice' check a.aff a.dic text --workers 1 --workers 2
+words 'too many workers of edit' '`17` is no number of workers: 0 to 16, in one or two digits' edit a.aff a.dic --workers 17
+words 'no personal list' '`--own` has no name of a file behind it' check a.aff a.dic text --own
+words 'workers behind the list' '`--workers` stands too late: `--own OWN` is last' check a.aff a.dic text --own own --workers 2
+words 'an option of forms' '`--own` is a word too many: `forms` takes two names and nothing else' forms a.aff a.dic --own own
+words 'an option of pipe' '`--workers` is a word too many: `pipe` takes two names and nothing else' pipe a.aff a.dic --workers 1
+words 'one number' '`make` takes two numbers, and the words behind it are 1' make 7
+words 'a start that is too large' '`18446744073709551616` is no START: a decimal number below 2^64' make 18446744073709551616 4
+words 'a size of nothing' '`0` is no SIZE: a decimal number from 1 to 50000' make 7 0
+words 'a size that is too large' '`50001` is no SIZE: a decimal number from 1 to 50000' make 7 50001
+words 'a name that is not UTF-8' "word 3 of the command line is not UTF-8: \$'\\351.dic'" check a.aff $'\xe9.dic' text
+words 'a word for a terminal' '`?[31m?` is no command' $'\e[31m\n'
+
+# What is a form is taken, and then nothing is said of words.
+for form in "make 18446744073709551615 0001" "check a.aff a.dic text --workers 16" "check a.aff a.dic text --workers 00 --own own" "edit a.aff a.dic --workers 16 --own own" "forms a.aff a.dic" "pipe a.aff a.dic"; do
+    # shellcheck disable=SC2086
+    "$affedit" $form < /dev/null > "$work/out" 2> "$work/said" && status=0 || status=$?
+    [ "$status" -le 1 ] && [ ! -s "$work/said" ] || { echo "$form: status $status, said: $(cat "$work/said")"; failed=1; }
+done
+
+row 'a name that is not there' 5 missing check a.aff b.dic text << 'SAID'
+affedit: there is no file `b.dic`
+SAID
+row 'standard input by another name' 5 missing check a.aff a.dic - << 'SAID'
+affedit: there is no file `-`
+affedit: standard input is the file /dev/stdin
+SAID
+row 'no personal list' 5 missing edit a.aff a.dic --own none << 'SAID'
+affedit: there is no file `none`
+SAID
+ln -s none link
+row 'a link to nothing' 5 missing forms link a.dic << 'SAID'
+affedit: `link` is a link to a file that is not there
+SAID
+row 'a folder' 5 files check a.aff a.dic folder << 'SAID'
+affedit: `folder` is a folder, and no file
+SAID
+row 'a large file' 8 'limit 16777216' edit a.aff large << 'SAID'
+affedit: `large` has 16777217 bytes, and 16777216 are the most
+SAID
+row 'a long line' 8 'limit 65536' check a.aff a.dic long << 'SAID'
+long:3: the line has 65537 bytes, and 65536 are the most
+SAID
+row 'many lines' 8 'limit 20000' check a.aff a.dic many << 'SAID'
+affedit: `many` has 20001 lines, and 20000 are the most
+SAID
+row 'a text in Latin-1' 4 'doc 2' check a.aff a.dic latin << 'SAID'
+latin:2: the line is not UTF-8
+affedit: a text in Latin-1 becomes UTF-8 by: iconv -f ISO-8859-1 -t UTF-8
+SAID
+row 'exchanged files' 3 'dic 1 BadCount' check a.dic a.aff text << 'SAID'
+a.aff:1: the first line does not begin with the number of entries (BadCount)
+affedit: `a.dic` looks like a .dic file, and `a.aff` does not: the .aff file stands first
+SAID
+row 'a short table' 3 'aff 3 TableShort' check short.aff a.dic none << 'SAID'
+short.aff:3: the table announces more rows than it has (TableShort)
+affedit: affedit-lint-dictionary shows the line; affedit-prepare-dictionary mends such files
+SAID
+row 'the same of edit' 3 'aff 3 TableShort' edit short.aff a.dic << 'SAID'
+short.aff:3: the table announces more rows than it has (TableShort)
+affedit: affedit-lint-dictionary shows the line; affedit-prepare-dictionary mends such files
+SAID
+export AFFEDIT_QUIET=1
+row 'nothing is to be said' 5 missing check a.aff b.dic text < /dev/null
+unset AFFEDIT_QUIET
+input=folder
+row 'a folder as the input' 5 input edit a.aff a.dic << 'SAID'
+affedit: standard input is a folder, and could not be read
+SAID
+row 'a folder as the input of pipe' 5 input pipe a.aff a.dic << 'SAID'
+affedit: standard input is a folder, and could not be read
+SAID
+input=latin
+row 'a text from standard input' 4 'doc 2' check a.aff a.dic /dev/stdin << 'SAID'
+/dev/stdin:2: the line is not UTF-8
+affedit: a text in Latin-1 becomes UTF-8 by: iconv -f ISO-8859-1 -t UTF-8
+SAID
+head -c 131073 /dev/zero | tr '\0' a > line
+input=line
+for command in edit pipe; do
+    row "a long line of the input of $command" 8 'limit 131072' "$command" a.aff a.dic << 'SAID'
+affedit: the input has too many bytes, or a line of it has: the last line has the number that is the most
+SAID
+done
+input=/dev/null
+mkfifo pipe
+cat short.aff > pipe &
+row 'a dictionary from a pipe' 3 'aff 3 TableShort' check pipe a.dic text << 'SAID'
+affedit: a file of the dictionary, or the personal list, has a fault: the last line has the file, the line and the cause
+SAID
+if [ "$(id -u)" = 0 ]; then
+    install -m 600 a.dic secret
+    chmod a+rx "$work/real" "$work/real/out" "$work/real/tools" "$work/real/tools/launcher"
+    expect 'a file that may not be read' 5 'affedit: you may not read the file `secret`' "${as_other[@]}" "$affedit" check a.aff secret text
+fi
+
+# Each cause of the program has its words, and no other has.
+causes_of() { awk -v name="$2" -v kind="$1" '$0 ~ "pub enum " name " " { inside = 1; next } /^}/ { inside = 0 } inside && /^    [A-Z][A-Za-z0-9]*,/ { sub(/,.*/, ""); print kind "\t" $1 }' "$3"; }
+{
+    causes_of aff AffWhy "$top/crates/aff_lines/src/faults.rt"
+    causes_of dic DicWhy "$top/crates/dic_reader/src/faults.rt"
+    causes_of own OwnWhy "$top/crates/personal_words/src/faults.rt"
+} > "$work/causes"
+[ "$(wc -l < "$work/causes")" -gt 20 ] || { echo 'the causes of the program are not found'; failed=1; }
+grep -v '^#' "$top/tools/launcher/causes" | cut -f 1,2 | diff "$work/causes" - || { echo 'tools/launcher/causes has other causes than the program'; failed=1; }
+# The library says of a fault of a dictionary what the launcher says.
+sed -n 's/^ *\(Aff\|Dic\)Why::\([A-Za-z0-9]*\) => /\1\t\2\t/p; s/^ *\("[^"]*"\)$/\1/p' "$top/crates/dictionary_swap/src/causes.rt" |
+    awk -F '\t' '/{$/ { sub(/{$/, ""); held = $0; next } { print held $0; held = "" }' | sed 's/"\(.*\)",*$/\1/; s/^Aff/aff/; s/^Dic/dic/' > "$work/library"
+grep -E '^(aff|dic)	' "$top/tools/launcher/causes" | diff "$work/library" - || { echo 'crates/dictionary_swap says other causes than tools/launcher/causes'; failed=1; }
+
+# cause KIND LINE CAUSE AFF DIC [OWN]: a fault of these files, as formats of printf, is said at this line.
+cause() {
+    local kind=$1 line=$2 why=$3 own=() message
+    # shellcheck disable=SC2059
+    printf "$4" > f.aff
+    # shellcheck disable=SC2059
+    printf "$5" > f.dic
+    # shellcheck disable=SC2059
+    [ $# -lt 6 ] || { printf "$6" > f.own; own=(--own f.own); }
+    message=$(awk -F '\t' -v kind="$kind" -v why="$why" '$1 == kind && $2 == why { print $3 }' "$top/tools/launcher/causes")
+    "$affedit" check f.aff f.dic /dev/null "${own[@]}" > "$work/out" 2> "$work/said" && status=0 || status=$?
+    if [ "$status" != 3 ] || [ "$(cat "$work/out")" != "$kind $line $why" ] || [ "$(head -n 1 "$work/said")" != "f.$kind:$line: $message ($why)" ]; then
+        echo "$kind $why: status $status, printed: $(cat "$work/out"), said: $(cat "$work/said")"
+        failed=1
+    fi
+    echo "$kind	$why" >> "$work/tried"
+}
+: > "$work/tried"
+cause aff 2 NotUtf8 'SET UTF-8\nTRY \xff\n' '0\n'
+cause aff 1 OtherEncoding 'SET ISO8859-1\n' '0\n'
+cause aff 1 LeftOut 'COMPLEXPREFIXES\n' '0\n'
+cause aff 1 MissingField 'WORDCHARS\n' '0\n'
+cause aff 2 Twice 'FLAG long\nFLAG long\n' '0\n'
+cause aff 1 BadNumber 'AF many\n' '0\n'
+cause aff 1 TooMany 'AF 65001\n' '0\n'
+cause aff 1 TableShort 'AF 2\nAF A\n' '0\n'
+cause aff 1 OtherFlag 'FLAG wide\n' '0\n'
+cause aff 1 BadCross 'SFX A X 0\n' '0\n'
+cause aff 1 BadFlag 'NEEDAFFIX ab\n' '0\n'
+cause aff 5 BadAlias 'AF 2\nAF A\nAF B\nSFX A Y 1\nSFX A 0 s/3 .\n' '0\n'
+cause aff 2 BadCondition 'SFX A Y 1\nSFX A 0 s [ab\n' '0\n'
+cause aff 2 BadPattern 'COMPOUNDRULE 1\nCOMPOUNDRULE *a\n' '0\n'
+cause dic 2 NotUtf8 '' '1\n\xff\n'
+cause dic 1 BadCount '' 'work/A\n'
+cause dic 2 EmptyWord '' '1\n po:noun\n'
+cause dic 2 BadFlag 'FLAG long\n' '1\nfoo/abc\n'
+cause dic 2 BadAlias 'AF 1\nAF A\n' '1\nfoo/2\n'
+cause dic 1000002 TooMany '' "9\n$(seq -f 'a%g\n' -s '' 1000001)"
+cause own 2 NotUtf8 '' '0\n' 'a\n\xff\n'
+cause own 1 EmptyWord '' '0\n' '*\n'
+cause own 10001 TooMany '' '0\n' "$(seq -f 'a%g\n' -s '' 10001)"
+diff "$work/causes" "$work/tried" || { echo 'not each cause was tried'; failed=1; }
+
+# ---- nothing stands between the program and its input, its output and its signals
+
+"$affedit" check a.aff a.dic text > /dev/full 2> "$work/said" && status=0 || status=$?
+[ "$status" = 6 ] && [ "$(cat "$work/said")" = 'affedit: standard output could not be written' ] || { echo "a full disk: status $status, said: $(cat "$work/said")"; failed=1; }
+# A pipeline that is not read to its end would end this script too.
+{ status=0; "$affedit" make 7 50000 2> "$work/said" || status=$?; echo "$status" > "$work/status"; } | true
+[ "$(cat "$work/status")" = 6 ] && [ ! -s "$work/said" ] || { echo "a reader that ends: status $(cat "$work/status"), said: $(cat "$work/said")"; failed=1; }
+
+# ended SIGNAL [-]: a dialogue is answered line by line; the launcher then gets a signal, with a dash the whole group of processes does, as from a
+# terminal. The launcher ends by it, and the program is gone.
+ended() {
+    local launched status=0 answer='' rest=0
+    mkfifo to from
+    setsid env --default-signal=INT,QUIT "$affedit" edit a.aff a.dic < to > from 2> "$work/said" &
+    launched=$!
+    exec 7> to 8< from
+    rm to from
+    echo 'ins 1 wrods' >&7
+    read -r -t 300 -u 8 answer || true
+    [ "$answer" = 'ok 1' ] || { echo "before $1: the answer is '$answer'"; failed=1; }
+    echo 'settle' >&7
+    read -r -t 300 -u 8 answer || true
+    [ "$answer" = 'ok 1' ] || { echo "before $1: the second answer is '$answer'"; failed=1; }
+    kill -s "$1" -- "${2-}$launched"
+    wait "$launched" 2> /dev/null || status=$?
+    # The program had the only other end of its output.
+    read -r -t 300 -u 8 answer || rest=$?
+    exec 7>&- 8<&-
+    if [ "$status" != $((128 + $(kill -l "$1"))) ] || [ "$rest" != 1 ] || [ -s "$work/said" ]; then
+        echo "$1: status $status, the program still there: $rest, said: $(cat "$work/said")"
+        failed=1
+    fi
+}
+for signal in HUP INT QUIT TERM KILL USR1 PIPE; do
+    ended "$signal"
+    ended "$signal" -
+done
 exit "$failed"
