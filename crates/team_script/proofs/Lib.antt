@@ -1,0 +1,6 @@
+mod LineLemmas
+mod PairLemmas
+mod FileLemmas
+mod SessionLemmas
+mod NameLemmas
+mod CauseLemmas

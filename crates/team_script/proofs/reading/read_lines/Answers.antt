@@ -1,0 +1,36 @@
+-- What is due of all lines follows from what is due of those that are read.
+use Rattle.std.proofs.Common.{◌∙◌, inr}
+use Rattle.lists.specs.AnswerLaws.{gives-fault}
+use Rattle.text_lines.specs.Lines.{line_texts}
+use Rattle.team_script.specs.Due.{MayCome}
+use Rattle.team_script.proofs.FileLemmas.{lines-given, bad-given, fault-given}
+use Rattle.team_script.proofs.SessionLemmas.{due-numbered}
+use Rattle.team_script.proofs.reading.read_lines.Goals as goal
+
+pub returns-in_err-told-clause-due : goal.returns-in_err-told-clause-due
+returns-in_err-told-clause-due c =
+    gives-fault MayCome (λ told. told) c.from_residual-in_err-told.result
+    (fault-given c.args.bytes.now c.deref.result.now c.in_err-told.field-0.0
+    (c.deref.ensures ∙ c.in_ok-found.ensures.good) c.in_err-told.ensures)
+    c.from_residual-in_err-told.ensures.1
+
+pub returns-in-None-clause-due : goal.returns-in-None-clause-due
+returns-in-None-clause-due c =
+    lines-given c.args.bytes.now c.deref.result.now c.in_ok-found.found.bad c.in_ok-told.told
+    (c.deref.ensures ∙ c.in_ok-found.ensures.good) c.in_ok-found.ensures.bad c.in-None.is
+    c.in_ok-told.ensures
+
+pub returns-clause-due : goal.returns-clause-due
+returns-clause-due c =
+    inr (bad-given c.args.bytes.now c.deref.result.now c.in_ok-found.found.bad c.in-Some.line
+    c.in_ok-told.told
+    (c.deref.ensures ∙ c.in_ok-found.ensures.good) c.in_ok-found.ensures.bad c.in-Some.is
+    c.in_ok-told.ensures)
+
+pub returns-in-None-clause-sessions : goal.returns-in-None-clause-sessions
+returns-in-None-clause-sessions c =
+    due-numbered (line_texts c.args.bytes.now) c.in_ok-told.told
+    (c.sessions_are_numbered.ensures (line_texts c.args.bytes.now))
+    (lines-given c.args.bytes.now c.deref.result.now c.in_ok-found.found.bad c.in_ok-told.told
+    (c.deref.ensures ∙ c.in_ok-found.ensures.good) c.in_ok-found.ensures.bad c.in-None.is
+    c.in_ok-told.ensures)

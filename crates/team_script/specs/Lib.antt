@@ -1,0 +1,5 @@
+pub mod Lines
+pub mod Pairs
+pub mod Told
+pub mod Due
+pub mod Causes

@@ -1,0 +1,11 @@
+//! A line of a session.
+
+use text_lines::Text;
+
+/// A line of a session: its number, from 1 to 16, and the text that it is given, which may be
+/// empty.
+#[derive(Debug, Drop)]
+pub struct SessionLine {
+    pub session: u32,
+    pub text: Text,
+}
