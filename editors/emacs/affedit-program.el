@@ -92,13 +92,15 @@ Nil where it cannot be cut."
   "Send MESSAGE, and have REQUEST answered in its turn."
   (let ((process affedit--process))
     (unless (process-get process 'last)
-      (process-put process 'heard (float-time)))
+      (affedit--start-watch process))
     (process-put process 'last (nconc (process-get process 'last) (list request)))
     (process-put process 'sent (+ (process-get process 'sent) (string-bytes message)))
     (condition-case nil
         (process-send-string process message)
-      ;; The sentinel tells of a process that is gone.
-      (error nil))))
+      ;; The sentinel tells of a process that is gone.  One that is there, as it is stopped, would take the next request for this one.
+      (error (when (process-live-p process)
+               (process-put process 'told "it was not asked, as Emacs cannot write to it")
+               (kill-process process))))))
 
 (defun affedit--command (line done)
   "Send one command LINE that has one line of answer, which DONE gets."
@@ -172,7 +174,9 @@ Each line was inserted before those that stood, so P is the P-th of them from th
 
 (defun affedit--drop (process)
   "The first request of PROCESS has had all its answers."
-  (process-put process 'last (cdr (process-get process 'last))))
+  (process-put process 'last (cdr (process-get process 'last)))
+  (unless (process-get process 'last)
+    (affedit--stop-watch process)))
 
 (defun affedit--line (process end)
   "Take the line at point, up to END, of what PROCESS writes.
@@ -237,6 +241,7 @@ Returns a request and its result, where it is complete."
   "Tell every request of PROCESS that it gets no answer."
   (let ((requests (process-get process 'last)))
     (process-put process 'last nil)
+    (affedit--stop-watch process)
     (dolist (request requests)
       (unless (affedit--request-complete request)
         (funcall (affedit--request-done request) nil)))))
@@ -273,15 +278,33 @@ Returns a request and its result, where it is complete."
       (when is-current
         (funcall affedit--changed-function)))))
 
-(defun affedit--watch (process timer)
-  "Kill PROCESS where it does not answer; cancel the function of TIMER where it is gone."
-  (cond
-   ((not (process-live-p process))
-    (cancel-timer (car timer)))
-   ((and (process-get process 'last)
-         (> (- (float-time) (process-get process 'heard)) affedit--silence))
-    (process-put process 'told (format "no answer for %s seconds" affedit--silence))
-    (signal-process process 9))))
+(defun affedit--start-watch (process)
+  "From here on PROCESS owes an answer."
+  (let ((every (/ affedit--silence 4.0)) (now (float-time)))
+    (process-put process 'heard now)
+    (process-put process 'looked now)
+    (process-put process 'watch (run-with-timer every every #'affedit--watch process affedit--silence))))
+
+(defun affedit--stop-watch (process)
+  "PROCESS owes no answer."
+  (let ((timer (process-get process 'watch)))
+    (when timer
+      (cancel-timer timer)
+      (process-put process 'watch nil))))
+
+(defun affedit--watch (process silence)
+  "Kill PROCESS, and what it started, where it has written nothing for SILENCE seconds.
+Time in which Emacs itself stood still does not count, nor does what waits to be read."
+  (let ((now (float-time)))
+    (when (> (- now (process-get process 'looked)) (/ silence 2.0))
+      (process-put process 'heard now))
+    (process-put process 'looked now)
+    (when (and (> (- now (process-get process 'heard)) silence)
+               (not (accept-process-output process 0 nil t))
+               (process-live-p process))
+      (process-put process 'told (format "no answer for %s seconds" silence))
+      (affedit--stop-watch process)
+      (kill-process process))))
 
 (defun affedit--start ()
   "Start the process, or set `affedit--failed'."
@@ -289,7 +312,7 @@ Returns a request and its result, where it is complete."
       (let* ((process-connection-type nil)
              (process-adaptive-read-buffering nil)
              (default-directory "/")
-             (process-environment (cons "AFFEDIT_NO_BUILD=1" process-environment))
+             (process-environment (append '("AFFEDIT_NO_BUILD=1" "AFFEDIT_QUIET=1") process-environment))
              buffer)
         (unless affedit--pair
           (error "No dictionary is chosen"))
@@ -307,9 +330,6 @@ Returns a request and its result, where it is complete."
                             :command (list affedit-program "edit" (concat affedit--pair ".aff")
                                            (concat affedit--pair ".dic") "--own" affedit--own)))
         (process-put affedit--process 'sent 0)
-        (process-put affedit--process 'heard (float-time))
-        (let ((timer (list nil)) (every (/ affedit--silence 4.0)))
-          (setcar timer (run-with-timer every every #'affedit--watch affedit--process timer)))
         (process-put affedit--process 'answered 0)
         (mapc #'affedit--send-own affedit--pending))
     (error
@@ -327,12 +347,10 @@ Returns a request and its result, where it is complete."
   affedit--process)
 
 (defun affedit--quit ()
-  "Have the process end when it has answered what it was asked.  Returns it."
+  "Have the process end, which owes no answer."
   (let ((process affedit--process))
     (setq affedit--process nil)
-    (when process
-      (ignore-errors (process-send-string process "quit\n")))
-    process))
+    (ignore-errors (process-send-string process "quit\n"))))
 
 (defun affedit--ask (texts done)
   "Have TEXTS checked, and DONE called with the answers, or with nil."
@@ -378,11 +396,13 @@ Returns a request and its result, where it is complete."
 
 (defun affedit--restart ()
   "End the process, and forget what failed."
-  (setq affedit--failed nil affedit--ends nil)
-  (affedit--forget)
-  (let ((process (affedit--quit)))
+  (let ((process affedit--process))
+    (setq affedit--failed nil affedit--ends nil affedit--process nil)
+    (affedit--forget)
     (when process
-      ;; What it answers from here on does not count.
+      ;; It may hang, so it is not asked to quit; what it answers from here on does not count.
+      (when (process-live-p process)
+        (kill-process process))
       (affedit--fail process)))
   (funcall affedit--changed-function))
 
@@ -405,5 +425,9 @@ A name with a space cannot be said to a running process, so that one is ended."
          (affedit--tell "%s is not read: %s; %s stays" stem (substring answer 3) affedit--pair)))))))
 
 (provide 'affedit-program)
+
+;; Local Variables:
+;; byte-compile-docstring-max-column: 160
+;; End:
 
 ;;; affedit-program.el ends here

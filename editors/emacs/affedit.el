@@ -656,4 +656,8 @@ What is not known is asked about, and keeps the marks that it has until the answ
 
 (provide 'affedit)
 
+;; Local Variables:
+;; byte-compile-docstring-max-column: 160
+;; End:
+
 ;;; affedit.el ends here

@@ -11,6 +11,9 @@ M.paragraph_bytes = 65536
 -- A process that owes an answer and writes nothing for so many milliseconds is killed.
 M.silence = 60000
 
+-- So many milliseconds behind the end of the launcher its output is not waited for any more: without setpriv the program may outlive it.
+local output_patience = 5000
+
 -- The places at which a text is cut into paragraphs: behind spaces and tabs, which are of no word. Nil where it cannot be cut.
 local function cuts(text)
     local starts, from = { 0 }, 0
@@ -36,17 +39,18 @@ end
 -- the line that it ended with. Returns nil and a reason where there is nothing to start.
 function M.start(words, ended)
     local self = setmetatable({ requests = {}, first = 1, last = 0, tail = '', sent = 0, answered = 0 }, Program)
-    local environment = {}
-    for name, value in pairs(vim.fn.environ()) do
+    local environment, variables = {}, vim.fn.environ()
+    variables.AFFEDIT_NO_BUILD, variables.AFFEDIT_QUIET = '1', '1'
+    for name, value in pairs(variables) do
         environment[#environment + 1] = name .. '=' .. value
     end
-    environment[#environment + 1] = 'AFFEDIT_NO_BUILD=1'
     self.input, self.output = uv.new_pipe(false), uv.new_pipe(false)
     self.watch = uv.new_timer()
     local left = 2
     local function finish()
         left = left - 1
         if left == 0 then
+            self.watch:close()
             vim.schedule(function()
                 ended(self.code, self.signal, self.told)
             end)
@@ -54,11 +58,17 @@ function M.start(words, ended)
     end
     local arguments = vim.list_slice(words, 2)
     local options = { args = arguments, stdio = { self.input, self.output, nil }, env = environment, hide = true }
+    local function close_output()
+        if not self.output:is_closing() then
+            self.output:close()
+            finish()
+        end
+    end
     local handle, pid = uv.spawn(words[1], options, function(code, signal)
         self.code, self.signal = code, signal
         self.input:close()
         self.handle:close()
-        self.watch:close()
+        self.watch:start(output_patience, 0, close_output)
         finish()
     end)
     if not handle then
@@ -67,28 +77,61 @@ function M.start(words, ended)
         self.watch:close()
         return nil, tostring(pid)
     end
-    self.handle, self.pid, self.heard = handle, pid, uv.now()
-    self.watch:start(M.silence / 4, M.silence / 4, function()
-        if self:is_waiting() and uv.now() - self.heard > M.silence then
-            self.told = 'no answer for ' .. M.silence / 1000 .. ' seconds'
-            self.handle:kill(9)
-        end
-    end)
+    self.handle, self.pid = handle, pid
     self.output:read_start(function(_, data)
         if data then
             self:take(data)
         else
-            self.output:close()
-            finish()
+            close_output()
         end
     end)
     return self
+end
+
+-- Whether the process has not ended, as far as is known.
+function Program:is_running()
+    return not self.handle:is_closing()
+end
+
+-- Kills the process, and what it started: where there is no setpriv the end of the launcher does not end the program.
+function Program:kill()
+    vim.schedule(function()
+        if self:is_running() then
+            local found, children = pcall(vim.api.nvim_get_proc_children, self.pid)
+            self.handle:kill(9)
+            for _, child in ipairs(found and children or {}) do
+                uv.kill(child, 9)
+            end
+        end
+    end)
+end
+
+-- From here on an answer is owed. Time in which the editor itself stood still is no silence of the process.
+function Program:start_watch()
+    uv.update_time()
+    local silence, looked = M.silence, uv.now()
+    self.heard = looked
+    self.watch:start(silence / 4, silence / 4, function()
+        local now = uv.now()
+        if now - looked > silence / 2 then
+            self.heard = now
+        end
+        looked = now
+        if now - self.heard > silence then
+            self.told = 'no answer for ' .. silence / 1000 .. ' seconds'
+            self.watch:stop()
+            self:kill()
+        end
+    end)
 end
 
 -- Every request that waits is told that no answer comes, and none is taken any more.
 function Program:fail()
     local requests, first, last = self.requests, self.first, self.last
     self.requests, self.first, self.last = {}, 1, 0
+    if self:is_running() then
+        self.watch:stop()
+    end
     for at = first, last do
         if not requests[at].complete then
             requests[at].complete = true
@@ -98,8 +141,8 @@ function Program:fail()
 end
 
 function Program:push(request, lines)
-    if not self:is_waiting() then
-        self.heard = uv.now()
+    if not self:is_waiting() and self:is_running() then
+        self:start_watch()
     end
     self.last = self.last + 1
     self.requests[self.last] = request
@@ -205,6 +248,9 @@ end
 function Program:drop()
     self.requests[self.first] = nil
     self.first = self.first + 1
+    if not self:is_waiting() and self:is_running() then
+        self.watch:stop()
+    end
 end
 
 -- One line of what the process writes.
@@ -245,10 +291,10 @@ function Program:take(data)
     self.tail = data:sub(from)
 end
 
--- What it has answered, and is not taken yet, does not count either.
+-- What it has answered, and is not taken yet, does not count either. It may hang, so it is not asked to quit.
 function Program:void()
     self.is_void = true
-    self:quit()
+    self:kill()
     self:fail()
 end
 
