@@ -2,17 +2,21 @@
 # The plugins of editors/ in Neovim and in Emacs: after each of many edits the marks that they show are compared with what `check` prints of
 # the buffer's text, and then what is shown and told where something is wrong. An editor that is not installed is named, and left out.
 # Words: EDITS, how many random edits of each size of text, 100 without it; SEED, what they are drawn from. The status is 0 where nothing
-# differs. PROGRAM, of the environment, is another program than that of the launcher.
+# differs, and no process is left. PROGRAM, of the environment, is another launcher. No check depends on how quick the machine is.
 set -euo pipefail
 top=$(cd "$(dirname "$0")/.." && pwd)
 work=$(mktemp -d)
-trap 'rm -rf "$work"' EXIT
+nvim='' emacs=''
+trap 'kill $nvim $emacs 2> /dev/null || true; rm -rf "$work"' EXIT
 failed=0
 # The most seconds that an editor gets.
 limit=1800
 
 export TOP=$top EDITS=${1:-100} SEED=${2:-1} PROGRAM=${PROGRAM:-$top/affedit} TERM=xterm LC_ALL=C.UTF-8
-unset DICPATH VIMINIT NVIM_LISTEN_ADDRESS
+# Nothing is read from the user's own folders, nor written there.
+export HOME=$work/home
+mkdir "$HOME"
+unset DICPATH VIMINIT NVIM_LISTEN_ADDRESS XDG_CACHE_HOME XDG_CONFIG_HOME XDG_STATE_HOME
 
 # The program is built here, and not within an editor.
 status=0
@@ -21,6 +25,7 @@ if [ "$status" != 1 ]; then
     echo "there is no program to try the editors with: status $status" >&2
     exit 1
 fi
+export AFFEDIT_NO_BUILD=1
 
 # has WHAT COMMAND..: whether the commands are there; says so where they are not.
 has() {
@@ -34,31 +39,63 @@ has() {
     done
 }
 
+# The two editors run at once.
 if has Neovim nvim; then
-    export WORK=$work/nvim
-    mkdir "$WORK"
-    timeout -k 10 "$limit" \
-        nvim --headless --clean -i NONE -c "luafile $top/tests/editors/nvim.lua" -c 'cquit 3' < /dev/null 2> "$work/said" || {
-        echo "Neovim: status $?"
-        tail -n 5 "$work/said"
-        failed=1
-    }
+    mkdir "$work/nvim"
+    WORK=$work/nvim timeout -k 10 "$limit" nvim --headless --clean -i NONE -c "luafile $top/tests/editors/nvim.lua" -c 'cquit 3' \
+        < /dev/null > "$work/nvim-report" 2> "$work/nvim-said" &
+    nvim=$!
 fi
 
-# Emacs draws nothing without a terminal, so that it gets one.
+# The mode is compiled, as its README.md has it. Emacs draws nothing without a terminal, so that it gets one.
 if has Emacs emacs script stty; then
-    export WORK=$work/emacs REPORT=$work/report
-    mkdir "$WORK"
-    timeout -k 10 "$limit" script -qec "stty rows 30 cols 100; exec emacs -nw -Q -l '$top/tests/editors/emacs.el'" /dev/null \
-        < /dev/null > "$work/said" 2>&1 || {
+    mkdir "$work/emacs" "$work/compiled"
+    cp "$top"/editors/emacs/*.el "$work/compiled"
+    status=0
+    (cd "$work/compiled" && emacs -Q --batch -L . -f batch-byte-compile affedit-program.el affedit.el) > "$work/emacs-said" 2>&1 || status=$?
+    # Where Emacs compiles by itself, as it may, it shows each warning to the user.
+    if [ "$status" != 0 ] || grep -q Warning "$work/emacs-said"; then
+        echo "Emacs compiles the mode with warnings or faults: status $status"
+        head -n 5 "$work/emacs-said"
+        failed=1
+    fi
+    WORK=$work/emacs COMPILED=$work/compiled REPORT=$work/emacs-report timeout -k 10 "$limit" \
+        script -qec "stty rows 30 cols 100; exec emacs -nw -Q -l '$top/tests/editors/emacs.el'" /dev/null < /dev/null > "$work/emacs-said" 2>&1 &
+    emacs=$!
+fi
+
+if [ -n "$nvim" ]; then
+    wait "$nvim" || {
+        echo "Neovim: status $?"
+        tail -n 5 "$work/nvim-said"
+        failed=1
+    }
+    nvim=''
+    cat "$work/nvim-report"
+fi
+if [ -n "$emacs" ]; then
+    wait "$emacs" || {
         echo "Emacs: status $?"
         failed=1
     }
-    if [ -s "$REPORT" ]; then
-        cat "$REPORT"
+    emacs=''
+    if [ -s "$work/emacs-report" ]; then
+        cat "$work/emacs-report"
     else
         echo 'Emacs has reported nothing'
         failed=1
     fi
 fi
+
+# What was started here has the folder in its words. It ends with its editor, but perhaps a moment later.
+left() { grep -lsF -- "$work/" /proc/[0-9]*/cmdline || true; }
+until=$((SECONDS + 120))
+while [ -n "$(left)" ]; do
+    if [ "$SECONDS" -ge "$until" ]; then
+        echo "processes are left: $(left | tr '\n' ' ')"
+        failed=1
+        break
+    fi
+    sleep 0.1
+done
 exit "$failed"

@@ -11,12 +11,22 @@ vim.o.lines, vim.o.columns, vim.o.report, vim.o.more = 30, 100, 1000000, false
 local affedit = require('affedit')
 local marks = require('affedit.marks')
 local service = require('affedit.service')
+local dialogue = require('affedit.program')
 local api = vim.api
 local failures, compared, looks, dropped = 0, 0, 0, 0
+
+-- What is waited for comes at once on a quiet machine. Nothing but a fault reaches this limit, in milliseconds, however loaded the machine is.
+local limit = 120000
+-- No program is too slow here, but for the one that is silent.
+local patient = 3600000
+dialogue.silence = patient
 
 local told = {}
 vim.notify = function(text)
     told[#told + 1] = text
+    if text:find('no answer for', 1, true) then
+        dialogue.silence = patient
+    end
 end
 
 local function fail(what, detail)
@@ -32,14 +42,22 @@ local function expect(what, holds, detail)
     end
 end
 
+-- Waits until the condition holds, and says whether it does.
+local function wait(condition)
+    return (vim.wait(limit, condition, 1))
+end
+
+-- Waits until something like this is told.
 local function expect_told(what, pattern)
-    local all = table.concat(told, '\n')
-    expect(what, all:find(pattern), 'told was: ' .. all)
+    local holds = wait(function()
+        return table.concat(told, '\n'):find(pattern) ~= nil
+    end)
+    expect(what, holds, 'told was: ' .. table.concat(told, '\n'))
     told = {}
 end
 
 local function settle(what)
-    expect(what .. ': the marks are in after 100 seconds', vim.wait(100000, marks.is_idle, 1), service.failed)
+    expect(what .. ': the marks are in', wait(marks.is_idle), service.failed)
 end
 
 local function read(path)
@@ -129,6 +147,8 @@ local function compare(what, lines, unseen)
     settle(what)
     local buf = api.nvim_get_current_buf()
     local wanted = checked(lines or api.nvim_buf_get_lines(buf, 0, -1, true))
+    -- While `check` ran the editor took what came, and perhaps the end of the process.
+    settle(what)
     local found = shown(buf)
     compared = compared + 1
     if not vim.deep_equal(wanted, found) then
@@ -374,9 +394,10 @@ local function try_jumps()
         expect('all marks in turn, by ' .. way, vim.deep_equal(starts, visited), #starts .. ' and ' .. #visited)
     end
     vim.cmd('Affedit diagnostics')
-    expect('the diagnostics are there', vim.wait(60000, function()
+    local there = wait(function()
         return #vim.diagnostic.get(0) == #wanted
-    end, 5), #vim.diagnostic.get(0) .. ' of ' .. #wanted)
+    end)
+    expect('the diagnostics are there', there, #vim.diagnostic.get(0) .. ' of ' .. #wanted)
     local listed = vim.tbl_map(function(found)
         return ('%d %d %d'):format(found.lnum + 1, found.col, found.end_col)
     end, vim.diagnostic.get(0))
@@ -402,35 +423,71 @@ local function try_dictionaries()
     vim.cmd('Affedit dictionary ' .. work .. '/none')
     expect_told('a dictionary that is not there is told', 'no dictionary')
     vim.cmd('Affedit dictionary ' .. work .. '/bad')
-    vim.wait(60000, function() return #told > 0 end, 5)
+    wait(function() return #told > 0 end)
     compare('a dictionary that is refused')
     expect_told('it is told', 'bad is not read: aff 1 OtherEncoding; sample stays')
     vim.cmd('Affedit dictionary ' .. work .. '/other')
-    vim.wait(60000, function() return service.options.pair.name == 'other' end, 1)
+    wait(function() return service.options.pair.name == 'other' end)
     pair = { aff = work .. '/other.aff', dic = work .. '/other.dic' }
     compare('another dictionary')
     vim.cmd('Affedit dictionary ' .. work .. '/a folder/third')
     pair = { aff = work .. '/a folder/third.aff', dic = work .. '/a folder/third.dic' }
     compare('a dictionary with a space in its path')
     vim.cmd('Affedit dictionary ' .. top .. '/examples/sample')
-    vim.wait(60000, function() return service.options.pair.name == 'sample' end, 1)
+    wait(function() return service.options.pair.name == 'sample' end)
     pair = { aff = top .. '/examples/sample.aff', dic = top .. '/examples/sample.dic' }
     compare('the first dictionary again')
     expect('nothing more was told', #told == 0, table.concat(told, '\n'))
 end
 
+-- Kills the program, and waits until its end is seen; `before` is called in between.
+local function kill_program(before)
+    local ending = service.process()
+    vim.loop.kill(ending.pid, 9)
+    if before then
+        before()
+    end
+    expect('the end of the program is seen', wait(function() return service.process() ~= ending end))
+end
+
+-- The program, which the launcher has started.
+local function program_pid()
+    local pid = service.process().pid
+    return api.nvim_get_proc_children(pid)[1] or pid
+end
+
+-- Stops the program when it owes nothing, so that it is silent from the next request on.
+local function stop_program()
+    wait(function() return not service.process():is_waiting() end)
+    local pid = program_pid()
+    vim.loop.kill(pid, 'sigstop')
+    return pid
+end
+
+-- Whether a process has ended, though nobody may have asked for its status yet.
+local function is_gone(pid)
+    local file = io.open('/proc/' .. pid .. '/stat')
+    local text = file and file:read('*a')
+    if file then
+        file:close()
+    end
+    return not text or text:match('%) ([ZX])') ~= nil
+end
+
 local function try_ends()
     open(lines_of(3000))
+    compare('before the program is killed')
     told = {}
-    vim.loop.kill(service.process().pid, 9)
-    keys('ofoxx wrold')
+    kill_program(function()
+        keys('ofoxx wrold')
+    end)
     compare('the program is killed between requests')
     expect_told('its end is told', 'the program ended by signal 9; it is started again')
     affedit.run('restart')
     compare('restarted')
     vim.cmd('%s/$/ x/')
     vim.wait(5, function() return false end, 1)
-    vim.loop.kill(service.process().pid, 9)
+    kill_program()
     compare('the program is killed while it is asked')
     expect_told('its end is told too', 'it is started again')
     affedit.run('restart')
@@ -438,7 +495,7 @@ local function try_ends()
     local kept = read(own)
     write(own, kept .. '*\n')
     affedit.run('restart')
-    expect('the end is seen', vim.wait(60000, function() return service.failed ~= nil end, 5))
+    expect('the end is seen', wait(function() return service.failed ~= nil end))
     expect_told('a fault of the list is told with its line', 'words:%d+: EmptyWord; there are no marks until :Affedit restart')
     write(own, kept)
     affedit.run('restart')
@@ -455,7 +512,7 @@ local function try_ends()
     affedit.run('restart')
     compare('the program is there again')
     -- More lines change than the program takes paragraphs, before it answers.
-    vim.loop.kill(service.process().pid, 'sigstop')
+    local stopped = stop_program()
     for at = 1, 160 do
         local lines = {}
         for number = 1, 150 do
@@ -464,40 +521,44 @@ local function try_ends()
         api.nvim_buf_set_lines(0, at % 2 == 0 and 0 or -1, at % 2 == 0 and 0 or -1, true, lines)
         vim.wait(2, function() return false end, 1)
     end
-    vim.loop.kill(service.process().pid, 'sigcont')
+    expect('nothing is answered by a program that is stopped', marks.count(0).waiting >= 24000, marks.count(0).waiting)
+    vim.loop.kill(stopped, 'sigcont')
     settle('many changes at once')
     local count = marks.count(0)
     expect('all of them are checked', count.refused == 0 and count.waiting == 0, vim.inspect(count))
     api.nvim_buf_set_lines(0, 3000, -1, true, {})
     compare('some of many changes')
-    -- A program that does not answer.
-    require('affedit.program').silence = 4000
-    affedit.run('restart')
-    compare('the watch is shorter')
-    vim.loop.kill(service.process().pid, 'sigstop')
+    -- A program that does not answer is ended by the plugin, and one that is silent for a short while is not.
+    expect('nothing is told of a short silence', #told == 0, table.concat(told, '\n'))
+    local launcher = service.process().pid
+    stopped = stop_program()
+    dialogue.silence = 2000
     keys('ofoxx wroldx')
     compare('a program that is stopped')
-    expect_told('its silence is told', 'by signal 9: no answer for 4 seconds; it is started again')
-    require('affedit.program').silence = 60000
+    expect_told('its silence is told', 'by signal 9: no answer for 2 seconds; it is started again')
+    expect('it is gone', wait(function() return is_gone(stopped) and is_gone(launcher) end))
+    launcher = service.process().pid
+    stopped = stop_program()
+    keys('ofoxx wroldy')
     affedit.run('restart')
-    compare('the watch is longer again')
+    compare('a program that is stopped, and restarted')
+    expect('it is gone too', wait(function() return is_gone(stopped) and is_gone(launcher) end))
     -- Before its input is too large another process takes its place.
     local pid, most = service.process().pid, service.most_sent
     service.most_sent = service.process().sent + 1000
     for at = 1, 40 do
         keys('ofoxx wrold' .. at .. words(30))
         settle('a process is renewed')
+        wait(function() return not service.process():is_waiting() end)
     end
     compare('a process is renewed')
     expect('another process runs', service.process().pid ~= pid)
     service.most_sent = most
     expect('nothing is told of that', #told == 0, table.concat(told, '\n'))
-    service.ends_seconds = 1000
+    service.ends_seconds = 1000000
     for _ = 1, 3 do
-        local ending = service.process()
-        vim.loop.kill(ending.pid, 9)
-        vim.wait(60000, function() return service.process() ~= ending end, 1)
-        vim.wait(60000, function() return service.failed or marks.is_idle() and service.process().answered > 0 end, 5)
+        kill_program()
+        wait(function() return service.failed or marks.is_idle() and service.process().answered > 0 end)
     end
     service.ends_seconds = 10
     expect('three ends in a row are no reason to start a fourth process', service.failed ~= nil)
@@ -518,7 +579,6 @@ local function try_words()
     told = {}
     local before = read(own)
     vim.cmd('Affedit add *')
-    vim.wait(60000, function() return #told > 0 end, 5)
     expect_told('a word that is refused is told', '`%*` is not taken: no own EmptyWord')
     expect('and is not in the file', read(own) == before)
     vim.cmd('Affedit add *the')
@@ -527,7 +587,7 @@ local function try_words()
     affedit.run('restart')
     compare('a list without a last line feed')
     vim.cmd('Affedit add wrold/fox')
-    vim.loop.kill(service.process().pid, 9)
+    kill_program()
     compare('a word is added while the program ends')
     expect('the word is in the file once', read(own) == 'citys\nwrold/fox\n', read(own))
     write(own, '')
@@ -548,9 +608,9 @@ local function try_large()
     vim.cmd('redraw')
     vim.cmd('Affedit on')
     local first = vim.fn.getwininfo(api.nvim_get_current_win())[1].topline
-    expect('the screen is marked first', vim.wait(60000, function()
+    expect('the screen is marked first', wait(function()
         return marks.at(0, first - 1, 4) and marks.at(0, first + 10, 4)
-    end, 1))
+    end))
     expect('and the rest waits', marks.count(0).waiting > 50000, marks.count(0).waiting .. ' lines')
     look('the screen of a large buffer', api.nvim_get_current_win(), (function()
         local wanted = {}
