@@ -4,6 +4,8 @@
 ;; redisplay that has its marks.  KIND is `affedit', `flyspell' or `plain'.  For `flyspell' only spaces count: it checks a word behind them.
 
 (setq inhibit-startup-screen t make-backup-files nil auto-save-default nil create-lockfiles nil)
+;; Nothing is compiled beside what is measured: the mode is byte code.
+(setq native-comp-deferred-compilation nil native-comp-jit-compilation nil)
 (setenv "XDG_DATA_HOME" (getenv "WORK"))
 (add-to-list 'load-path (getenv "COMPILED"))
 (defvar kind (intern (getenv "KIND")))

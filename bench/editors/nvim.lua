@@ -15,7 +15,7 @@ vim.o.spell, vim.o.spelllang = kind == 'spell', 'en_us'
 local began, all = vim.loop.hrtime(), nil
 if marks then
     vim.cmd('Affedit on')
-    assert(vim.wait(120000, marks.is_idle, 1), 'not all lines are known')
+    assert(vim.wait(240000, marks.is_idle, 1), 'not all lines are known')
     all = (vim.loop.hrtime() - began) / 1e6
 end
 api.nvim_win_set_cursor(0, { math.floor(api.nvim_buf_line_count(0) / 2), 0 })
@@ -45,9 +45,12 @@ api.nvim_set_decoration_provider(api.nvim_create_namespace('bench'), {
         if #times == tonumber(vim.env.KEYS) then
             vim.schedule(function()
                 table.sort(times)
+                local function part(share)
+                    return times[math.max(math.floor(#times * share), 1)]
+                end
                 local version = vim.fn.execute('version'):match('NVIM v[^\n]*')
                 local report = ('%s, %s: median %.2f ms, one in ten below %.2f ms, nine below %.2f ms, of %d keys%s'):format(
-                    version, kind, times[math.floor(#times / 2)], times[math.floor(#times / 10)], times[math.floor(#times * 9 / 10)], #times,
+                    version, kind, part(0.5), part(0.1), part(0.9), #times,
                     all and ('; all lines known in %.0f ms, %d marks'):format(all, #marks.list(0)) or '')
                 vim.fn.writefile({ report }, vim.env.REPORT)
                 vim.cmd('qall!')
