@@ -58,6 +58,7 @@
 
 (defvar-local affedit--dirty nil "The changed places (BEG . END).")
 (defvar-local affedit--todo nil "The places (BEG . END) that are to be looked at in batches.")
+(defvar-local affedit--end nil "A marker at the end of the buffer: where it is not there, Emacs has not moved what stands behind a change.")
 (defvar-local affedit--made 0 "How many overlays were made since some were deleted.")
 (defvar-local affedit--told nil "Whether the user was told of a line that is not checked.")
 (defvar-local affedit--report nil "The function that flymake waits for.")
@@ -323,6 +324,13 @@ Before a window is drawn Emacs does not know where it ends, so that no more line
         (let ((range (affedit--moved affedit--dirty beg end old-end)))
           (setq affedit--dirty (cons (min (car range) beg) (max (cdr range) end))))
       (setq affedit--dirty (cons beg end)))
+    ;; Where a letter becomes two, as `ß' in capitals, Emacs 28 leaves overlays behind it where they were.
+    (unless (= affedit--end (1+ (buffer-size)))
+      (set-marker affedit--end (1+ (buffer-size)))
+      (save-restriction
+        (widen)
+        (affedit--delete-overlays beg (point-max))
+        (jit-lock-refontify beg)))
     (unless affedit--timer
       (setq affedit--timer (run-with-timer 0 nil #'affedit--flush-all)))))
 
@@ -424,6 +432,8 @@ What is not known is asked about, and keeps the marks that it has until the answ
         (remove-hook 'post-command-hook #'affedit--after-command t)
         (remove-hook 'change-major-mode-hook #'affedit--leave t)
         (jit-lock-unregister #'affedit--fontify)
+        (when affedit--end
+          (set-marker affedit--end nil))
         (save-restriction
           (widen)
           (affedit--delete-overlays (point-min) (point-max))))
@@ -433,6 +443,7 @@ What is not known is asked about, and keeps the marks that it has until the answ
        (setq affedit-mode nil)
        (signal (car fault) (cdr fault))))
     (cl-pushnew (current-buffer) affedit--buffers)
+    (setq affedit--end (copy-marker (1+ (buffer-size)) t))
     (add-hook 'after-change-functions #'affedit--after-change nil t)
     (add-hook 'post-command-hook #'affedit--after-command nil t)
     (add-hook 'change-major-mode-hook #'affedit--leave nil t)
