@@ -394,6 +394,19 @@ ended() {
         failed=1
     fi
 }
+# The program itself is killed, as where memory is short. The launcher then ends in the same way.
+mkfifo to from
+"$affedit" edit a.aff a.dic < to > from 2> "$work/said" &
+launched=$!
+exec 7> to 8< from
+rm to from
+echo 'ins 1 wrods' >&7
+read -r -t 300 -u 8 answer || true
+read -r child _ < "/proc/$launched/task/$launched/children" || true
+kill -s KILL "$child"
+wait "$launched" 2> /dev/null && status=0 || status=$?
+exec 7>&- 8<&-
+[ "$status" = 137 ] && [ ! -s "$work/said" ] || { echo "the program is killed: status $status, said: $(cat "$work/said")"; failed=1; }
 for signal in HUP INT QUIT TERM KILL USR1 PIPE; do
     ended "$signal"
     ended "$signal" -
