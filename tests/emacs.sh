@@ -78,5 +78,6 @@ asked behind a word of the session: été
 asked behind a personal word: none
 asked with a personal word: foxes
 WANTED
-TOP=$top WORK=$work LC_ALL=C.UTF-8 emacs --batch -Q -l "$work/try.el" > "$work/told" 2> "$work/errors" || { cat "$work/errors"; exit 1; }
+mkdir "$work/home"
+HOME=$work/home TOP=$top WORK=$work LC_ALL=C.UTF-8 emacs --batch -Q -l "$work/try.el" > "$work/told" 2> "$work/errors" || { cat "$work/errors"; exit 1; }
 diff "$work/wanted" "$work/told"

@@ -120,6 +120,8 @@ if [ "$(id -u)" = 0 ]; then
     mkdir -p "$work/root" "$work/database/updates" "$work/database/info"
     : > "$work/database/status"
     : > "$work/database/available"
+    # dpkg looks for commands of root.
+    PATH=$PATH:/usr/local/sbin:/usr/sbin:/sbin
     options=(--instdir="$work/root" --admindir="$work/database" --force-depends --log="$work/log")
     dpkg "${options[@]}" --install "$package" > "$work/said" 2>&1 || { cat "$work/said"; failed=1; }
     runs 'the package' "$work/root/usr" 's|affedit\.1$|affedit.1.gz|'
