@@ -144,6 +144,11 @@ local function send()
         receive(texts, answers)
         send()
         M.scan()
+    end, function(answers)
+        -- What is read before the line is drawn is drawn with it.
+        for index, text in ipairs(texts) do
+            memo.put(text, answers[index])
+        end
     end)
 end
 
@@ -266,6 +271,11 @@ local function change(buf, state, first, last_old, last_new)
         state.dirty = union(moved(state.dirty, first, last_old, last_new), first, last_new)
     else
         state.dirty = { first, last_new }
+        -- The program works while the editor still handles the key. What else changes in this tick is asked behind it.
+        if last_new - first == 1 and service.is_ready() then
+            want_rows(buf, first, last_new)
+            send()
+        end
         vim.schedule(function()
             flush(buf)
         end)

@@ -162,9 +162,10 @@ function Program:command(line, done)
     self:push({ done = done, left = 0, skip = 0 }, { line })
 end
 
--- Checks texts: `done` gets a list with the answer to each, as `memo` has them, or nil where the process ended.
-function Program:ask(texts, done)
-    local request = { done = done, answers = {}, owners = {}, offsets = {}, stands = {}, at = 0 }
+-- Checks texts: `done` gets a list with the answer to each, as `memo` has them, or nil where the process ended. `early` gets the list as
+-- soon as it is read, where little of the editor can be called.
+function Program:ask(texts, done, early)
+    local request = { done = done, early = early, answers = {}, owners = {}, offsets = {}, stands = {}, at = 0 }
     local lines, paragraphs = {}, 0
     for index, text in ipairs(texts) do
         local starts = #text <= M.paragraph_bytes and { 0 } or cuts(text)
@@ -236,6 +237,9 @@ end
 function Program:complete(request, result)
     self.answered = self.answered + 1
     request.complete = true
+    if request.early and not self.is_void then
+        request.early(result)
+    end
     vim.schedule(function()
         -- By now another process may have taken the place of this one, and another dictionary.
         request.done(not self.is_void and result or nil)

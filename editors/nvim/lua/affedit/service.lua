@@ -122,9 +122,14 @@ local function running()
     return current
 end
 
-function M.ask(texts, done)
+-- Whether a process runs that can be asked, so that none is started or ended for it.
+function M.is_ready()
+    return current ~= nil and current.sent <= M.most_sent
+end
+
+function M.ask(texts, done, early)
     if running() then
-        current:ask(texts, done)
+        current:ask(texts, done, early)
     else
         done(nil)
     end
