@@ -3,7 +3,9 @@
 # Neovim's and Vim's own `spell`, and flyspell with hunspell, on the same texts: 5,000 and 100,000 lines of ten words, of which one in twenty
 # or all are marked. What is not installed is named, and left out. It needs Debian's hunspell-en-us or another dictionary.
 # Each row has the median, the times that one key in ten and nine in ten were below, and how many keys. Of the plugins it has also how long
-# all lines took when the buffer was opened, and how many marks there are. A row `plain` is the editor without marks.
+# all lines took when the buffer was opened, and how many marks there are. A row `plain` is the editor without marks. A row `marks alone` is
+# the editor with marks like those of the plugin on the screen, and no plugin: what it has more than `plain` is the editor's own time.
+# In Emacs the rows `left to right` have `bidi-paragraph-direction` set: without it Emacs draws the whole window anew for each key.
 # Words: KEYS, how many keys, 200 without it; DICTIONARY, a name or path, en_US without it, of the plugins. PROGRAM, of the environment, is
 # another launcher.
 set -euo pipefail
@@ -52,8 +54,17 @@ in_terminal() {
     fi
 }
 
+# name_of KIND: what its row is called.
+name_of() {
+    if [ "$1" = marks ]; then
+        echo 'marks alone'
+    else
+        echo "$1"
+    fi
+}
+
 has 'Every editor' script stty || exit 0
-kinds=(affedit)
+kinds=(marks affedit)
 if ! is_dictionary "$DICTIONARY"; then
     echo "the plugins are left out: there is no dictionary $DICTIONARY; Debian has it in hunspell-en-us"
     kinds=()
@@ -87,13 +98,19 @@ for lines in 5000 100000; do
             case $editor in
                 nvim)
                     for kind in plain "${kinds[@]}" spell; do
-                        KIND=$kind in_terminal "Neovim, $kind" "nvim --clean -i NONE -c 'luafile $top/bench/editors/nvim.lua' '$TEXT'"
+                        name=$(name_of "$kind")
+                        KIND=$kind NAME=$name in_terminal "Neovim, $name" "nvim --clean -i NONE -c 'luafile $top/bench/editors/nvim.lua' '$TEXT'"
                     done
                     ;;
                 vim) in_terminal Vim "vim -u NONE -i NONE -n -S '$top/bench/editors/vim.vim' '$TEXT'" ;;
                 emacs)
                     for kind in plain "${kinds[@]}" "${flyspell[@]}"; do
-                        KIND=$kind in_terminal "Emacs, $kind" "emacs -nw -Q -l '$top/bench/editors/emacs.el'"
+                        name=$(name_of "$kind")
+                        KIND=$kind NAME=$name in_terminal "Emacs, $name" "emacs -nw -Q -l '$top/bench/editors/emacs.el'"
+                    done
+                    for kind in plain "${kinds[@]}"; do
+                        name="$(name_of "$kind"), left to right"
+                        DIRECTION=left-to-right KIND=$kind NAME=$name in_terminal "Emacs, $name" "emacs -nw -Q -l '$top/bench/editors/emacs.el'"
                     done
                     ;;
             esac

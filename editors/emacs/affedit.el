@@ -45,6 +45,7 @@
   "So many seconds are waited for the marks behind a command, so that Emacs draws the line once.")
 (defconst affedit--batch-bytes 8192 "A batch asks about at most so many bytes.")
 (defconst affedit--batch-lines 1000 "A batch looks at at most so many lines.")
+(defconst affedit--most-searched 20000 "A window with more characters is looked at line by line.")
 (defconst affedit--most-overlays 3000
   "With more overlays than these those that are not visible are deleted, since they make Emacs slow.")
 (defvar affedit--most-diagnostics 5000 "Flymake is told of at most so many marks.")
@@ -172,6 +173,28 @@ Before a window is drawn Emacs does not know where it ends, so that no more line
           (funcall function)
           (setq go (and (= 0 (forward-line 1)) (bolp))))))))
 
+;; One text is answered behind each key: Emacs's own search finds its lines sooner than a look at all of them.
+(defun affedit--paint-visible (texts answers)
+  "Mark the visible lines of the buffer that are among TEXTS; ANSWERS is a table of what was answered of them."
+  (let* ((windows (get-buffer-window-list nil nil t)) (window (car windows)) (text (car texts)))
+    (when window
+      (if (or (cdr texts) (cdr windows) (equal text "")
+              (> (- (window-end window) (window-start window)) affedit--most-searched))
+          (affedit--each-visible
+           (lambda ()
+             (let ((answer (gethash (affedit--text) answers 'unknown)))
+               (unless (eq answer 'unknown)
+                 (affedit--paint answer)))))
+        (affedit--widened
+          (goto-char (min (window-end window) (point-max)))
+          (let ((case-fold-search nil) (last (line-end-position)))
+            (goto-char (window-start window))
+            (forward-line 0)
+            ;; Before a window is drawn its end may be before its start.
+            (while (and (< (point) last) (search-forward text last t))
+              (when (equal text (affedit--text))
+                (affedit--paint (gethash text answers))))))))))
+
 (defun affedit--delete-overlays (beg end)
   "Delete the marks between BEG and END."
   (dolist (overlay (overlays-in beg end))
@@ -236,11 +259,7 @@ Before a window is drawn Emacs does not know where it ends, so that no more line
       (dolist (buffer affedit--buffers)
         (when (buffer-live-p buffer)
           (with-current-buffer buffer
-            (affedit--each-visible
-             (lambda ()
-               (let ((answer (gethash (affedit--text) now 'unknown)))
-                 (unless (eq answer 'unknown)
-                   (affedit--paint answer)))))
+            (affedit--paint-visible texts now)
             (affedit--purge))))
       (when refused
         (affedit--tell-of-refused)))))
