@@ -1,6 +1,7 @@
 mod LineLemmas
 mod PairLemmas
 mod FileLemmas
+mod BreakLemmas
 mod SessionLemmas
 mod NameLemmas
 mod CauseLemmas

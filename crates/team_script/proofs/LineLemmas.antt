@@ -2,7 +2,7 @@
 use Rattle.std.proofs.Common.{◌≡◌, ◌∙◌, ℕ, suc, ◌+◌, ◌<◌, cond, List, [], ◌∷◌, ◌++◌, length, map}
 use Rattle.std.proofs.Common.{drop, get_or, Option, Some, Ok, Err, refl, sym, ap}
 use Rattle.std.proofs.Common.{append_assoc, append-nil, add-one, drop-cons, Bool, true, false, Bor}
-use Rattle.std.proofs.Common.{filter, ◌≤◌, Result, IfOk, subst}
+use Rattle.std.proofs.Common.{filter, All, Result, IfOk, subst}
 use Rattle.std.proofs.lemmas.List.{map-append}
 use Rattle.std.proofs.lemmas.List.Elements.{All-map, All-filter}
 use Rattle.std.specs.List.{find, cons_option}
@@ -13,7 +13,7 @@ use Rattle.text_lines.specs.Lines.{text_of}
 use Rattle.team_script.specs.declared.fault.ScriptFault.TheVariants.{Bad}
 use Rattle.team_script.specs.declared.line.SessionLine.{SessionLine}
 use Rattle.team_script.specs.Lines.{told_by, told_in, is_unreadable, is_formless}
-use Rattle.team_script.specs.Lines.{is_of, texts_of, lent, text_limit, HaveShort, AreShort}
+use Rattle.team_script.specs.Lines.{is_of, texts_of, lent}
 use Rattle.team_script.specs.Due.{unless_bad, first_formless, good_due}
 
 -- the item at a place stands before those behind it
@@ -111,16 +111,16 @@ one-text {session = session} {texts = texts} line rest text is same are = record
       ∙ are.all;
 }
 
--- the texts of short lines are short
-pub short-texts : (session : ℕ) (lines : List SessionLine)
-    → HaveShort lines → AreShort (texts_of session lines)
-short-texts session lines short =
-    All-map (λ text. length text ≤ text_limit) (λ line. line.text) (filter (is_of session) lines)
-    (All-filter (is_of session) (λ line. length line.text ≤ text_limit) lines short)
+-- what each line's text is, each text of a session is
+pub session-texts : (P : List ℕ → Type 0) (session : ℕ) (lines : List SessionLine)
+    → All (λ line. P line.text) lines → All P (texts_of session lines)
+session-texts P session lines each =
+    All-map P (λ line. line.text) (filter (is_of session) lines)
+    (All-filter (is_of session) (λ line. P line.text) lines each)
 
-pub if-short : {T E : Type 0} (result : Result T E) (view : T → List (List ℕ))
-    (texts : List (List ℕ))
-    → IfOk result (λ given. view given ≡ texts) → AreShort texts
-    → IfOk result (λ given. AreShort (view given))
-if-short (Ok given) view texts is short = subst AreShort (sym is) short
-if-short (Err wanting) view texts is short = tt
+pub if-texts : {T E : Type 0} (P : List ℕ → Type 0) (result : Result T E)
+    (view : T → List (List ℕ)) (texts : List (List ℕ))
+    → IfOk result (λ given. view given ≡ texts) → All P texts
+    → IfOk result (λ given. All P (view given))
+if-texts P (Ok given) view texts is each = subst (All P) (sym is) each
+if-texts P (Err wanting) view texts is each = tt

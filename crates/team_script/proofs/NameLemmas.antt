@@ -1,11 +1,12 @@
 -- Which pairs stand among those of some lines, and where.
 use Rattle.std.proofs.Common.{◌≡◌, ◌≢◌, ◌↔◌, ◌∙◌, ℕ, zero, suc, Bool, true, false, not, cond, ◌||◌}
-use Rattle.std.proofs.Common.{List, [], ◌∷◌, ◌++◌, filter, Contains, AllPairs, Option, Some, None}
-use Rattle.std.proofs.Common.{Ok, inl, inr, refl, sym, ap, arith}
+use Rattle.std.proofs.Common.{List, [], ◌∷◌, ◌++◌, filter, All, Contains, AllPairs, Option, Some}
+use Rattle.std.proofs.Common.{None, Ok, inl, inr, refl, sym, ap, arith}
 use Rattle.std.proofs.Common.{not-suc-le-zero, le_of_suc-le-suc, if◌then◌else◌}
 use Rattle.std.specs.Cmp.Derive.{both_true}
 use Rattle.std.specs.List.{filter_map, cons_option}
 use Rattle.std.proofs.lemmas.Bool.{false≢true, or_right, or_left, or_cases}
+use Rattle.std.proofs.lemmas.List.Elements.{All-weaker, All-contains_itself}
 use Rattle.std.proofs.lemmas.List.Elements.{filter_passes, filter-append, filter_map-append}
 use Rattle.std.proofs.lemmas.List.Kept.{AllPairs-cons, AllPairs-filter}
 use Rattle.std.proofs.lemmas.Option.{same_Some}
@@ -20,7 +21,7 @@ use Rattle.console_lang.specs.CommandLines.{IsLineOf}
 use Rattle.team_script.specs.declared.line.SessionLine.{SessionLine}
 use Rattle.team_script.specs.declared.pairs.Pair.{Pair}
 use Rattle.team_script.specs.Pairs.{loads, loaded, loaded_by, is_same, is_among, each_once}
-use Rattle.team_script.specs.Pairs.{pairs_in, IsLoad, IsNamed, Begins}
+use Rattle.team_script.specs.Pairs.{pairs_in, IsLoad, IsNamed, Begins, LoadsAmong}
 use Rattle.team_script.proofs.PairLemmas.{same-≡}
 
 -- ---- the laws on the lines of commands
@@ -157,6 +158,16 @@ named-pairs have never lines pair = (
   λ named. among-once (filter_map loaded_by lines) pair
       ∙ named-loaded lines named.0 pair named.1 (is-load have never named.0 pair named.2),
 )
+
+-- where the pairs are those that lines load, the pair that one of them loads is among them
+pub loads-among : (pairs : List Pair) (lines : List SessionLine) → pairs ≡ pairs_in lines
+    → All (λ line. LoadsAmong pairs line.text) lines
+unfolding pairs_in
+loads-among pairs lines are =
+    All-weaker (Contains lines) (λ line. LoadsAmong pairs line.text)
+    (λ line there pair is. ap (λ found. is_among found pair) are
+    ∙ among-once (filter_map loaded_by lines) pair
+    ∙ named-loaded lines line pair there is) lines (All-contains_itself lines)
 
 -- ---- no pair stands twice
 differs-from : (pair other : Pair) → not (is_same pair other) ≡ true → pair ≢ other

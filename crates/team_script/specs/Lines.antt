@@ -1,8 +1,8 @@
 -- What the lines of a script give the sessions, and which line is bad.
-use Rattle.std.specs.Prelude.{ℕ, ◌+◌, ◌≤◌, ◌==◌, ◌||◌, Bool, true, false, not, List, length, map}
-use Rattle.std.specs.Prelude.{filter, All, nat_lt, position, Option, Some, None}
+use Rattle.std.specs.Prelude.{◌≡◌, ℕ, ◌+◌, ◌≤◌, ◌==◌, ◌||◌, Bool, true, false, not, List, length}
+use Rattle.std.specs.Prelude.{map, filter, All, nat_lt, position, Option, Some, None}
 use Rattle.std.specs.Borrow.{Bor}
-use Rattle.std.specs.List.{filter_map}
+use Rattle.std.specs.List.{AllByRecursion, filter_map}
 use Rattle.std.specs.Option.{option_map}
 use Rattle.std.specs.Str.{is_utf8}
 use Rattle.console_lang.specs.Scripts.{Said, ToSession, Unreadable, script_of}
@@ -63,6 +63,14 @@ HaveShort lines = All (λ line. length line.text ≤ text_limit) lines
 
 abbrev pub AreShort : List (List ℕ) → Type 0
 AreShort texts = All (λ text. length text ≤ text_limit) texts
+
+-- bytes without a line feed
+abbrev pub HasNoBreak : List ℕ → Type 0
+HasNoBreak bytes = AllByRecursion (λ byte. ¬ (byte ≡ 10)) bytes
+
+-- no text has a line feed
+abbrev pub HaveWhole : List SessionLine → Type 0
+HaveWhole lines = All (λ line. HasNoBreak line.text) lines
 
 -- texts that are lent, as their bytes
 abbrev pub lent : List (Bor (List ℕ)) → List (List ℕ)

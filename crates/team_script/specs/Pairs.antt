@@ -1,5 +1,5 @@
 -- Which pairs of dictionary files the lines of a script load.
-use Rattle.std.specs.Prelude.{◌≡◌, ℕ, ◌&&◌, Bool, not, List, [], ◌∷◌, ◌++◌, filter, Contains}
+use Rattle.std.specs.Prelude.{◌≡◌, ℕ, ◌&&◌, Bool, true, not, List, [], ◌∷◌, ◌++◌, filter, Contains}
 use Rattle.std.specs.Prelude.{Option, Some, None, Result, Ok, Err}
 use Rattle.std.specs.List.{filter_map, list_any}
 use Rattle.std.specs.Str.{bytes_eq}
@@ -37,6 +37,11 @@ is_same pair other = bytes_eq pair.aff other.aff && bytes_eq pair.dic other.dic
 -- whether a pair is the same as one of these
 abbrev pub is_among : List Pair → Pair → Bool
 is_among pairs pair = list_any (λ other. is_same other pair) pairs
+
+-- the pair that a text loads, if it loads one, is among these
+abbrev pub LoadsAmong : List Pair → List ℕ → Type 0
+LoadsAmong pairs text =
+    (pair : Pair) → loaded (said_by text) ≡ Some pair → is_among pairs pair ≡ true
 
 -- each pair of the list where it first comes, and not again
 abbrev pub each_once : List Pair → List Pair

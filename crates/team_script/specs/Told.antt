@@ -2,7 +2,7 @@
 use Rattle.std.specs.Prelude.{◌≡◌, ◌≤◌, List, length, All}
 use Rattle.team_script.specs.declared.line.SessionLine.{SessionLine}
 use Rattle.team_script.specs.declared.pairs.Pair.{Pair}
-use Rattle.team_script.specs.Lines.{HaveShort, IsNumbered}
+use Rattle.team_script.specs.Lines.{HaveShort, HaveWhole, IsNumbered}
 use Rattle.team_script.specs.Pairs.{pair_limit, pairs_in}
 
 -- the lines of the sessions in the order of the file, and the pairs in the order of first naming
@@ -13,10 +13,11 @@ pub record Told : Type 0 where
 abbrev pub told : List SessionLine → List Pair → Told
 told lines pairs = record { lines = lines; pairs = pairs }
 
--- the pairs are those that the lines load, the sessions are numbered from 1 to 16, and no limit is
--- passed
+-- the pairs are those that the lines load, the sessions are numbered from 1 to 16, no text has a
+-- line feed, and no limit is passed
 pub record IsTold (script : Told) : Type 0 where
   pub loaded : script.pairs ≡ pairs_in script.lines
   pub few : length script.pairs ≤ pair_limit
   pub short : HaveShort script.lines
   pub sessions : All IsNumbered script.lines
+  pub whole : HaveWhole script.lines

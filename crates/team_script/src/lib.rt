@@ -31,8 +31,9 @@ use std::alloc::Global;
 /// The script that a file is, or what is wrong with it first: a bad line, then a text that is too
 /// long, then too many pairs. `bytes` are those of the whole file. A byte order mark at its start
 /// is dropped, and so is a carriage return before a line feed. Lines count from 1. A text is all
-/// behind the number and the space, and has at most 131,072 bytes. A pair is two names of files;
-/// at most 4 different ones are loaded. Where memory is wanting, nothing is said of the file.
+/// behind the number and the space. It has at most 131,072 bytes, and no line feed. A pair is two
+/// names of files; at most 4 different ones are loaded. Where memory is wanting, nothing is said of
+/// the file.
 #[tactic(auto, unfolding(crate::specs::Due::script_due))]
 pub fn read_script(alloc: Global, bytes: &[u8]) -> Result<Script, ScriptFault>
     ensures { GivesDue MayCome (λ script. script) (script_due bytes.now) result }

@@ -4,7 +4,8 @@ ghost use Rattle.std.specs.Prelude.{◌≡◌, ℕ, List, All, OnOk, IfOk};
 ghost use Rattle.std.specs.List.{list_any};
 ghost use Rattle.lists.specs.Answers.{GivesDue};
 ghost use Rattle.text_lines.specs.Lines.{IsInside, line_texts};
-ghost use Rattle.team_script.specs.Lines.{told_in, is_long, HaveShort, IsNumbered};
+ghost use Rattle.team_script.specs.Lines.{told_in, is_long, HaveShort, HaveWhole};
+ghost use Rattle.team_script.specs.Lines.{IsNumbered};
 ghost use Rattle.team_script.specs.Due.{MayCome, good_due, lines_due, unless_long};
 
 use crate::fault::ScriptFault;
@@ -22,8 +23,9 @@ const TEXT_LIMIT: usize = 131_072;
 pub fn read_lines(alloc: Global, bytes: &[u8]) -> Result<Items<SessionLine>, ScriptFault>
     ensures due { GivesDue MayCome (λ told. told) (lines_due (line_texts bytes.now)) result }
     ensures sessions { IfOk result (All IsNumbered) }
+    ensures whole { IfOk result HaveWhole }
 {
-    sessions_are_numbered();
+    lines_are_sound();
     let found = lines(alloc, bytes)?;
     let told = good_lines(alloc, bytes, &found.good)?;
     match found.bad {
@@ -32,9 +34,11 @@ pub fn read_lines(alloc: Global, bytes: &[u8]) -> Result<Items<SessionLine>, Scr
     }
 }
 
-/// Each line that is told is for a session from 1 to 16.
-fn sessions_are_numbered()
-    ensures { (texts : List (List ℕ)) → All IsNumbered (told_in texts) }
+/// Each line that is told is for a session from 1 to 16. Where the lines are those of a file, no
+/// text that is told has a line feed.
+fn lines_are_sound()
+    ensures sessions { (texts : List (List ℕ)) → All IsNumbered (told_in texts) }
+    ensures whole { (bytes : List ℕ) → HaveWhole (told_in (line_texts bytes)) }
 {
     sessions_have_their_lines();
 }

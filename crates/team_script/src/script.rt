@@ -1,8 +1,9 @@
 //! A script that was read.
 
-ghost use Rattle.std.specs.Prelude.{◌≡◌, IfOk};
+ghost use Rattle.std.specs.Prelude.{◌≡◌, All, IfOk};
 ghost use Rattle.std.specs.List.{list_any};
-ghost use Rattle.team_script.specs.Lines.{is_of, texts_of, lent, AreShort};
+ghost use Rattle.team_script.specs.Lines.{is_of, texts_of, lent, AreShort, HasNoBreak};
+ghost use Rattle.team_script.specs.Pairs.{LoadsAmong};
 ghost use Rattle.team_script.specs.Told.{Told, IsTold};
 
 use crate::line::SessionLine;
@@ -64,12 +65,16 @@ impl Script {
         self.lines.iter().any(|line| line.session == session)
     }
 
-    /// The texts of this session, in their order, each of at most 131,072 bytes. All lines are gone
+    /// The texts of this session, in their order. Each has at most 131,072 bytes and no line feed,
+    /// and the pair that it loads, if it loads one, is among the script's pairs. All lines are gone
     /// through once. It fails only where memory is wanting.
     pub fn lines_of(&self, alloc: Global, session: u32) -> Result<Vec<&str>, NoMemory>
         ensures texts { IfOk result
             (λ texts. lent texts.items ≡ texts_of session self.now.lines) }
         ensures short { IfOk result (λ texts. AreShort (lent texts.items)) }
+        ensures whole { IfOk result (λ texts. All HasNoBreak (lent texts.items)) }
+        ensures named { IfOk result
+            (λ texts. All (LoadsAmong self.now.pairs) (lent texts.items)) }
     {
         texts_of(alloc, session, &self.lines)
     }

@@ -2,9 +2,10 @@
 use Rattle.std.proofs.Common.{◌∙◌, inr}
 use Rattle.lists.specs.AnswerLaws.{gives-fault}
 use Rattle.text_lines.specs.Lines.{line_texts}
+use Rattle.team_script.specs.Lines.{HasNoBreak, IsNumbered}
 use Rattle.team_script.specs.Due.{MayCome}
 use Rattle.team_script.proofs.FileLemmas.{lines-given, bad-given, fault-given}
-use Rattle.team_script.proofs.SessionLemmas.{due-numbered}
+use Rattle.team_script.proofs.SessionLemmas.{due-all}
 use Rattle.team_script.proofs.reading.read_lines.Goals as goal
 
 pub returns-in_err-told-clause-due : goal.returns-in_err-told-clause-due
@@ -29,8 +30,16 @@ returns-clause-due c =
 
 pub returns-in-None-clause-sessions : goal.returns-in-None-clause-sessions
 returns-in-None-clause-sessions c =
-    due-numbered (line_texts c.args.bytes.now) c.in_ok-told.told
-    (c.sessions_are_numbered.ensures (line_texts c.args.bytes.now))
+    due-all IsNumbered (line_texts c.args.bytes.now) c.in_ok-told.told
+    (c.lines_are_sound.ensures.sessions (line_texts c.args.bytes.now))
+    (lines-given c.args.bytes.now c.deref.result.now c.in_ok-found.found.bad c.in_ok-told.told
+    (c.deref.ensures ∙ c.in_ok-found.ensures.good) c.in_ok-found.ensures.bad c.in-None.is
+    c.in_ok-told.ensures)
+
+pub returns-in-None-clause-whole : goal.returns-in-None-clause-whole
+returns-in-None-clause-whole c =
+    due-all (λ line. HasNoBreak line.text) (line_texts c.args.bytes.now) c.in_ok-told.told
+    (c.lines_are_sound.ensures.whole c.args.bytes.now)
     (lines-given c.args.bytes.now c.deref.result.now c.in_ok-found.found.bad c.in_ok-told.told
     (c.deref.ensures ∙ c.in_ok-found.ensures.good) c.in_ok-found.ensures.bad c.in-None.is
     c.in_ok-told.ensures)
