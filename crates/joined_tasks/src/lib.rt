@@ -63,3 +63,40 @@ pub fn perform_beside<R: Threads + Sync, T: Task + Send, H: Task>(
         { here.perform() },
     );
 }
+
+/// Does two crowds of tasks at once, each task in a thread of its own, and behind the second crowd one
+/// more task in this thread. Where no thread can be made, the first crowd comes behind all others.
+pub fn perform_crowds<R: Threads + Sync, T: Task + Send, U: Task + Send, H: Task>(
+    rt: &R,
+    others: &mut Vec<T>,
+    crowd: &mut Vec<U>,
+    last: &mut H,
+)
+    requires others { All T.IsReady others.old.items }
+    requires crowd { All U.IsReady crowd.old.items }
+    requires last { H.IsReady last.old }
+    ensures others { AllZip T.Does others.old.items others.new.items }
+    ensures count { vec_len others.new ≡ vec_len others.old }
+    ensures crowd { AllZip U.Does crowd.old.items crowd.new.items }
+    ensures last { H.Does last.old last.new }
+{
+    join_mut(
+        rt,
+        &mut ||
+            requires { All T.IsReady others.now.items }
+            ensures others { AllZip T.Does others.entry.now.items others.exit.now.items }
+            ensures count { vec_len others.exit.now ≡ vec_len others.entry.now }
+        {
+            perform_all(rt, others.as_mut_slice());
+        },
+        &mut ||
+            requires crowd { All U.IsReady crowd.now.items }
+            requires last { H.IsReady last.now }
+            ensures crowd { AllZip U.Does crowd.entry.now.items crowd.exit.now.items }
+            ensures last { H.Does last.entry.now last.exit.now }
+        {
+            perform_all(rt, crowd.as_mut_slice());
+            last.perform();
+        },
+    );
+}

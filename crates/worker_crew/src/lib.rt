@@ -2,13 +2,13 @@
 #![tactic(auto)]
 
 ghost use Rattle.std.specs.Prelude.{◌≡◌, ◌+◌, ◌<◌, ◌≤◌, ◌++◌, length, map, vec_len, [], IfOk};
-ghost use Rattle.std.specs.List.{AllZip};
+ghost use Rattle.std.specs.List.{All, AllZip};
 ghost use Rattle.std.specs.Vec.{vec_capacity};
 ghost use Rattle.worker_crew.specs.Crews.{HasWorked};
 
 use board_share::{Desk, Eye, Naming};
 use check_workers::{Bell, Worker};
-use joined_tasks::{Task, perform_beside};
+use joined_tasks::{Task, perform_beside, perform_crowds};
 use lists::NoMemory;
 use mark_types::Judge;
 use outside::Gate;
@@ -113,6 +113,36 @@ pub fn work_beside<
         mut behind,
     } = crew;
     perform_beside(rt, &mut shifts, task);
+    give_back(shifts, &mut behind);
+    behind
+}
+
+/// Does a crowd of tasks at once, each in a thread of its own, beside the workers, and behind the crowd
+/// one more task in this thread, which closes the workers' bell. Where no thread can be made the workers
+/// come behind it. The eyes are given back in their order, with room for one more.
+pub fn work_beside_crowd<
+    'x,
+    J: Judge + Drop + Send + Sync,
+    D: Naming + Send + Sync,
+    W: Wait + Drop + Send + Sync,
+    R: Threads + Wait + Sync,
+    G: Gate + Sync,
+    T: Task + Send,
+    H: Task,
+>(crew: Crew<'x, J, D, W, R, G>, crowd: &mut Vec<T>, last: &mut H) -> Vec<Eye<J, D>>
+    requires crowd { All T.IsReady crowd.old.items }
+    requires last { H.IsReady last.old }
+    ensures worked { AllZip HasWorked crew.entry result.items }
+    ensures room { vec_len result < vec_capacity result }
+    ensures crowd { AllZip T.Does crowd.old.items crowd.new.items }
+    ensures last { H.Does last.old last.new }
+{
+    let Crew {
+        rt,
+        mut shifts,
+        mut behind,
+    } = crew;
+    perform_crowds(rt, &mut shifts, crowd, last);
     give_back(shifts, &mut behind);
     behind
 }
