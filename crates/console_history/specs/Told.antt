@@ -98,11 +98,16 @@ pub record IsPlaceTold (session : ℕ) (command : Command) (old new : EyeSeen) (
 
 -- ---- dictionaries
 
--- the dictionary of a seat came into force, and the reply tells the dictionary's version
-pub record IsReloadTold (old : EyeSeen) (after : Seat) (reply : Reply) : Type 0 where
+-- a dictionary came into force, and the reply tells the dictionary's version
+pub record IsLexiconTold (lexicon : Lexicon) (old new : EyeSeen) (reply : Reply) : Type 0 where
   pub told : ToldOf
-  pub publishes : Publishes (ALoad (in_force after.dictionary)) old after.eye told
+  pub publishes : Publishes (ALoad lexicon) old new told
   pub replied : reply ≡ Dict told.dict
+
+-- the dictionary of a seat came into force
+abbrev pub IsReloadTold : EyeSeen → Seat → Reply → Type 0
+IsReloadTold old after reply =
+    IsLexiconTold (in_force after.dictionary) old after.eye reply
 
 -- `load`: what is due of two files becomes the base, or its fault is told and nothing changes
 abbrev pub IsBaseTold : Seat → Result Lexicon LoadFault → Seat → Reply → Type 0
@@ -141,6 +146,17 @@ IsOwnTold before text after reply =
 abbrev pub Keeps : Seat → Seat → (EyeSeen → EyeSeen → Type 0) → Type 0
 Keeps before after does =
     (after.dictionary ≡ before.dictionary) × does before.eye after.eye
+
+-- what becomes of the eye by a command that is done without a dictionary
+unfoldable pub IsPlainTold : ℕ → Command → EyeSeen → EyeSeen → Reply → Type 0
+IsPlainTold session (Load aff dic) old new reply = ⊥
+IsPlainTold session (Own text) old new reply = ⊥
+IsPlainTold session Show old new reply =
+    Looks old new × (reply ≡ look_reply (last_of new.run))
+IsPlainTold session Settle old new reply =
+    Settles old new × (reply ≡ Done (last_of new.run).text_version)
+IsPlainTold session Quit old new reply = ⊥
+IsPlainTold session command old new reply = IsPlaceTold session command old new reply
 
 -- how a command is replied to, and what the console has then come to; `quit` is not replied to
 unfoldable pub IsToldTo : Option Folder → ℕ → Seat → Command → Seat → Reply → Type 0

@@ -1,11 +1,12 @@
 -- What a console over a desk has replied, and why it stops.
-use Rattle.std.specs.Prelude.{◌≡◌, ℕ, ◌+◌, ◌-◌, ◌^◌, ◌≤◌, true, List, [], ◌∷◌, ◌++◌, Option, None}
-use Rattle.std.specs.Prelude.{Some, is_some}
+use Rattle.std.specs.Prelude.{◌≡◌, ℕ, ◌+◌, ◌-◌, ◌^◌, ◌≤◌, Bool, true, false, List, [], ◌∷◌, ◌++◌}
+use Rattle.std.specs.Prelude.{Option, None, Some, is_some}
 use Rattle.outside.specs.Files.{Folder}
 use Rattle.edit_core.specs.declared.refusal.Refusal.{Refusal}
 use Rattle.edit_core.specs.declared.refusal.Refusal.TheVariants as refusal
 use Rattle.board_share.specs.Eyes.{EyeSeen, IsLater, events_in, last_of}
 use Rattle.console_lang.specs.declared.command.Command.{Command}
+use Rattle.console_lang.specs.declared.command.Command.TheVariants.{Load, Own, Quit}
 use Rattle.console_lang.specs.declared.reply.Reply.{Reply}
 use Rattle.console_board.specs.BoardAnswers.{reply_for}
 use Rattle.console_board.specs.Transcripts.{asked_by, failures_in, written_of}
@@ -38,6 +39,15 @@ pub record IsStopped (old new : EyeSeen) (stopped : Option Stop) : Type 0 where
   pub why : Stop
   pub stopped_is : stopped ≡ Some why
   pub cut : IsCutOff old new why
+
+-- ---- commands
+
+-- whether a command is done without a dictionary, and does not end the console
+abbrev pub is_plain : Command → Bool
+is_plain (Load aff dic) = false
+is_plain (Own text) = false
+is_plain Quit = false
+is_plain asked = true
 
 -- ---- how many lines may be answered
 

@@ -1,15 +1,17 @@
 //! What the commands of a console do that leave its dictionary.
 
-ghost use Rattle.std.specs.Prelude.{◌≡◌, ◌≤◌, IfErr, IfOk};
+ghost use Rattle.std.specs.Prelude.{◌≡◌, ◌≤◌, IfErr, IfOk, false, true};
+ghost use Rattle.std.specs.Arc.{arc_value};
 ghost use Rattle.edit_core.specs.Events.{event_of};
 ghost use Rattle.console_lang.specs.declared.reply.Reply.TheVariants.{Done};
 ghost use Rattle.board_share.specs.Eyes.{last_of};
 ghost use Rattle.console_board.specs.BoardAnswers.{IsAsked, look_reply};
-ghost use Rattle.console_board.specs.Transcripts.{HasWholeText};
-ghost use Rattle.console_history.specs.Told.{IsEventTold, IsPlaceTold, Looks, Settles};
-ghost use Rattle.desk_console.specs.Consoles.{IsCutOff};
+ghost use Rattle.console_board.specs.Transcripts.{HasWholeText, is_no_files};
+ghost use Rattle.console_history.specs.Told.{IsEventTold, IsLexiconTold, IsPlaceTold};
+ghost use Rattle.console_history.specs.Told.{IsPlainTold, Looks, Settles};
+ghost use Rattle.desk_console.specs.Consoles.{IsCutOff, is_plain};
 
-use crate::console::{DeskConsole, SESSION};
+use crate::console::DeskConsole;
 use crate::stop::{Stop, stop_of, turned_down};
 use board_share::Naming;
 use check_workers::settle;
@@ -19,11 +21,11 @@ use console_lang::{Command, Reply};
 use edit_core::Event;
 use mark_types::Judge;
 use std::alloc::Global;
-use std::sync::Wait;
+use std::sync::{Arc, Wait};
 
 impl<J: Judge + Drop, O: Drop, D: Naming, W: Wait + Drop, R: Wait> DeskConsole<'_, J, O, D, W, R> {
     /// `show`: what the board shows that is looked at.
-    pub(crate) fn show(&mut self, alloc: Global) -> Result<Reply, Stop>
+    fn show(&mut self, alloc: Global) -> Result<Reply, Stop>
         ensures dictionary { self.new.dictionary ≡ self.old.dictionary }
         ensures stopped { self.new.stopped ≡ self.old.stopped }
         ensures told { IfOk result (λ reply. Looks self.old.eye self.new.eye
@@ -36,7 +38,7 @@ impl<J: Judge + Drop, O: Drop, D: Naming, W: Wait + Drop, R: Wait> DeskConsole<'
     }
 
     /// `settle`: checks what is open on the board that is looked at.
-    pub(crate) fn settle(&mut self, alloc: Global) -> Result<Reply, Stop>
+    fn settle(&mut self, alloc: Global) -> Result<Reply, Stop>
         ensures dictionary { self.new.dictionary ≡ self.old.dictionary }
         ensures stopped { self.new.stopped ≡ self.old.stopped }
         ensures told { IfOk result (λ reply. Settles self.old.eye self.new.eye
@@ -50,19 +52,59 @@ impl<J: Judge + Drop, O: Drop, D: Naming, W: Wait + Drop, R: Wait> DeskConsole<'
         }
     }
 
-    /// What a command does that names a place of the board that is looked at: its event is
-    /// published or turned down, or there is no such place.
-    pub(crate) fn carry_out(&mut self, alloc: Global, command: Command) -> Result<Reply, Stop>
+    /// Does what a command asks for that is done without a dictionary, for the session with this
+    /// number, which its events name. `load`, `own` and `quit` are no such commands.
+    #[tactic(auto, unfolding(console_history::specs::Told::IsPlainTold))]
+    pub fn reply_as(&mut self, alloc: Global, session: u32, command: Command) -> Result<Reply, Stop>
+        requires plain { is_plain command ≡ true }
         requires whole { HasWholeText command }
         ensures dictionary { self.new.dictionary ≡ self.old.dictionary }
         ensures stopped { self.new.stopped ≡ self.old.stopped }
-        ensures told { IfOk result (IsPlaceTold SESSION command self.old.eye self.new.eye) }
+        ensures told { IfOk result (IsPlainTold session command self.old.eye self.new.eye) }
+        ensures cut { IfErr result (IsCutOff self.old.eye self.new.eye) }
+    {
+        match command {
+            Command::Show => self.show(alloc),
+            Command::Settle => self.settle(alloc),
+            Command::Load { .. } | Command::Own { .. } | Command::Quit => unreachable!(),
+            command => self.carry_out(alloc, session, command),
+        }
+    }
+
+    /// Brings a dictionary into force, and tells its version. The console's own stays.
+    pub fn bring_in(&mut self, alloc: Global, judge: Arc<J>) -> Result<Reply, Stop>
+        ensures dictionary { self.new.dictionary ≡ self.old.dictionary }
+        ensures stopped { self.new.stopped ≡ self.old.stopped }
+        ensures told { IfOk result
+            (IsLexiconTold (J.lexicon (arc_value judge)) self.old.eye self.new.eye) }
+        ensures cut { IfErr result (IsCutOff self.old.eye self.new.eye) }
+        ensures files { IfOk result (λ reply. is_no_files reply ≡ false) }
+    {
+        match self
+            .desk
+            .publish(self.rt, alloc, &mut self.eye, Event::Load { judge })
+        {
+            Ok(told) => {
+                self.bell.ring(self.rt);
+                Ok(Reply::Dict { dict: told.dict })
+            }
+            Err(refusal) => turned_down(refusal),
+        }
+    }
+
+    /// What a command does that names a place of the board that is looked at: its event is
+    /// published or turned down, or there is no such place.
+    fn carry_out(&mut self, alloc: Global, session: u32, command: Command) -> Result<Reply, Stop>
+        requires whole { HasWholeText command }
+        ensures dictionary { self.new.dictionary ≡ self.old.dictionary }
+        ensures stopped { self.new.stopped ≡ self.old.stopped }
+        ensures told { IfOk result (IsPlaceTold session command self.old.eye self.new.eye) }
         ensures cut { IfErr result (IsCutOff self.old.eye self.new.eye) }
     {
         asked_events_have_replies();
         told_commands_go_one_on();
         let board = self.eye.look()?;
-        match event_for(&board, SESSION, command) {
+        match event_for(&board, session, command) {
             None => Ok(Reply::NoPlace {
                 count: board.versions().paragraphs,
             }),

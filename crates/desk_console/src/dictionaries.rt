@@ -8,12 +8,11 @@ ghost use Rattle.desk_console.specs.Consoles.{IsCutOff};
 
 use crate::console::DeskConsole;
 use crate::dictionary::Dictionary;
-use crate::stop::{Stop, turned_down};
+use crate::stop::Stop;
 use board_share::Naming;
 use console_board::fault_reply;
 use console_lang::Reply;
 use dictionary_swap::load_lexicon;
-use edit_core::Event;
 use mark_types::Judge;
 use outside::Files;
 use personal_words::OwnLineFault;
@@ -84,16 +83,8 @@ where
         ensures files { IfOk result (λ reply. is_no_files reply ≡ false) }
     {
         let judge = Arc::try_clone(dictionary.judge())?;
-        match self
-            .desk
-            .publish(self.rt, alloc, &mut self.eye, Event::Load { judge })
-        {
-            Ok(told) => {
-                self.dictionary = dictionary;
-                self.bell.ring(self.rt);
-                Ok(Reply::Dict { dict: told.dict })
-            }
-            Err(refusal) => turned_down(refusal),
-        }
+        let reply = self.bring_in(alloc, judge)?;
+        self.dictionary = dictionary;
+        Ok(reply)
     }
 }

@@ -11,4 +11,5 @@ mod stop;
 
 pub use console::{DeskConsole, SESSION};
 pub use dictionary::Dictionary;
+pub use responding::{is_quit, push_reply, read_line};
 pub use stop::Stop;

@@ -142,7 +142,7 @@ where
     }
 
     /// What a command is replied to. `quit` is no command for it.
-    #[tactic(auto, unfolding(console_history::specs::Told::IsToldTo))]
+    #[tactic(auto, unfolding(console_history::specs::Told::IsToldTo, console_history::specs::Told::IsPlainTold))]
     fn respond<F: Files>(
         &mut self,
         alloc: Global,
@@ -165,15 +165,14 @@ where
         match command {
             Command::Load { aff, dic } => self.load(alloc, files, aff.as_str(), dic.as_str()),
             Command::Own { text } => self.own(alloc, text.as_str()),
-            Command::Show => self.show(alloc),
-            Command::Settle => self.settle(alloc),
             Command::Quit => unreachable!(),
-            command => self.carry_out(alloc, command),
+            command => self.reply_as(alloc, SESSION, command),
         }
     }
 }
 
-fn is_quit(command: &Command) -> bool
+/// Whether a command ends the console.
+pub fn is_quit(command: &Command) -> bool
     ensures quit { OnTrue result (command.now ≡ Command.Quit) }
     ensures other { OnFalse result (¬ (command.now ≡ Command.Quit)) }
 {
@@ -181,7 +180,7 @@ fn is_quit(command: &Command) -> bool
 }
 
 /// What a line asks for: nothing where it is blank. One that is not UTF-8 is no command.
-fn read_line(alloc: Global, line: &[u8]) -> Result<Option<Command>, CommandFault>
+pub fn read_line(alloc: Global, line: &[u8]) -> Result<Option<Command>, CommandFault>
     ensures { IsAnswer (line_says line.now) result }
 {
     match std::str::from_utf8(line) {
@@ -191,7 +190,7 @@ fn read_line(alloc: Global, line: &[u8]) -> Result<Option<Command>, CommandFault
 }
 
 /// Adds the lines of a reply, or none of them where memory is wanting.
-fn push_reply(alloc: Global, reply: &Reply, replies: &mut String) -> Result<(), NoMemory>
+pub fn push_reply(alloc: Global, reply: &Reply, replies: &mut String) -> Result<(), NoMemory>
     ensures added { OnOk result
         (string_bytes replies.new ≡ string_bytes replies.old ++ written_of (reply.now ∷ [])) }
     ensures kept { OnErr result (string_bytes replies.new ≡ string_bytes replies.old) }
