@@ -1,0 +1,2 @@
+pub mod ToldBy
+pub mod Eyes
