@@ -1,0 +1,4 @@
+pub mod Pairs
+pub mod Sessions
+pub mod Teams
+pub mod Seats
