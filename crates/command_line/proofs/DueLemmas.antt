@@ -89,6 +89,12 @@ own-fails read ListWanting is = inl tt
 
 -- ---- what is due
 
+-- what a call fails with is so
+pub failed-so : {A E : Type 0} (Holds : E → Type 0) {fault : E} (result : Result A E)
+    → IsErrAnd result (λ told. told ≡ fault) → Holds fault → IfErr result Holds
+failed-so Holds (Ok given) is holds = tt
+failed-so Holds (Err told) is holds = subst Holds (sym is) holds
+
 -- a failure that is told may come at any time, or is a fault of the files or of the document
 abbrev pub IsTold : Failure → Type 0
 IsTold failure = MayCome failure ⊎ (is_fault failure ≡ true)
@@ -112,7 +118,7 @@ pub then-told : {A B : Type 0} (due : Result A Failure) (next : A → Result B F
 then-told (Ok given) next told later = later given
 then-told (Err failure) next told later = told
 
-bytes-told : (limit : ℕ) (file : Option (List ℕ)) → IfErr (bytes_due limit file) IsTold
+pub bytes-told : (limit : ℕ) (file : Option (List ℕ)) → IfErr (bytes_due limit file) IsTold
 unfolding bytes_due
 bytes-told limit file =
     failing-told (file_failure limit) (λ fault. load-told (load_fault_of limit fault))
@@ -163,20 +169,35 @@ pub failure-told : {A : Type 0} {due : Result A Failure} {failure : Failure}
 failure-told told (inl comes) = inl comes
 failure-told told (inr is) = IfErr-at_err IsTold is told
 
--- and it has no other cause than a failed file
+-- a failure that is of neither the words nor an input
+abbrev pub IsOfNeither : Failure → Type 0
+IsOfNeither Words = ⊥
+IsOfNeither Input = ⊥
+IsOfNeither _ = Unit {0}
+
+pub told-neither : (failure : Failure) → IsTold failure → IsOfNeither failure
+told-neither Words (inl never) = never
+told-neither Words (inr never) = absurd (cc)
+told-neither Input (inl never) = never
+told-neither Input (inr never) = absurd (cc)
+told-neither _ told = tt
+
+-- has no other cause than a failed file
+pub neither-caused : {asked : Option Request} {met : Met} {failure : Failure} → IsOfNeither failure
+    → (failure ≡ Load FailedLoad → met.files_before < met.files_after)
+    → IsCaused asked met [] (Failed failure)
+neither-caused {failure = failure} neither rose = record {
+  words = λ is. let same : failure ≡ Words = cc in absurd (subst IsOfNeither same neither);
+  files = λ is. rose (cc);
+  input = λ is. let same : failure ≡ Input = cc in absurd (subst IsOfNeither same neither);
+  alone = λ is. refl;
+}
+
+-- nor has one that is told
 pub failure-caused : {asked : Option Request} {met : Met} {failure : Failure} → IsTold failure
     → (failure ≡ Load FailedLoad → met.files_before < met.files_after)
     → IsCaused asked met [] (Failed failure)
-failure-caused {failure = failure} told rose = record {
-  words = λ is. let same : failure ≡ Words = cc in other (subst IsTold same told);
-  files = λ is. rose (cc);
-  input = λ is. let same : failure ≡ Input = cc in other (subst IsTold same told);
-  alone = λ is. refl;
-}
-  where
-    other : {A : Type 0} → ⊥ ⊎ (false ≡ true) → A
-    other (inl never) = absurd never
-    other (inr never) = absurd (cc)
+failure-caused {failure = failure} told rose = neither-caused (told-neither failure told) rose
 
 -- ---- files
 
@@ -195,7 +216,7 @@ pub some-file : (told : Option Folder) (name : List ℕ) {P : Option (List ℕ) 
 some-file None name (file, is) is_told = (file, tt, is)
 some-file (Some folder) name some is_told = (folder name, refl, is_told)
 
-any-file : (told : Option Folder) (name : List ℕ) → (file : Option (List ℕ))
+pub any-file : (told : Option Folder) (name : List ℕ) → (file : Option (List ℕ))
     × IsFileThere told name file
 any-file None name = (None, tt)
 any-file (Some folder) name = (folder name, refl)

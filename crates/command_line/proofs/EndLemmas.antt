@@ -2,6 +2,7 @@
 use Rattle.std.proofs.Common.{◌≡◌, ◌∙◌, ◌⊎◌, inl, inr, ℕ, zero, suc, ◌<◌, ◌==◌, true, false, List}
 use Rattle.std.proofs.Common.{[]}
 use Rattle.std.proofs.Common.{◌++◌, Option, None, Result, refl, sym, ap, subst, arith}
+use Rattle.std.proofs.Common.{append-nil}
 use Rattle.outside.specs.Laws.{appends-front, appends-more}
 use Rattle.outside.specs.Sink.{Appends}
 use Rattle.dictionary_swap.specs.declared.fault.LoadFault.TheVariants.{Failed as FailedLoad}
@@ -18,10 +19,11 @@ use Rattle.command_line.specs.Forms.{IsAnswerTo, IsCaused, Met, is_alone}
 use Rattle.command_line.specs.Given.{end_by, text_by}
 use Rattle.command_line.specs.declared.requests.Request.{Request}
 use Rattle.command_line.specs.declared.ending.End.{End}
-use Rattle.command_line.specs.declared.ending.End.TheVariants.{Failed}
+use Rattle.command_line.specs.declared.ending.End.TheVariants.{Failed, Quiet}
 use Rattle.command_line.specs.declared.failure.Failure.{Failure}
 use Rattle.command_line.specs.declared.failure.Failure.TheVariants.{Words, Load, Document, Input}
 use Rattle.command_line.specs.declared.failure.Failure.TheVariants.{Limit, ManyForms, NoMemory, Own}
+use Rattle.command_line.specs.declared.failure.Failure.TheVariants.{Script}
 
 -- ---- what is put
 
@@ -76,6 +78,21 @@ ends-weaker fails weak ends = record {
   put = put-sooner fails ends.put;
 }
 
+-- a text is put, and nothing behind it
+pub all-put : {sink_failed whole_failed : Type 0} {answers : List ℕ → End → Type 0}
+    {before now : Option (List ℕ)} {status : ℕ} (text : List ℕ)
+    → (sink_failed → whole_failed) → answers text Quiet
+    → IsPut 0 text sink_failed before now status
+    → EndsAs answers whole_failed before now status
+all-put text fails is put = record {
+  text = text;
+  due = Quiet;
+  answer = is;
+  end = Quiet;
+  end_is = inr refl;
+  put = rw (append-nil text) (put-sooner fails put);
+}
+
 -- an outcome is put
 pub outcome-put : {sink_failed whole_failed : Type 0} {answers : List ℕ → End → Type 0}
     {before now : Option (List ℕ)} {status : ℕ} (outcome : Result Report Failure)
@@ -126,6 +143,7 @@ failure-nonzero (Document (TooManyParagraphs limit)) = refl
 failure-nonzero (Document (LongParagraph limit)) = refl
 failure-nonzero (Document ReportWanting) = refl
 failure-nonzero (ManyForms limit) = refl
+failure-nonzero (Script line) = refl
 failure-nonzero Input = refl
 failure-nonzero (Limit limit) = refl
 failure-nonzero NoMemory = refl

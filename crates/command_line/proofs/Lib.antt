@@ -3,3 +3,5 @@ pub mod DueLemmas
 pub mod ListingLemmas
 pub mod DialogueLemmas
 pub mod MadeLemmas
+pub mod TeamLemmas
+pub mod PutLemmas

@@ -18,10 +18,15 @@ use Rattle.document_report.specs.declared.fault.DocumentFault.TheVariants.{NoMem
 use Rattle.form_lister.specs.declared.faults.FormsFault.{FormsFault}
 use Rattle.form_lister.specs.declared.faults.FormsFault.TheVariants.{TooMany}
 use Rattle.form_lister.specs.declared.faults.FormsFault.TheVariants.{NoMemory as ListingWanting}
+use Rattle.team_script.specs.declared.fault.ScriptFault.{ScriptFault}
+use Rattle.team_script.specs.declared.fault.ScriptFault.TheVariants.{Bad, LongLine, ManyPairs}
+use Rattle.team_script.specs.declared.fault.ScriptFault.TheVariants.{NoMemory as ScriptWanting}
+use Rattle.input_lines.specs.declared.limits.TheConstants.{LINE_LIMIT}
+use Rattle.command_line.specs.declared.limits.TheConstants.{MOST_PAIRS}
 use Rattle.command_line.specs.declared.failure.Failure.{Failure}
 use Rattle.command_line.specs.declared.failure.Failure.TheVariants.{Words, Load, Own, Document}
 use Rattle.command_line.specs.declared.failure.Failure.TheVariants.{Input, Limit, NoMemory}
-use Rattle.command_line.specs.declared.failure.Failure.TheVariants.{ManyForms}
+use Rattle.command_line.specs.declared.failure.Failure.TheVariants.{ManyForms, Script}
 
 -- ---- the exit status
 
@@ -45,6 +50,7 @@ status_of (Load fault) = load_status fault
 status_of (Own line why) = 3
 status_of (Document fault) = document_status fault
 status_of (ManyForms limit) = 8
+status_of (Script line) = 4
 status_of Input = 5
 status_of (Limit limit) = 8
 status_of NoMemory = 7
@@ -79,6 +85,7 @@ last_line (Load fault) = load_line fault
 last_line (Own line why) = fault_line (codes "own") line (own_why_name why)
 last_line (Document fault) = document_line fault
 last_line (ManyForms limit) = limit_line limit
+last_line (Script line) = codes "script " ++ (decimal line ++ codes "\n")
 last_line Input = codes "input\n"
 last_line (Limit limit) = limit_line limit
 last_line NoMemory = codes "memory\n"
@@ -111,6 +118,13 @@ abbrev pub failure_of_forms : FormsFault → Failure
 failure_of_forms (TooMany limit) = ManyForms limit
 failure_of_forms ListingWanting = NoMemory
 
+-- why a file is no script
+abbrev pub script_failure : ScriptFault → Failure
+script_failure (Bad line) = Script line
+script_failure LongLine = Limit LINE_LIMIT
+script_failure ManyPairs = Limit MOST_PAIRS
+script_failure ScriptWanting = NoMemory
+
 -- whether a failure is one of the files or of the document themselves: one is not there or too
 -- large, something in it is wrong, or a dictionary has too many forms to be listed
 abbrev pub is_fault : Failure → Bool
@@ -121,4 +135,5 @@ is_fault (Own line why) = true
 is_fault (Document ReportWanting) = false
 is_fault (Document fault) = true
 is_fault (ManyForms limit) = true
+is_fault (Script line) = true
 is_fault _ = false

@@ -1,6 +1,6 @@
 -- What there is to say of each form of words: whether it names files, whether it reads the input,
 -- what it may be answered, and what is whole.
-use Rattle.std.specs.Prelude.{◌≡◌, ℕ, ◌==◌, ◌<◌, Bool, true, false, ◌&&◌, List, [], ◌∷◌, ◌++◌}
+use Rattle.std.specs.Prelude.{◌≡◌, ℕ, ◌==◌, ◌<◌, Bool, true, false, ◌&&◌, ◌||◌, List, [], ◌∷◌, ◌++◌}
 use Rattle.std.specs.Prelude.{Option, Some, None, is_some, Result, Ok, Err, if◌then◌else◌}
 use Rattle.std.specs.Bool.{OnFalse}
 use Rattle.std.specs.List.{AllByRecursion}
@@ -22,16 +22,18 @@ use Rattle.pipe_mode.specs.Pipes.{ends_input, pipe_answers}
 use Rattle.command_line.specs.Due.{Found, IsFound, IsOwnThere, OwnFiles, check_due, dictionary_due}
 use Rattle.command_line.specs.Due.{forms_due, in_force_due, make_due, own_found_in}
 use Rattle.command_line.specs.Failures.{is_fault}
-use Rattle.command_line.specs.Operands.{DictionaryNamed}
+use Rattle.command_line.specs.Operands.{DictionaryNamed, TeamNamed}
+use Rattle.command_line.specs.Teams.{ArePairs, AreTeamFiles, IsTeamPrinted, TeamFiles, TeamSeen}
+use Rattle.command_line.specs.Teams.{pairs_failure, pairs_found_in, team_due, team_found_in}
 use Rattle.command_line.specs.declared.requests.Request.{Request}
 use Rattle.command_line.specs.declared.requests.Request.TheVariants.{Check, Make, Edit, Listing}
-use Rattle.command_line.specs.declared.requests.Request.TheVariants.{Pipe}
+use Rattle.command_line.specs.declared.requests.Request.TheVariants.{Pipe, Team}
 use Rattle.command_line.specs.declared.ending.End.{End}
 use Rattle.command_line.specs.declared.ending.End.TheVariants.{Quiet, Marked, Failed}
 use Rattle.command_line.specs.declared.failure.Failure.{Failure}
 use Rattle.command_line.specs.declared.failure.Failure.TheVariants.{Words, Load, Own, Document}
 use Rattle.command_line.specs.declared.failure.Failure.TheVariants.{Input, Limit, NoMemory}
-use Rattle.command_line.specs.declared.failure.Failure.TheVariants.{ManyForms}
+use Rattle.command_line.specs.declared.failure.Failure.TheVariants.{ManyForms, Script}
 use Rattle.input_lines.specs.declared.limits.TheConstants.{INPUT_LIMIT, LINE_LIMIT}
 
 -- What a call meets outside: what the folder tells, how often the files had failed before the call
@@ -214,6 +216,54 @@ HasReplied workers met dictionary lines said =
 abbrev pub HasPiped : Answering Lexicon
 HasPiped met lexicon lines said = said ≡ pipe_answers lexicon lines
 
+-- ---- sessions at once
+
+-- How words may be answered that ask for sessions at once: all have ended, and what they were told
+-- is printed; or it is due that the dictionary, the script or a pair that it loads is refused, the
+-- files failed, or memory was wanting. Of these only the last line is written.
+pub data IsTeamAnswer (met : Met) (names : TeamNamed) (workers : ℕ) (text : List ℕ) (end : End) :
+    Type 0 where
+  AllEnded : (files : TeamFiles) (team : TeamSeen) (pairs : List DictionaryFiles)
+      → AreTeamFiles met.folder names files → team_due files ≡ Ok team
+      → ArePairs met.folder team.script.pairs pairs → pairs_failure pairs ≡ None
+      → IsTeamPrinted met.folder workers team met.closed text → end ≡ Quiet
+      → IsTeamAnswer met names workers text end
+  TeamRefused : (files : TeamFiles) (failure : Failure) → AreTeamFiles met.folder names files
+      → team_due files ≡ Err failure → end ≡ Failed failure → text ≡ []
+      → IsTeamAnswer met names workers text end
+  PairRefused : (files : TeamFiles) (team : TeamSeen) (pairs : List DictionaryFiles)
+      (failure : Failure)
+      → AreTeamFiles met.folder names files → team_due files ≡ Ok team
+      → ArePairs met.folder team.script.pairs pairs → pairs_failure pairs ≡ Some failure
+      → end ≡ Failed failure → text ≡ [] → IsTeamAnswer met names workers text end
+  FilesFailedThen : end ≡ Failed (Load FailedLoad) → text ≡ []
+      → IsTeamAnswer met names workers text end
+  WantingThen : end ≡ Failed NoMemory → text ≡ [] → IsTeamAnswer met names workers text end
+
+-- the folder has what is named, and nothing in it is refused
+pub record IsTeamFit (met : Met) (names : TeamNamed) (team : TeamSeen) : Type 0 where
+  pub folder : Folder
+  pub folder_is : met.folder ≡ Some folder
+  pub is_due : team_due (team_found_in folder names) ≡ Ok team
+  pub pairs : pairs_failure (pairs_found_in folder team.script.pairs) ≡ None
+
+-- all is printed, or memory was wanting
+pub data IsWholeTeam (met : Met) (workers : ℕ) (team : TeamSeen) (text : List ℕ) (end : End) : Type
+    0 where
+  AllOfThem : end ≡ Quiet → IsTeamPrinted met.folder workers team met.closed text
+      → IsWholeTeam met workers team text end
+  NoneOfThem : end ≡ Failed NoMemory → text ≡ [] → IsWholeTeam met workers team text end
+
+abbrev pub team_form : TeamNamed → ℕ → Form
+team_form names workers = record {
+  names_files = true;
+  reads_input = false;
+  opens_desk = true;
+  answers = λ met text end. IsTeamAnswer met names workers text end;
+  whole = λ met text end. (team : TeamSeen) → IsTeamFit met names team
+      → met.files_after ≡ met.files_before → IsWholeTeam met workers team text end;
+}
+
 -- ---- all forms
 
 abbrev pub form_of : Option Request → Form
@@ -236,15 +286,18 @@ form_of (Some (Edit names workers)) =
     dialogue_form true names dictionary_due is_quit (HasReplied workers)
 -- `pipe AFF DIC`
 form_of (Some (Pipe names)) = dialogue_form false names in_force_due ends_input HasPiped
+-- `team AFF DIC SCRIPT` and `--workers N`
+form_of (Some (Team names workers)) = team_form names workers
 -- `forms AFF DIC`
 form_of (Some (Listing names)) =
     report_form true
     (λ met due. (there : DictionaryFiles) × IsThere met.folder names.aff names.dic there
     × (due ≡ forms_due there))
 
--- what words ask for that do without an input
+-- what words ask for that do without an input and without a desk
 abbrev pub without_input : Option Request → Option Request
-without_input asked = if (form_of asked).reads_input then None else asked
+without_input asked =
+    if (form_of asked).reads_input || (form_of asked).opens_desk then None else asked
 
 -- the history of a desk is told exactly where the words open one and the status is 0
 abbrev pub IsClosedAfter : Bool → ℕ → Option Run → Type 0
@@ -258,6 +311,7 @@ is_alone (Failed (Load fault)) = true
 is_alone (Failed (Own line why)) = true
 is_alone (Failed (Document fault)) = true
 is_alone (Failed (ManyForms limit)) = true
+is_alone (Failed (Script line)) = true
 is_alone _ = false
 
 -- the causes of ends

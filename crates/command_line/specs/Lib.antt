@@ -3,6 +3,8 @@ pub mod Failures
 pub mod Requests
 pub mod Listings
 pub mod Due
+pub mod Teams
+pub mod TeamLoads
 pub mod Ends
 pub mod Forms
 pub mod Given

@@ -22,6 +22,12 @@ pub record ListedFiles : Type 0 where
   pub aff : List ℕ
   pub dic : List ℕ
 
+-- the files that the words of `team` name
+pub record TeamNamed : Type 0 where
+  pub aff : List ℕ
+  pub dic : List ℕ
+  pub script : List ℕ
+
 -- what the words of `make` ask for: a dictionary and a text of this size, whose words are drawn
 -- from this start on
 pub record StartAndSize : Type 0 where

@@ -8,7 +8,7 @@ use Rattle.text_lines.specs.Fields.{decimal_of}
 use Rattle.command_line.specs.Operands.{DictionaryNamed, Said, StartAndSize}
 use Rattle.command_line.specs.declared.requests.Request.{Request}
 use Rattle.command_line.specs.declared.requests.Request.TheVariants.{Check, Make, Edit, Listing}
-use Rattle.command_line.specs.declared.requests.Request.TheVariants.{Pipe}
+use Rattle.command_line.specs.declared.requests.Request.TheVariants.{Pipe, Team}
 use Rattle.command_line.specs.declared.limits.TheConstants.{MOST_WORKERS}
 
 -- ---- options
@@ -41,6 +41,13 @@ options_in (name ∷ number ∷ more) =
     if bytes_eq name (codes "--workers") then said_of (workers_in number) (own_in more)
     else said_of (Some 0) (own_in (name ∷ number ∷ more))
 options_in words = said_of (Some 0) (own_in words)
+
+-- the workers that these words ask for, if they are `--workers N` or none
+abbrev pub only_workers_in : List (List ℕ) → Option ℕ
+only_workers_in [] = Some 0
+only_workers_in (name ∷ number ∷ []) =
+    if bytes_eq name (codes "--workers") then workers_in number else None
+only_workers_in _ = None
 
 -- ---- the forms of words
 
@@ -88,6 +95,13 @@ abbrev pub pipe_in : List (List ℕ) → Option Request
 pipe_in (aff ∷ dic ∷ []) = Some (Pipe (record { aff = aff; dic = dic; own = None }))
 pipe_in _ = None
 
+-- `team AFF DIC SCRIPT`, and `--workers N` or nothing
+abbrev pub team_in : List (List ℕ) → Option Request
+team_in (aff ∷ dic ∷ script ∷ options) =
+    option_map (λ workers. Team (record { aff = aff; dic = dic; script = script }) workers)
+    (only_workers_in options)
+team_in _ = None
+
 -- what these words ask for, if they are of one of the forms
 abbrev pub asked_in : List (List ℕ) → Option Request
 asked_in [] = None
@@ -97,4 +111,5 @@ asked_in (name ∷ operands) =
     else (if bytes_eq name (codes "edit") then edit_in operands
     else (if bytes_eq name (codes "forms") then listing_in operands
     else (if bytes_eq name (codes "pipe") then pipe_in operands
-    else None))))
+    else (if bytes_eq name (codes "team") then team_in operands
+    else None)))))

@@ -6,14 +6,18 @@ ghost use Rattle.command_line.specs.declared.failure.Failure.TheVariants.{NoMemo
 ghost use Rattle.command_line.specs.Failures.{document_failure, document_line, document_status};
 ghost use Rattle.command_line.specs.Failures.{failure_of, failure_of_forms, failure_of_own};
 ghost use Rattle.command_line.specs.Failures.{fault_line, last_line};
-ghost use Rattle.command_line.specs.Failures.{limit_line, load_line, load_status, status_of};
+ghost use Rattle.command_line.specs.Failures.{limit_line, load_line, load_status, script_failure};
+ghost use Rattle.command_line.specs.Failures.{status_of};
 
+use crate::limits::MOST_PAIRS;
 use dictionary_swap::LoadFault;
 use document_report::DocumentFault;
 use form_lister::FormsFault;
+use input_lines::LINE_LIMIT;
 use lists::NoMemory;
 use personal_words::{OwnFault, OwnWhy};
 use std::alloc::{AllocError, AllocFailed};
+use team_script::ScriptFault;
 
 /// Why a call failed. Lines count from 1.
 #[derive(Clone, Copy, Debug, PartialEq, Eq)]
@@ -28,9 +32,12 @@ pub enum Failure {
     Document(DocumentFault),
     /// The dictionary has more forms than this.
     ManyForms { limit: u64 },
+    /// The file is no script: this is the first line that is not UTF-8, or of no form.
+    Script { line: u64 },
     /// The input failed.
     Input,
-    /// The input, or a line of it, has more bytes than this.
+    /// The input, a line of it or of a script has more bytes than this, or a script loads more
+    /// pairs of dictionary files.
     Limit { limit: u64 },
     /// Memory was wanting.
     NoMemory,
@@ -47,6 +54,7 @@ impl Failure {
             Failure::Own { .. } => 3,
             Failure::Document(fault) => document_status(fault),
             Failure::ManyForms { .. } => 8,
+            Failure::Script { .. } => 4,
             Failure::Input => 5,
             Failure::Limit { .. } => 8,
             Failure::NoMemory => 7,
@@ -64,6 +72,7 @@ impl Failure {
             Failure::Own { line, why } => push_fault(text, "own", line, why.name()),
             Failure::Document(fault) => push_document_line(text, fault),
             Failure::ManyForms { limit } => push_limit(text, limit),
+            Failure::Script { line } => write!(text, "script {line}\n"),
             Failure::Input => text.push_str("input\n"),
             Failure::Limit { limit } => push_limit(text, limit),
             Failure::NoMemory => text.push_str("memory\n"),
@@ -171,6 +180,21 @@ impl From<FormsFault> for Failure {
         match fault {
             FormsFault::TooMany { limit } => Failure::ManyForms { limit },
             FormsFault::NoMemory => Failure::NoMemory,
+        }
+    }
+}
+
+impl From<ScriptFault> for Failure {
+    ghost from_gives = { λ fault failure. failure ≡ script_failure fault };
+
+    fn from(fault: ScriptFault) -> Failure {
+        match fault {
+            ScriptFault::Bad { line } => Failure::Script { line },
+            ScriptFault::LongLine => Failure::Limit {
+                limit: LINE_LIMIT as u64,
+            },
+            ScriptFault::ManyPairs => Failure::Limit { limit: MOST_PAIRS },
+            ScriptFault::NoMemory => Failure::NoMemory,
         }
     }
 }

@@ -5,3 +5,4 @@ pub mod edit;
 pub mod listing;
 pub mod make;
 pub mod pipe;
+pub mod team;

@@ -3,20 +3,24 @@
 ghost use Rattle.std.specs.Prelude.{◌≡◌, ◌<◌, ◌≤◌, ℕ, List, Option, IfOk, IsErrOf};
 ghost use Rattle.std.specs.Arc.{arc_value};
 ghost use Rattle.std.specs.Option.{option_copied};
-ghost use Rattle.lists.specs.Answers.{GivesDue};
+ghost use Rattle.lists.specs.Answers.{GivesDue, failing};
 ghost use Rattle.console_board.specs.Transcripts.{IsThere};
-ghost use Rattle.dictionary_swap.specs.Loads.{DictionaryFiles};
+ghost use Rattle.dictionary_swap.specs.Loads.{DictionaryFiles, MayCome as LoadMayCome};
+ghost use Rattle.dictionary_swap.specs.Loads.{lexicon_due};
 ghost use Rattle.dictionary_swap.specs.declared.fault.LoadFault.TheVariants.{Failed};
 ghost use Rattle.own_dictionary.specs.Dictionaries.{IsBase, in_force};
+ghost use Rattle.team_script.specs.Due.{script_due};
 ghost use Rattle.command_line.specs.Due.{IsFileThere, IsListThere, IsOwnThere, MayCome, OwnFiles};
 ghost use Rattle.command_line.specs.Due.{base_due, bytes_due, dictionary_due, in_force_due};
 ghost use Rattle.command_line.specs.Due.{items_due, list_due, own_due};
+ghost use Rattle.command_line.specs.Failures.{script_failure};
+ghost use Rattle.command_line.specs.Teams.{read_due};
 ghost use Rattle.command_line.specs.declared.failure.Failure.TheVariants.{Load};
 
 use crate::failure::Failure;
 use crate::limits::DOCUMENT_LIMIT;
 use crate::names::DictionaryNames;
-use dictionary_swap::{LoadFault, SIZE_LIMIT, load_lexicon};
+use dictionary_swap::{LoadFault, SIZE_LIMIT, load, load_lexicon};
 use lists::NoMemory;
 use outside::{Files, load_file};
 use own_dictionary::OwnDictionary;
@@ -24,6 +28,7 @@ use personal_words::{OwnList, read_own};
 use spell_types::{Affixes, Lexicon};
 use std::alloc::Global;
 use std::sync::Arc;
+use team_script::{Script, read_script};
 use word_verdict::Speller;
 
 /// The dictionary that these names name: its two files, and the personal list behind them, if one is
@@ -84,6 +89,73 @@ pub fn load_base<F: Files>(
 {
     match load_lexicon(alloc, files, aff, dic) {
         Ok(base) => Ok(base),
+        Err(fault) => Err(Failure::from(fault)),
+    }
+}
+
+/// The dictionary of these two files alone, to be asked, which threads may share.
+pub fn load_base_judge<F: Files>(
+    alloc: Global,
+    files: &mut F,
+    aff: &str,
+    dic: &str,
+) -> Result<Arc<Speller>, Failure>
+    ensures due { (there : DictionaryFiles) × IsThere (F.told files.old) aff.now dic.now there
+        × GivesDue MayCome (λ judge. arc_value judge) (base_due there) result }
+    ensures failed { IsErrOf result (Load Failed) → F.faults files.old < F.faults files.new }
+    ensures same { F.told files.new ≡ F.told files.old }
+    ensures count { F.faults files.old ≤ F.faults files.new }
+{
+    match load_speller(alloc, files, aff, dic) {
+        Ok(judge) => Ok(judge),
+        Err(fault) => Err(Failure::from(fault)),
+    }
+}
+
+/// The same, where a fault is told as that of the files.
+pub fn load_speller<F: Files>(
+    alloc: Global,
+    files: &mut F,
+    aff: &str,
+    dic: &str,
+) -> Result<Arc<Speller>, LoadFault>
+    ensures due { (there : DictionaryFiles) × IsThere (F.told files.old) aff.now dic.now there
+        × GivesDue LoadMayCome (λ judge. arc_value judge) (lexicon_due there) result }
+    ensures failed { IsErrOf result Failed → F.faults files.old < F.faults files.new }
+    ensures same { F.told files.new ≡ F.told files.old }
+    ensures count { F.faults files.old ≤ F.faults files.new }
+{
+    let speller = load(alloc, files, aff, dic)?;
+    Ok(shared(alloc, speller)?)
+}
+
+/// A dictionary to be asked, for threads to share.
+fn shared(alloc: Global, speller: Speller) -> Result<Arc<Speller>, NoMemory>
+    ensures { IfOk result (λ judge. arc_value judge ≡ speller) }
+{
+    Ok(Arc::new(alloc, speller)?)
+}
+
+/// The script of this name.
+pub fn load_script<F: Files>(alloc: Global, files: &mut F, name: &str) -> Result<Script, Failure>
+    ensures due { (file : Option (List ℕ)) × IsFileThere (F.told files.old) name.now file
+        × GivesDue MayCome (λ script. script) (read_due file) result }
+    ensures failed { IsErrOf result (Load Failed) → F.faults files.old < F.faults files.new }
+    ensures same { F.told files.new ≡ F.told files.old }
+    ensures count { F.faults files.old ≤ F.faults files.new }
+{
+    let bytes = load_bytes(alloc, files, name, SIZE_LIMIT)?;
+    script_of(alloc, &bytes)
+}
+
+/// The script that these bytes are.
+fn script_of(alloc: Global, bytes: &[u8]) -> Result<Script, Failure>
+    ensures due { GivesDue MayCome (λ script. script)
+        (failing script_failure (script_due bytes.now)) result }
+    ensures failed { ¬ (IsErrOf result (Load Failed)) }
+{
+    match read_script(alloc, bytes) {
+        Ok(script) => Ok(script),
         Err(fault) => Err(Failure::from(fault)),
     }
 }

@@ -3,7 +3,7 @@
 ghost use Rattle.std.specs.Prelude.{◌≡◌, ◌≤◌, map};
 ghost use Rattle.std.specs.Option.{option_copied, option_map};
 ghost use Rattle.std.specs.String.{string_bytes};
-ghost use Rattle.command_line.specs.Requests.{options_in, own_in, workers_in};
+ghost use Rattle.command_line.specs.Requests.{only_workers_in, options_in, own_in, workers_in};
 ghost use Rattle.command_line.specs.declared.limits.TheConstants.{MOST_WORKERS};
 
 use crate::limits::MOST_WORKERS;
@@ -75,6 +75,17 @@ pub fn options_of(words: &[String]) -> Option<Options<'_>>
                 own,
             })
         }
+    }
+}
+
+/// How many workers these words ask for: `--workers N`, or nothing for none.
+pub fn only_workers_of(words: &[String]) -> Option<Workers>
+    ensures { result ≡ only_workers_in (map string_bytes words.now) }
+{
+    match words {
+        [] => Some(Workers { count: 0 }),
+        [name, number] if name.as_str() == "--workers" => workers_of(number.as_str()),
+        _ => None,
     }
 }
 

@@ -9,6 +9,7 @@ use crate::forms::edit::edit_of;
 use crate::forms::listing::{ListedNames, listing_of};
 use crate::forms::make::{Making, make_of};
 use crate::forms::pipe::pipe_of;
+use crate::forms::team::{TeamNames, team_of};
 use crate::names::DictionaryNames;
 use crate::options::Workers;
 
@@ -26,6 +27,10 @@ pub enum Request<'a> {
     },
     Listing(ListedNames<'a>),
     Pipe(DictionaryNames<'a>),
+    Team {
+        names: TeamNames<'a>,
+        workers: Workers,
+    },
 }
 
 /// What the words ask for, if they are of one of the forms.
@@ -39,6 +44,7 @@ pub fn request_of(words: &[String]) -> Option<Request<'_>>
         "edit" => edit_of(operands),
         "forms" => listing_of(operands),
         "pipe" => pipe_of(operands),
+        "team" => team_of(operands),
         _ => None,
     }
 }

@@ -20,6 +20,7 @@ use crate::forms::edit::edit;
 use crate::forms::listing::list_forms;
 use crate::forms::make::make;
 use crate::forms::pipe::pipe;
+use crate::forms::team::team;
 use crate::requests::{Request, request_of};
 use desk_dialogue::Place;
 use outside::{Files, Gate, Sink, Source};
@@ -151,6 +152,7 @@ where
         Some(Request::Edit { names, workers }) => edit(place, names, workers, files, input, out),
         Some(Request::Listing(names)) => told(list_forms(alloc, names, files, out)),
         Some(Request::Pipe(names)) => told(pipe(alloc, names, files, input, out)),
+        Some(Request::Team { names, workers }) => team(place, names, workers, files, out),
         None => told(tell_words(alloc, out)),
     }
 }
@@ -243,6 +245,7 @@ fn answer_unread<R: Threads + Sync, F: Files, K: Sink>(
         Some(Request::Listing(names)) => list_forms(alloc, names, files, out),
         Some(Request::Edit { .. }) => tell_words(alloc, out),
         Some(Request::Pipe(_)) => tell_words(alloc, out),
+        Some(Request::Team { .. }) => tell_words(alloc, out),
         None => tell_words(alloc, out),
     }
 }

@@ -23,6 +23,17 @@ returns-in-Some-Pipe-clause-complete g c = λ reading same.
       closed = None;
     }) same)
 
+pub returns-in-Some-Team-clause-complete : goal.returns-in-Some-Team-clause-complete
+returns-in-Some-Team-clause-complete g c = λ reading same.
+    rw (c.in-Some-Team.is, c.in-Some-Team.field-0-is)
+    (c.tell_words-in-Some-Team.ensures.complete (record {
+      folder = g.F.Files.told c.args.files.now;
+      files_before = g.F.Files.faults c.args.files.now;
+      files_after = g.F.Files.faults c.args.files.now;
+      reading = reading;
+      closed = None;
+    }) same)
+
 pub returns-in-None-clause-complete : goal.returns-in-None-clause-complete
 returns-in-None-clause-complete g c = λ reading same.
     rw c.in-None.is (c.tell_words-in-None.ensures.complete (record {
