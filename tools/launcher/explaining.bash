@@ -9,6 +9,11 @@ edit_workers=16
 file_most=16777216
 document_most=67108864
 line_most=65536
+# Of a script of `team`: the bytes of a line behind its number, the pairs of dictionary files, and how much of a line is looked at, which
+# is more than a line of no fault has.
+told_most=131072
+pairs_most=4
+seen_most=131100
 
 # rows TABLE: the rows of a table, without its comments.
 rows() {
@@ -30,7 +35,8 @@ affedit --help, affedit -h, affedit --version
         prints this, or what the program was made of
 
 AFF and DIC are the files of a dictionary, in UTF-8. FILE is a text; standard input is the file /dev/stdin.
---workers N  so many threads, 0 to 16. They share FILE, and the same is printed, and sooner; of `edit` they check in the background.
+SCRIPT is a file. Each line is blank, or `K TEXT`: the number of a session, 1 to 16, one space, and a line of the input of `edit`.
+--workers N  so many threads, 0 to 16. They share FILE: the same is printed, and sooner. Of `edit` and `team` they check in the background.
 --own OWN    a personal list: each line adds a word, or prohibits the word behind a `*`.
 `check` prints a line `LINE START END WORD` for each marked word, and then `M of W`, the numbers of marked words and of words.
 START and END are byte offsets from 0 in the line, END exclusive. LINE counts from 1.
@@ -134,7 +140,7 @@ words_fault() {
         is_utf8 "$word" || { echo "word $place of the command line is not UTF-8: $(LC_ALL=C printf %q "${word:0:300}")"; return; }
     done
     case $command in
-        check) operands_fault 3 "$@" ;;
+        check | team) operands_fault 3 "$@" ;;
         edit) operands_fault 2 "$@" ;;
         forms | pipe) operands_fault 2 "$@" ;;
         make) made_fault "$@" ;;
@@ -182,8 +188,8 @@ options_fault() {
         return
     fi
     [ "$command" != edit ] || most=$edit_workers
-    case $name in
-        --workers)
+    case $command:$name in
+        *:--workers)
             if [ $# -lt 2 ]; then
                 echo '`--workers` has no number behind it'
             elif ! [[ $2 =~ ^[0-9]{1,2}$ ]] || [ "$((10#$2))" -gt 16 ]; then
@@ -191,20 +197,25 @@ options_fault() {
             elif [ "$((10#$2))" -gt "$most" ]; then
                 echo "\`$command\` takes no more workers than $most, and $(shown "$2") asks for more"
             else
-                own_fault "${@:3}"
+                own_fault "$command" "${@:3}"
             fi
             ;;
-        --workers=* | --own=*) echo "$(shown "$name") is two words: write \`${name%%=*} $(plain "${name#*=}")\`" ;;
-        *) own_fault "$@" ;;
+        team:--own=*) own_fault "$command" "$@" ;;
+        *:--workers=* | *:--own=*) echo "$(shown "$name") is two words: write \`${name%%=*} $(plain "${name#*=}")\`" ;;
+        *) own_fault "$command" "$@" ;;
     esac
 }
 
-# own_fault WORD..: of the words where `--own OWN` may stand.
+# own_fault COMMAND WORD..: of the words where `--own OWN` may stand, but of `team`.
 own_fault() {
-    local near
+    local near command=$1 options=(--workers --own)
+    shift
     [ $# -gt 0 ] || return 0
-    if [ "$1" != --own ]; then
-        near=$(nearest "$1" --workers --own)
+    [ "$command" != team ] || options=(--workers)
+    if [ "$command" = team ] && [[ $1 =~ ^--own(=|$) ]]; then
+        echo "$(shown "$1") is a word too many: \`team\` takes no personal list"
+    elif [ "$1" != --own ]; then
+        near=$(nearest "$1" "${options[@]}")
         if [ "$1" = --workers ]; then
             echo '`--workers` stands there twice'
         elif [[ $1 == -* ]] && [ -n "$near" ]; then
@@ -255,6 +266,11 @@ files_of() {
     local word previous=''
     kinds=(aff dic)
     names=("$2" "$3")
+    if [ "$1" = team ]; then
+        kinds+=(script)
+        names+=("$4")
+        return
+    fi
     for word in "${@:4}"; do
         [ "$previous" != --own ] || { kinds+=(own); names+=("$word"); }
         previous=$word
@@ -274,7 +290,7 @@ name_of() {
 are_plain() {
     local place
     for place in "${!names[@]}"; do
-        [ "${kinds[place]}" = file ] || [ -f "${names[place]}" ] || return 1
+        [[ ${kinds[place]} =~ ^(file|script)$ ]] || [ -f "${names[place]}" ] || return 1
     done
 }
 
@@ -292,28 +308,37 @@ asked_of_text() {
 
 # ---- status 5: a file that is not there, or that cannot be read
 
-explain_missing() {
-    local name
-    for name in "${names[@]}"; do
-        if [ -L "$name" ] && [ ! -e "$name" ]; then
-            tell "$(shown "$name") is a link to a file that is not there"
-        elif [ ! -e "$name" ]; then
-            tell "there is no file $(shown "$name")"
-            if [ "$name" = - ]; then
-                tell 'standard input is the file /dev/stdin'
-            elif [[ $name != */* ]] && [ -f "/usr/share/hunspell/$name" ]; then
-                tell "there is /usr/share/hunspell/$name"
-            fi
-        elif [ -d "$name" ]; then
-            tell "$(shown "$name") is a folder, and no file"
-        elif [ ! -r "$name" ]; then
-            tell "you may not read the file $(shown "$name")"
-        else
-            continue
+# unread FILE: why a file was not read; nothing where it is not seen.
+unread() {
+    local name=$1
+    if [ -L "$name" ] && [ ! -e "$name" ]; then
+        tell "$(shown "$name") is a link to a file that is not there"
+    elif [ ! -e "$name" ]; then
+        tell "there is no file $(shown "$name")"
+        if [ "$name" = - ]; then
+            tell 'standard input is the file /dev/stdin'
+        elif [[ $name != */* ]] && [ -f "/usr/share/hunspell/$name" ]; then
+            tell "there is /usr/share/hunspell/$name"
         fi
-        return
+    elif [ -d "$name" ]; then
+        tell "$(shown "$name") is a folder, and no file"
+    elif [ ! -r "$name" ]; then
+        tell "you may not read the file $(shown "$name")"
+    fi
+}
+
+explain_missing() {
+    local name said
+    for name in "${names[@]}"; do
+        said=$(unread "$name")
+        if [ -n "$said" ]; then
+            echo "$said"
+            return
+        fi
     done
-    if [ "$1" != edit ] && [ "$1" != pipe ]; then
+    if [ "$1" = team ]; then
+        explain_pairs unread || tell 'a file could not be read, or one that the script loads is not there'
+    elif [ "$1" != edit ] && [ "$1" != pipe ]; then
         tell 'a file could not be read'
     elif [ -d /dev/stdin ]; then
         tell 'standard input is a folder, and could not be read'
@@ -379,23 +404,32 @@ explain_document() {
 # ---- status 8: limits
 
 size_of() {
-    [ -f "$1" ] && stat -L -c %s "$1"
+    [ -f "$1" ] && stat -L -c %s -- "$1"
+}
+
+# too_large FILE [MOST]: that a file has more bytes than that; nothing where it has not.
+too_large() {
+    local size most=${2:-$file_most}
+    size=$(size_of "$1" || echo 0)
+    [ "$size" -le "$most" ] || tell "$(shown "$1") has $size bytes, and $most are the most"
 }
 
 explain_limit() {
-    local place size most said=''
+    local place most said=''
     for place in "${!names[@]}"; do
         most=$file_most
         [ "${kinds[place]}" != file ] || most=$document_most
-        size=$(size_of "${names[place]}" || echo 0)
-        if [ "$size" -gt "$most" ]; then
-            tell "$(shown "${names[place]}") has $size bytes, and $most are the most"
+        said=$(too_large "${names[place]}" "$most")
+        if [ -n "$said" ]; then
+            echo "$said"
             return
         fi
     done
     if [ "$1" = check ]; then
         [ ! -f "${names[place]}" ] || said=$(asked_of_text "${names[place]}")
         text_limit "${names[place]}" "$said"
+    elif [ "$1" = team ]; then
+        explain_script_limit
     elif ! are_plain; then
         tell 'a file or the input is too large: the last line has the number that is the most'
     elif [ "$1" = forms ]; then
@@ -424,6 +458,155 @@ text_limit() {
     fi
 }
 
+# ---- the script of `team`
+
+# Whether a script may be read again, and is no larger than it may be.
+is_kept() {
+    [ -f "$1" ] && [ -r "$1" ] && [ -z "$(too_large "$1")" ]
+}
+
+# script_lines FILE: a front of each line of a script. A byte that no text has stands for each byte 0, which not every awk reads.
+script_lines() {
+    tr '\000' '\377' < "$1" | LC_ALL=C cut -b "-$seen_most"
+}
+
+# What awk does with each of them: a byte order mark, and a carriage return at the end, are of no line.
+of_line='NR == 1 { sub(/^\357\273\277/, "") } { sub(/\r$/, "") }'
+
+# first_not_utf8 FILE: the number of the first line that is not UTF-8, if there is one; fails where that is not known.
+first_not_utf8() {
+    local next=$'[\x80-\xbf]' utf8
+    utf8="[^"$'\x80-\xff]|[\xc2-\xdf]'"$next"
+    utf8+=$'|\xe0[\xa0-\xbf]'"$next"$'|[\xe1-\xec\xee\xef]'"$next$next"$'|\xed[\x80-\x9f]'"$next"
+    utf8+=$'|\xf0[\x90-\xbf]'"$next$next"$'|[\xf1-\xf3]'"$next$next$next"$'|\xf4[\x80-\x8f]'"$next$next"
+    LC_ALL=C grep -anvxm1 -E "($utf8)*" < "$1" | LC_ALL=C cut -d : -f 1
+    [ "${PIPESTATUS[0]}" -le 1 ]
+}
+
+# script_fault FILE: the number of the first line of a script that is of no form, and why: `bytes` where it is not UTF-8, or `word` and its
+# first word, in place of the number of a session.
+script_fault() {
+    local bad
+    bad=$(first_not_utf8 "$1") || return 0
+    script_lines "$1" | LC_ALL=C awk -v bad="${bad:-0}" -v seen="$seen_most" "$of_line"'
+        NR == bad { print NR, "bytes"; exit }
+        # What stands behind so many blanks is not known.
+        !/[^ \t]/ && length($0) >= seen - 4 { exit }
+        /[^ \t]/ && !/^(0?[1-9]|1[0-6])( |$)/ {
+            word = substr($0, 1, index($0 " ", " ") - 1)
+            word = substr(word, 1, 400)
+            gsub(/\377/, "?", word)
+            print NR, "word", word
+            exit
+        }'
+}
+
+explain_script() {
+    local script number='' why='' word=''
+    script=$(name_of script)
+    ! is_kept "$script" || IFS=' ' read -r number why word < <(script_fault "$script")
+    if [ -z "$number" ]; then
+        tell "$(shown "$script") has a line that is not UTF-8, or is of no form: the last line has its number"
+    elif [ "$why" = bytes ]; then
+        echo "$(plain "$script"):$number: the line is not UTF-8"
+        tell 'a text in Latin-1 becomes UTF-8 by: iconv -f ISO-8859-1 -t UTF-8'
+        return
+    elif [ -z "$word" ]; then
+        echo "$(plain "$script"):$number: the line begins with a space, in place of the number of a session"
+    else
+        echo "$(plain "$script"):$number: $(shown "$word") is no number of a session: 1 to 16, in one or two digits"
+    fi
+    tell 'a line of a script is blank, or has the number of a session, one space, and a line of the input of `edit`'
+}
+
+# script_limit FILE: the number of the line by which a script passes a limit, and what it has too many of.
+script_limit() {
+    script_lines "$1" | LC_ALL=C awk -v told="$told_most" -v pairs="$pairs_most" "$of_line"'
+        !/[^ \t]/ { next }
+        { text = substr($0, index($0 " ", " ") + 1) }
+        length(text) > told { long = NR; exit }
+        !many && text ~ /^load [^ ]+ [^ ]+$/ && !(text in found) {
+            found[text]
+            if (++count > pairs) many = NR
+        }
+        END {
+            if (long) print long ": the line has more than " told " bytes behind the number of its session"
+            else if (many) print many ": the line loads one more pair of dictionary files, and " pairs " are the most"
+        }'
+}
+
+explain_script_limit() {
+    local script said=''
+    script=$(name_of script)
+    if are_plain && is_kept "$script"; then
+        said=$(script_limit "$script")
+        if [ -n "$said" ]; then
+            echo "$(plain "$script"):$said"
+            return
+        fi
+        ! explain_pairs too_large || return
+    fi
+    tell 'a file or a line of the script is too large, or it loads too many pairs: the last line has the number that is the most'
+}
+
+# pairs_of FILE: of each pair of dictionary files that a script loads, the number of the first line that does, and both names, a line each.
+pairs_of() {
+    script_lines "$1" | LC_ALL=C awk -v pairs="$pairs_most" "$of_line"'
+        /^[0-9]+ load [^ ]+ [^ ]+$/ {
+            text = substr($0, index($0, " ") + 6)
+            if (text in found) next
+            found[text]
+            at = index(text, " ")
+            print NR "\n" substr(text, 1, at - 1) "\n" substr(text, at + 1)
+            if (++count == pairs) exit
+        }'
+}
+
+# faultless FILE: whether an .aff file has no fault in a line, as the program says of it. Fails with 2 where that is not known.
+faultless() {
+    local said
+    [ -f "$1" ] || return 2
+    said=$("$program" check "$1" <(echo 0) /dev/null 2> /dev/null)
+    case $said in
+        '0 of 0') ;;
+        'aff '*) return 1 ;;
+        *) return 2 ;;
+    esac
+}
+
+# Whether it is seen how large a file is, if it is there: how large a pipe was is not.
+has_size() {
+    [ -f "$1" ] || [ ! -e "$1" ]
+}
+
+# explain_pairs LOOK: of the files of the pairs that the script loads, what LOOK says of the first of which it says anything, and which line
+# loads it. Fails where that is not known.
+explain_pairs() {
+    local look=$1 script said place pairs aff dic status
+    script=$(name_of script)
+    is_kept "$script" || return 1
+    mapfile -t pairs < <(pairs_of "$script")
+    for ((place = 0; place < ${#pairs[@]}; place += 3)); do
+        aff=${pairs[place + 1]} dic=${pairs[place + 2]}
+        # No file has a name with a byte 0.
+        [[ $aff$dic != *$'\377'* ]] || return 1
+        said=$("$look" "$aff")
+        if [ -z "$said" ]; then
+            [ "$look" = unread ] || { has_size "$aff" && has_size "$dic"; } || return 1
+            said=$("$look" "$dic")
+            [ -n "$said" ] || continue
+            # Where the .aff file has a fault in a line, the .dic file is not looked at.
+            faultless "$aff" && status=0 || status=$?
+            [ "$status" != 1 ] || continue
+            [ "$status" = 0 ] || return 1
+        fi
+        echo "$said"
+        echo "$(plain "$script"):${pairs[place]}: the line loads it"
+        return
+    done
+    return 1
+}
+
 # ---- all
 
 # Before a long build: what is wrong with the words, if anything is.
@@ -436,14 +619,14 @@ explain_end() {
     shift
     if [[ $status =~ ^[3458]$ ]]; then
         case ${1-} in
-            check | edit | forms | pipe) files_of "$@" ;;
+            check | edit | forms | pipe | team) files_of "$@" ;;
             *) return ;;
         esac
     fi
     case $status in
         2) explain_words "$@" ;;
         3) explain_fault ;;
-        4) explain_document ;;
+        4) if [ "$1" = team ]; then explain_script; else explain_document; fi ;;
         5) explain_missing "$1" ;;
         # A reader that has enough is nothing to tell of.
         6) [ -n "$is_piped" ] || tell 'standard output could not be written' ;;
