@@ -161,6 +161,7 @@ printf 'SET UTF-8\nTRY a\nREP 3\nREP a b\n' > short.aff
 head -c 16777217 /dev/zero | tr '\0' '\n' > large
 { printf '\xef\xbb\xbfhello\r\n'; head -c 65536 /dev/zero | tr '\0' a; printf '\r\n'; head -c 65537 /dev/zero | tr '\0' a; printf '\r\n'; } > long
 seq 20001 > many
+printf '1 ins 1 wrods\n1 settle\n1 show\n\n16\n' > script
 input=/dev/null
 
 # row WHAT STATUS OUTPUT WORD..: what the program prints and its status, and on standard error what stands on standard input.
@@ -214,6 +215,15 @@ words 'no personal list' '`--own` has no name of a file behind it' check a.aff a
 words 'workers behind the list' '`--workers` stands too late: `--own OWN` is last' check a.aff a.dic text --own own --workers 2
 words 'an option of forms' '`--own` is a word too many: `forms` takes two names and nothing else' forms a.aff a.dic --own own
 words 'an option of pipe' '`--workers` is a word too many: `pipe` takes two names and nothing else' pipe a.aff a.dic --workers 1
+words 'no script' '`team` takes 3 names of files, and the words behind it are 2' team a.aff a.dic
+words 'two scripts' '`many` is a word too many' team a.aff a.dic script many
+words 'a misspelled option of team' '`--worker` is no option; the nearest is `--workers`' team a.aff a.dic script --worker 2
+words 'a misspelled option that team has not got' '`--owm` is no option' team a.aff a.dic script --owm own
+words 'workers of team in one word' '`--workers=2` is two words: write `--workers 2`' team a.aff a.dic script --workers=2
+words 'too many workers of team' '`17` is no number of workers: 0 to 16, in one or two digits' team a.aff a.dic script --workers 17
+words 'a personal list of team' '`--own` is a word too many: `team` takes no personal list' team a.aff a.dic script --own own
+words 'a list of team in one word' '`--own=own` is a word too many: `team` takes no personal list' team a.aff a.dic script --own=own
+words 'a list behind workers' '`--own` is a word too many: `team` takes no personal list' team a.aff a.dic script --workers 1 --own own
 words 'one number' '`make` takes two numbers, and the words behind it are 1' make 7
 words 'a start that is too large' '`18446744073709551616` is no START: a decimal number below 2^64' make 18446744073709551616 4
 words 'a size of nothing' '`0` is no SIZE: a decimal number from 1 to 50000' make 7 0
@@ -222,7 +232,9 @@ words 'a name that is not UTF-8' "word 3 of the command line is not UTF-8: \$'\\
 words 'a word for a terminal' '`?[31m?` is no command' $'\e[31m\n'
 
 # What is a form is taken, and then nothing is said of words.
-for form in "make 18446744073709551615 0001" "check a.aff a.dic text --workers 16" "check a.aff a.dic text --workers 00 --own own" "edit a.aff a.dic --workers 16 --own own" "forms a.aff a.dic" "pipe a.aff a.dic"; do
+for form in "make 18446744073709551615 0001" "check a.aff a.dic text --workers 16" "check a.aff a.dic text --workers 00 --own own" \
+    "edit a.aff a.dic --workers 16 --own own" "forms a.aff a.dic" "pipe a.aff a.dic" "team a.aff a.dic script" \
+    "team a.aff a.dic script --workers 16"; do
     # shellcheck disable=SC2086
     "$affedit" $form < /dev/null > "$work/out" 2> "$work/said" && status=0 || status=$?
     [ "$status" -le 1 ] && [ ! -s "$work/said" ] || { echo "$form: status $status, said: $(cat "$work/said")"; failed=1; }
@@ -270,6 +282,80 @@ row 'the same of edit' 3 'aff 3 TableShort' edit short.aff a.dic << 'SAID'
 short.aff:3: the table announces more rows than it has (TableShort)
 affedit: affedit-lint-dictionary shows the line; affedit-prepare-dictionary mends such files
 SAID
+# scripted WHAT STATUS OUTPUT SCRIPT: the same of `team` by this script, a format of printf.
+scripted() {
+    # shellcheck disable=SC2059
+    printf "$4" > script
+    row "$1" "$2" "$3" team a.aff a.dic script
+}
+scripted 'sessions' 0 $'session 1\nok 1\nok 1\ntext 1 dict 0\n1 0 5 wrods\n.\nsession 16\ntotal text 1 dict 0' \
+    '1 ins 1 wrods\n1 settle\n1 show\n\n16\n' < /dev/null
+scripted 'a pair with a fault' 0 $'session 2\nno aff 3 TableShort\ntotal text 0 dict 0' '2 load short.aff none\n' < /dev/null
+row 'no script' 5 missing team a.aff a.dic none << 'SAID'
+affedit: there is no file `none`
+SAID
+row 'a folder as a script' 5 files team a.aff a.dic folder --workers 2 << 'SAID'
+affedit: `folder` is a folder, and no file
+SAID
+row 'a large script' 8 'limit 16777216' team a.aff a.dic large << 'SAID'
+affedit: `large` has 16777217 bytes, and 16777216 are the most
+SAID
+row 'a short table of team' 3 'aff 3 TableShort' team short.aff a.dic none << 'SAID'
+short.aff:3: the table announces more rows than it has (TableShort)
+affedit: affedit-lint-dictionary shows the line; affedit-prepare-dictionary mends such files
+SAID
+scripted 'a session that may not be' 4 'script 2' '1 show\n17 show\n' << 'SAID'
+script:2: `17` is no number of a session: 1 to 16, in one or two digits
+affedit: a line of a script is blank, or has the number of a session, one space, and a line of the input of `edit`
+SAID
+scripted 'no session' 4 'script 1' '\xef\xbb\xbfshow\r\n1 show\n' << 'SAID'
+script:1: `show` is no number of a session: 1 to 16, in one or two digits
+affedit: a line of a script is blank, or has the number of a session, one space, and a line of the input of `edit`
+SAID
+scripted 'a tab behind a session' 4 'script 3' '\n16 show\n1\tshow\n' << 'SAID'
+script:3: `1?show` is no number of a session: 1 to 16, in one or two digits
+affedit: a line of a script is blank, or has the number of a session, one space, and a line of the input of `edit`
+SAID
+scripted 'a space before a session' 4 'script 3' ' \t\n01\n 1 show\n' << 'SAID'
+script:3: the line begins with a space, in place of the number of a session
+affedit: a line of a script is blank, or has the number of a session, one space, and a line of the input of `edit`
+SAID
+# The last two are past the characters, and half of a pair of UTF-16.
+for bytes in '\xe9' '\xe2\x82' '\xc0\x80' '\xf4\x90\x80\x80' '\xed\xa0\x80'; do
+    scripted 'a script that is not UTF-8' 4 'script 2' "1 ins 1 \xf4\x8f\xbf\xbf\xed\x9f\xbf\n2 ins 1 $bytes\n0\n" << 'SAID'
+script:2: the line is not UTF-8
+affedit: a text in Latin-1 becomes UTF-8 by: iconv -f ISO-8859-1 -t UTF-8
+SAID
+done
+{ printf '1 load a b\n12 '; head -c 131073 /dev/zero | tr '\0' a; printf '\r\n'; } > script
+row 'a long line of a script' 8 'limit 131072' team a.aff a.dic script << 'SAID'
+script:2: the line has more than 131072 bytes behind the number of its session
+SAID
+scripted 'many pairs' 8 'limit 4' \
+    '1 quit\n1 load a a\n1 load a b\n2 load a a\n2 load a c\n3 load a d\n3 load a  f\n4 load b a\n4 load b b\n' << 'SAID'
+script:8: the line loads one more pair of dictionary files, and 4 are the most
+SAID
+scripted 'a pair that is not there' 5 missing '1 show\n2 load a.aff a.dic\n3 load b.aff c.dic\n' << 'SAID'
+affedit: there is no file `b.aff`
+script:3: the line loads it
+SAID
+# Behind a fault of the .aff file its .dic file is not looked at.
+scripted 'the second file of a pair' 5 missing '1 load short.aff none\n1 load a.aff link\n1 load b.aff b.dic\n' << 'SAID'
+affedit: `link` is a link to a file that is not there
+script:2: the line loads it
+SAID
+scripted 'a folder of a pair' 5 files '1 load folder none\n' << 'SAID'
+affedit: `folder` is a folder, and no file
+script:1: the line loads it
+SAID
+scripted 'a large file of a pair' 8 'limit 16777216' '1 load short.aff large\n1 load a.aff large\n' << 'SAID'
+affedit: `large` has 16777217 bytes, and 16777216 are the most
+script:2: the line loads it
+SAID
+scripted 'a large file of a pair, and none behind it' 8 'limit 16777216' '1 load large none\n' << 'SAID'
+affedit: `large` has 16777217 bytes, and 16777216 are the most
+script:1: the line loads it
+SAID
 export AFFEDIT_QUIET=1
 row 'nothing is to be said' 5 missing check a.aff b.dic text < /dev/null
 unset AFFEDIT_QUIET
@@ -297,6 +383,28 @@ mkfifo pipe
 cat short.aff > pipe &
 row 'a dictionary from a pipe' 3 'aff 3 TableShort' check pipe a.dic text << 'SAID'
 affedit: a file of the dictionary, or the personal list, has a fault: the last line has the file, the line and the cause
+SAID
+# Of a script, or a pair, that cannot be read twice, what is known.
+echo 0 > pipe &
+row 'a script from a pipe' 4 'script 1' team a.aff a.dic pipe << 'SAID'
+affedit: `pipe` has a line that is not UTF-8, or is of no form: the last line has its number
+affedit: a line of a script is blank, or has the number of a session, one space, and a line of the input of `edit`
+SAID
+echo '1 load a.aff none' > pipe &
+row 'a pair of a script from a pipe' 5 missing team a.aff a.dic pipe << 'SAID'
+affedit: a file could not be read, or one that the script loads is not there
+SAID
+seq -f '1 load a %g' 5 > pipe &
+row 'many pairs from a pipe' 8 'limit 4' team a.aff a.dic pipe << 'SAID'
+affedit: a file or a line of the script is too large, or it loads too many pairs: the last line has the number that is the most
+SAID
+cat a.aff > pipe &
+scripted 'an .aff file of a pair from a pipe' 5 missing '1 load pipe none\n' << 'SAID'
+affedit: a file could not be read, or one that the script loads is not there
+SAID
+cat a.aff > pipe &
+scripted 'the same, and a large file' 8 'limit 16777216' '1 load pipe large\n' << 'SAID'
+affedit: a file or a line of the script is too large, or it loads too many pairs: the last line has the number that is the most
 SAID
 if [ "$(id -u)" = 0 ]; then
     install -m 600 a.dic secret
