@@ -15,12 +15,12 @@ Random scripts have few `ins` and `del` therefore, many `show`, and words by whi
 takes more than so many steps as it is given is given up, and that is said: it has decided nothing then.
 """
 
-import itertools
 from math import inf
 
 import team_board as boards
 from console_model import CHECKED, STOPPED, WAITING, Wrong
 from team_board import END, Paragraph, Seat
+from team_signs import Signs
 
 # Calls that are explained by one board on which no other has to come of them.
 BY_ITSELF = {'Command', 'Fault'}
@@ -52,6 +52,8 @@ class Search:
         self.least_text = [self.least(mine, 'text') for mine in self.calls]
         self.least_dict = [self.least(mine, 'dict') for mine in self.calls]
         self.editors = {call.text: session for session, mine in enumerate(self.calls) for call in mine if call.kind == 'edit'}
+        self.signs = Signs([call for mine in self.calls for call in mine])
+        self.numbers = {}
         self.visited, self.steps, self.furthest = set(), 0, (-1, None)
 
     @staticmethod
@@ -181,7 +183,9 @@ class Search:
             self.steps += 1
             if self.steps > self.most_steps:
                 raise Undecided(f'more than {self.most_steps} steps')
-            yield self.closed(move(state.copy(), *words))
+            made = move(state.copy(), *words)
+            if made is not None:
+                yield self.closed(made)
 
     def moves(self, state):
         """What may be done next: a function that makes the next state of a copy of this one, with what it is told."""
@@ -194,7 +198,7 @@ class Search:
             elif call.kind == 'ask' and is_now:
                 moves += [(self.ask, session, named) for named in seat.named if states[named] == STOPPED]
             elif call.kind == 'show' and (needs := self.needs_of(state, call)):
-                later += [(self.check, session, needs, ways) for ways in self.ways_to_check(state, needs)]
+                later += [(self.check, session, needs, way) for way in self.ways_to_check(state, needs)]
             elif call.kind == 'settle' and is_now:
                 later += [(self.settle, session, time) for time in self.times_of_look(state, seat)]
             elif call.kind == 'Finished':
@@ -215,13 +219,13 @@ class Search:
         return all(mine[seat.next] >= version for seat, mine in zip(state.seats, least))
 
     def ways_to_check(self, state, needs):
-        """How paragraphs may be checked that wait: by workers, or each by a session that settles, since when it waited."""
+        """How paragraphs may be checked that wait: by workers, or by a session that settles, and looked when the last of them waited. One
+        session does for all: that which checks the last one could have checked the others too."""
         if self.has_workers:
-            return [()]
-        opened = {paragraph.id: paragraph.opened for paragraph in state.paragraphs}
+            return [None]
+        opened = max(paragraph.opened for paragraph in state.paragraphs if paragraph.id in needs)
         settling = [(session, state.seats[session].latest) for session, call in self.left(state) if call.kind == 'settle']
-        able = [[(session, opened[need]) for session, latest in settling if latest is None or opened[need] <= latest] for need in needs]
-        return itertools.product(*able)
+        return [(session, opened) for session, latest in settling if latest is None or opened <= latest]
 
     def times_of_look(self, state, seat):
         """When a `settle` that ends here may have looked. With workers the first time does for all others."""
@@ -230,18 +234,20 @@ class Search:
         return [seat.since] if self.has_workers else [seat.since, *sorted(times)]
 
     def key(self, state):
-        """What decides what may come: no ids, and no times but for what settles have to check."""
+        """What decides what may come: no ids, and no times but for what settles have to check. Its parts are numbered."""
         place = {paragraph.id: place for place, paragraph in enumerate(state.paragraphs)} | {END: END}
-        seats = []
-        for seat, mine in zip(state.seats, self.calls):
-            is_settling = seat.next < len(mine) and mine[seat.next].kind == 'settle'
-            times = [tuple(place[id] for id in self.open_since(state, inf if time is None else time)) for time in (seat.since, seat.latest)]
-            seats.append((seat.next, frozenset(place[id] for id in seat.named), frozenset(place[id] for id in seat.changed),
-                          (*times, seat.latest is None) if is_settling else None))
-        opened = {time: rank for rank, time in enumerate(sorted({each.opened for each in state.paragraphs if each.state == WAITING}))}
-        ranks = () if self.has_workers else tuple(opened[each.opened] if each.state == WAITING else None for each in state.paragraphs)
-        rows = tuple((each.text, each.state) for each in state.paragraphs)
-        return state.text, state.dict, rows, ranks, tuple(seats)
+        parts = [tuple((each.text, each.state) for each in state.paragraphs)]
+        for session, (seat, mine) in enumerate(zip(state.seats, self.calls)):
+            named, changed = frozenset(place[id] for id in seat.named), frozenset(place[id] for id in seat.changed)
+            times = ()
+            if seat.next < len(mine) and mine[seat.next].kind == 'settle':
+                times = (seat.latest is None, *(tuple(place[id] for id in self.open_since(state, inf if time is None else time))
+                                                for time in (seat.since, seat.latest)))
+            parts.append((session, seat.next, named, changed, times))
+        if not self.has_workers:
+            opened = {time: rank for rank, time in enumerate(sorted({each.opened for each in state.paragraphs if each.state == WAITING}))}
+            parts.append(tuple(opened.get(each.opened) if each.state == WAITING else None for each in state.paragraphs))
+        return state.text, state.dict, *(self.numbers.setdefault(part, len(self.numbers)) for part in parts)
 
     # ---- events and checks
 
@@ -259,12 +265,12 @@ class Search:
         self.become(state, named, {'state': WAITING, 'opened': state.time})
         return self.gone_on(state, session)
 
-    def check(self, state, session, needs, ways):
-        """The paragraphs that a call needs are checked, without workers by these sessions."""
-        for by, opened in ways:
-            seat = state.seats[by]
+    def check(self, state, session, needs, way):
+        """The paragraphs that a call needs are checked."""
+        if way is not None:
+            seat = state.seats[way[0]]
             latest = state.time if seat.latest is None else min(seat.latest, state.time)
-            state.seats[by] = seat._replace(since=max(seat.since, opened), latest=latest)
+            state.seats[way[0]] = seat._replace(since=max(seat.since, way[1]), latest=latest)
         for id in needs:
             self.become(state, id, {'state': CHECKED})
         return self.gone_on(state, session)
@@ -286,19 +292,23 @@ class Search:
         return state
 
     def edit(self, state, session, named):
-        """The next edit, of this paragraph, or before it."""
+        """The next edit, of this paragraph, or before it; None where a later look tells otherwise."""
         call, paragraphs = self.call_of(state, session), state.paragraphs
         state.time += 1
         state.text += 1
         place = len(paragraphs) if named == END else boards.place_of(paragraphs, named)
-        made = Paragraph(named, b'', WAITING, state.time)
+        old, new = None, None
         if call.command.name == b'ins':
             state.ids += 1
-            paragraphs.insert(place, made._replace(id=state.ids, text=call.command.texts[0]))
-        elif call.command.name == b'del':
-            del paragraphs[place]
+            new = call.command.texts[0]
+            paragraphs.insert(place, Paragraph(state.ids, new, WAITING, state.time))
         else:
-            paragraphs[place] = made._replace(text=boards.changed_text(call.command, paragraphs[place].text))
+            old = paragraphs.pop(place).text
+            if call.command.name != b'del':
+                new = boards.changed_text(call.command, old)
+                paragraphs.insert(place, Paragraph(named, new, WAITING, state.time))
+        if self.signs.forbid(state.text, place, old, new, paragraphs):
+            return None
         self.gone_on(state, session)
         for other, their in self.left(state):
             if other != session and boards.names_place(their):

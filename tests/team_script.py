@@ -8,15 +8,14 @@ KINDS = {'put': 10, 'sub': 12, 'ins': 4, 'del': 2, 'show': 9, 'settle': 3, 'stop
          'bad_span': 1, 'long': 0.2, 'blank': 1, 'no_command': 1}
 NO_COMMANDS = [b'show ', b' show', b'SHOW', b'ins', b'ins x', b'put', b'sub 1 0', b'del 1 ', b'stop', b'ask one', b'load a.aff',
                b'load  a.aff a.dic', b'own', b'own ', b'own wurk', b'own *hello', b'Own wurk', b'quit ', b'settle 1', b'1', b'\x0b', b'#']
-WORDS = ['hello', 'tried', 'worked', 'foobar', 'bars', 'wurk', 'paris', 'Paris', 'straße', '日本']
-LETTERS = 'abcdefghijklmnoprstuvwxy'
+WORDS = ['hello', 'tried', 'worked', 'foobar', 'bars', 'wurk', 'paris', 'Paris', 'straße', 'xx']
 
 
 class Writer:
     """Writes the lines of sessions. It keeps the text that came of them if each was done where it stands in the script."""
 
     def __init__(self, random, count, pairs):
-        self.random, self.count, self.texts, self.written = random, count, [], 0
+        self.random, self.count, self.texts, self.named = random, count, [], 0
         # The pairs that are loaded, of which there are four at most.
         self.pairs = pairs
         self.weights = [weight * random.choice((0.3, 1, 1, 2)) for weight in KINDS.values()]
@@ -45,19 +44,16 @@ class Writer:
                 yield from (b'%d %s' % (number, text) for text in (b'settle', b'show'))
 
     def line(self):
-        self.written += 1
         return getattr(self, 'write_' + self.random.choices(list(KINDS), self.weights)[0])()
 
     def name(self):
-        """A word that no other line has and no dictionary, of five letters."""
-        letters, number = '', self.written
-        for _ in range(4):
-            letters, number = LETTERS[number % len(LETTERS)] + letters, number // len(LETTERS)
-        return 'z' + letters
+        """A character that no other line has. It is a letter, and a word that no dictionary has."""
+        self.named += 1
+        return chr(0x4E00 + self.named)
 
     def text(self):
         rolled = self.random
-        words = [self.name()] * (rolled.random() < 0.7) + rolled.choices(WORDS, k=rolled.choice((0, 1, 1, 2)))
+        words = [self.name()] * (rolled.random() < 0.9) + rolled.choices(WORDS, k=rolled.choice((0, 1, 1, 2)))
         rolled.shuffle(words)
         return rolled.choice((' ', ' ', ' ', '  ', ', ')).join(words).encode()
 
