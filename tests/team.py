@@ -158,7 +158,7 @@ class Team:
 def decide(sessions, pair, workers, output, marks, steps):
     calls, total = calls_of(sessions, output, files.fault_of)
     pairs = {0: pair} | {call.dict: call.command.texts for mine in calls for call in mine if call.kind == 'load'}
-    return calls, explain(calls, total, pairs, workers > 0, marks.of, steps).steps
+    return calls, explain(calls, total, pairs, workers > 0, marks.of, steps)
 
 
 def try_table():

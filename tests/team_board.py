@@ -10,11 +10,13 @@ END = -1
 
 
 class Paragraph(NamedTuple):
-    """Its id is its own for ever. `opened` is the time since which it waits."""
+    """Its id is its own for ever. `opened` is the time since which it waits; `before` are the times from and to which it waited with this text
+    and under this dictionary before it was stopped."""
     id: int
     text: bytes
     state: str
     opened: int
+    before: tuple = ()
 
 
 class Seat(NamedTuple):
@@ -43,6 +45,11 @@ def named_by(call, paragraphs):
     if 1 <= place <= len(paragraphs):
         return paragraphs[place - 1].id
     return END if call.command.name == b'ins' and place == len(paragraphs) + 1 else None
+
+
+def text_of(call, paragraphs):
+    """The text that a command changes which looks at a board; none, if it puts one in."""
+    return b'' if call.command.name == b'ins' else paragraphs[call.command.numbers[0] - 1].text
 
 
 def names_place(call):
@@ -77,17 +84,20 @@ def changed_text(command, text):
 
 
 def shown_needs(call, paragraphs, marks):
-    """Which paragraphs have to be checked, that wait, so that a look shows the board as it did; None where it cannot. `marks` has the marks
-    of each paragraph of the board, of which those do not matter that are shown without."""
-    shown = dict(call.shown)
-    needs = []
-    for place, paragraph in enumerate(paragraphs):
-        came = shown.pop(place + 1, ())
-        if came == UNCHECKED:
+    """Which paragraphs have to be checked, that wait, so that a look shows the board as it did; None where it cannot. `marks` is asked for the
+    marks of texts, where all else is as it is shown."""
+    shown, checked = call.shown, []
+    if shown and max(shown) > len(paragraphs):
+        return None
+    for place, paragraph in enumerate(paragraphs, 1):
+        if shown.get(place) == UNCHECKED:
             if paragraph.state == CHECKED:
                 return None
-        elif paragraph.state == STOPPED or came != marks[place]:
+        elif paragraph.state == STOPPED:
             return None
-        elif paragraph.state == WAITING:
-            needs.append(paragraph.id)
-    return None if shown else needs
+        else:
+            checked.append((place, paragraph))
+    found = marks([paragraph.text for _, paragraph in checked])
+    if any(shown.get(place, ()) != came for (place, _), came in zip(checked, found)):
+        return None
+    return [paragraph.id for _, paragraph in checked if paragraph.state == WAITING]

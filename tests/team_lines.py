@@ -47,7 +47,7 @@ class Call(NamedTuple):
     text: int = None
     dict: int = None
     number: int = None
-    shown: tuple = ()
+    shown: dict = None
 
     def told(self):
         reply = f'no {self.kind}' + (f' {self.number}' if self.number is not None else '')
@@ -169,7 +169,7 @@ def read_shown(call, said, replies):
         if not row:
             break
         rows.setdefault(int(row[1]), []).append(row[2])
-    shown = tuple((place, tuple(marks)) for place, marks in rows.items())
-    if not header or line != b'.' or list(rows) != sorted(rows) or any(b'?' in marks and marks != UNCHECKED for _, marks in shown):
+    shown = {place: tuple(marks) for place, marks in rows.items()}
+    if not header or line != b'.' or list(rows) != sorted(rows) or any(b'?' in marks and marks != UNCHECKED for marks in shown.values()):
         return None
     return call('show', text=int(header[1]), dict=int(header[2]), shown=shown)

@@ -39,7 +39,7 @@ class Signs:
         self.versions = [version for version, _ in self.looks]
 
     def take(self, call):
-        seen = [(place, self.edits[sign], sign) for place, marks in call.shown for mark in marks
+        seen = [(place, self.edits[sign], sign) for place, marks in call.shown.items() for mark in marks
                 for sign in mark.split(b' ', 2)[-1].decode() if sign in self.edits]
         for place, edit, sign in seen:
             self.until[sign] = max(self.until.get(sign, 0), call.text)
