@@ -4,10 +4,11 @@
 `team.py SECONDS` goes on for so long, 5 where nothing is said, and ends with status 1 at the first output that no history explains, which it
 keeps with its script. It prints a seed; `--seed S --first K --scripts 1` is script K of that seed again, but for what threads do.
 
-`team.py --simulated` has a simulator in place of the program, by which sessions mix as they like. It needs no program.
+`team.py --simulated` has a simulator in place of the program, by which sessions mix as they like. It needs no program. For half of the time it
+tries all outputs of small scripts (team_every.py).
 
 `team.py --wrong` turns outputs in each of the ways of team_wrong.py and team_wrong_looks.py, and ends with status 1 where none is refused of
-those that one of them makes, or where one is accepted that nothing can explain. With `--simulated` the simulator goes wrong in ways of its own too.
+those that one of them makes, or where one is accepted that nothing can explain. With `--simulated` it has simulators that go wrong too.
 
 Each of them begins with the outputs of team_table.py, which were written by hand.
 """
@@ -25,51 +26,19 @@ import time
 sys.dont_write_bytecode = True
 
 import console_files as files  # noqa: E402
-import team_table  # noqa: E402
-import team_wrong  # noqa: E402
-import team_wrong_looks  # noqa: E402
-from console_model import Dictionary, Wrong  # noqa: E402
-from console_talk import Marks  # noqa: E402
-from team_history import Undecided, explain  # noqa: E402
-from team_lines import calls_of, sessions_of  # noqa: E402
+import team_ends  # noqa: E402
+import team_every  # noqa: E402
+from console_model import MARK, Wrong  # noqa: E402
+from team_history import Undecided  # noqa: E402
+from team_lines import sessions_of  # noqa: E402
+from team_marks import ProgramMarks, WordMarks  # noqa: E402
 from team_script import Writer, some_pairs  # noqa: E402
 from team_simulator import Simulator  # noqa: E402
+from team_trial import decide, try_table, try_wrong  # noqa: E402
 
 TOP = os.path.dirname(os.path.dirname(os.path.abspath(__file__)))
-# Of how many outputs each way makes others.
-TRIES = 60
-ENOUGH = 3
-
-
-class WordMarks:
-    """The marks of texts by small lists of words, in place of dictionaries. Words are parted by spaces."""
-    WORDS = {b'a.dic': {b'hello', b'tried', b'worked', b'Paris'}, b'b.dic': {b'hello', b'work', b'foobar', b'bars', 'straße'.encode()},
-             b'rules.dic': {b'hello'}}
-
-    def of(self, pair, texts):
-        return [tuple(self.marks(self.WORDS[pair[1]], text)) for text in texts]
-
-    @staticmethod
-    def marks(words, text):
-        start = 0
-        for word in text.split(b' '):
-            if word and word not in words:
-                yield b'%d %d %s' % (start, start + len(word), word)
-            start += len(word) + 1
-
-
-class ProgramMarks:
-    """The marks of texts, as `check` prints them by the same dictionary."""
-
-    def __init__(self, program, folder):
-        self.marks = Marks(program, folder)
-
-    def of(self, pair, texts):
-        dictionary = Dictionary(*pair)
-        if len(self.marks.known.get(dictionary, ())) > 20_000:
-            self.marks.known.clear()
-        self.marks.learn(dictionary, dict.fromkeys(texts))
-        return [tuple(self.marks.known[dictionary][text]) for text in texts]
+# One of so many runs of the program is of files that end it before a session starts.
+SPOILT = 5
 
 
 class Script:
@@ -80,7 +49,7 @@ class Script:
         self.workers, self.pair = int(workers), rolled.choice(files.GOOD[:2])
         count = rolled.randint(1, options.sessions)
         writer = Writer(rolled, count, some_pairs(rolled))
-        self.data = b''.join(line + rolled.choice((b'\n', b'\n', b'\r\n')) for line in writer.lines(options.lines))
+        self.data = rolled.choice((b'', b'', MARK)) + b''.join(line + rolled.choice((b'\n', b'\n', b'\r\n')) for line in writer.lines(options.lines))
         self.sessions = sessions_of(self.data)
         # How likely a turn of a session is followed by one of the same, where the simulator runs it.
         self.stay = rolled.choice((0, 0.5, 0.9, 0.98))
@@ -103,7 +72,8 @@ class Team:
     """Scripts one after another, in a folder of their own."""
 
     def __init__(self, options, folder):
-        self.options, self.folder, self.seen = options, folder, collections.Counter()
+        self.options, self.folder = options, folder
+        self.seen, self.ends = collections.Counter(), collections.Counter()
         self.done = self.lines = self.steps = self.undecided = 0
         files.write_all(folder)
         self.marks = WordMarks() if options.simulated else ProgramMarks(options.program, folder)
@@ -111,17 +81,50 @@ class Team:
     def output(self, script):
         if self.options.simulated:
             return script.simulated(self.marks)
-        with open(os.path.join(self.folder, 'script'), 'wb') as file:
-            file.write(script.data)
-        words = [self.options.program, 'team', *script.pair, 'script', '--workers', str(script.workers)]
-        done = subprocess.run(words, cwd=self.folder, capture_output=True, timeout=self.options.limit, check=False)
-        if done.returncode != 0 or done.stderr:
-            raise Wrong(f'status {done.returncode}, {done.stdout[-100:]!r}, on standard error {done.stderr[:200]!r}')
-        return done.stdout
+        self.write('script', script.data)
+        status, output, error = self.call([*script.pair, 'script', '--workers', str(script.workers)])
+        if status != 0 or error:
+            raise Wrong(f'status {status}, {output[-100:]!r}, on standard error {error[:200]!r}')
+        return output
+
+    def call(self, words):
+        """A run of the program: its status, and what it wrote."""
+        done = subprocess.run([self.options.program, 'team', *words], cwd=self.folder, capture_output=True, timeout=self.options.limit, check=False)
+        return done.returncode, done.stdout, done.stderr
+
+    def write(self, name, content):
+        with open(os.path.join(self.folder, name), 'wb') as file:
+            file.write(content)
+
+    def try_end(self, script):
+        """A run of files that differ from those of a script, and of words that are of no form."""
+        aff, dic, name, data = team_ends.spoilt(script.random, script.data)
+        self.write('script', data)
+        end = team_ends.end_of(aff, dic, name, data)
+        status, output, error = self.call([aff, dic, name, '--workers', str(script.workers)])
+        is_right = status == 0 if end is None else (status, output) == (end[0], end[1] + b'\n')
+        if not is_right or error:
+            raise Wrong(f'ended with {status}, {output[-100:]!r} and {error[:100]!r}, by {aff!r} {dic!r} {name!r}, and should with {end}')
+        self.ends[end] += 1
+        words = script.random.choice(team_ends.WORDS)
+        if (came := self.call(words)) != (2, b'affedit: words\n', b''):
+            raise Wrong(f'the words {words} ended with {came}')
 
     def decide(self, script, output):
         """Ends well where a history explains the output. Gives its calls."""
         return decide(script.sessions, script.pair, script.workers, output, self.marks, self.options.steps)
+
+    def try_every(self, seconds):
+        """All outputs of small scripts. Gives what went wrong first."""
+        ends, number, tried = time.monotonic() + seconds, 0, 0
+        while time.monotonic() < ends:
+            rolled = random.Random(f'{self.options.seed} small {number}')
+            count, wrong = team_every.try_small_script(rolled, lambda *words: decide(*words, self.marks, self.options.steps), self.marks.of)
+            if wrong:
+                return f'small script {number}: {wrong}'
+            number, tried = number + 1, tried + count
+        print(f'{number} small scripts, {tried} outputs of them')
+        return None
 
     def script(self, number):
         workers = self.options.workers[number % len(self.options.workers)]
@@ -130,6 +133,8 @@ class Team:
     def run(self):
         """Scripts until the time is over. Gives what went wrong first."""
         ends, number = time.monotonic() + self.options.seconds, self.options.first
+        if self.options.simulated and (wrong := self.try_every(self.options.seconds / 2)):
+            return wrong
         while time.monotonic() < ends and number < self.options.first + self.options.scripts:
             script, output = self.script(number), b''
             try:
@@ -137,6 +142,8 @@ class Team:
                 calls, steps = self.decide(script, output)
                 self.steps += steps
                 self.seen.update(call.kind for mine in calls for call in mine)
+                if not self.options.simulated and number % SPOILT == 0:
+                    self.try_end(script)
             except Undecided:
                 self.undecided += 1
             except (Wrong, subprocess.TimeoutExpired) as wrong:
@@ -150,55 +157,8 @@ class Team:
         return None
 
     def keep(self, script, output):
-        for name, content in ('script', script.data), ('output', output), ('pair', b' '.join(script.pair)):
-            with open(os.path.join(self.folder, name), 'wb') as file:
-                file.write(content)
-
-
-def decide(sessions, pair, workers, output, marks, steps):
-    calls, total = calls_of(sessions, output, files.fault_of)
-    pairs = {0: pair} | {call.dict: call.command.texts for mine in calls for call in mine if call.kind == 'load'}
-    return calls, explain(calls, total, pairs, workers > 0, marks.of, steps)
-
-
-def try_table():
-    """What is wrong of the outputs that were written by hand."""
-    for about, workers, is_right, script, output in team_table.rows():
-        try:
-            decide(sessions_of(script), files.GOOD[0], workers, output, WordMarks(), 10_000)
-            was = None
-        except Wrong as wrong:
-            was = wrong
-        if is_right != (was is None):
-            yield f'{about}: {"refused: " + str(was) if is_right else "accepted"}'
-
-
-def try_ways(team):
-    """Turns outputs in each way, and prints what came of it. Gives how many ways went wrong."""
-    failed = 0
-    for name, (way, is_always) in {'nothing': (team_wrong.nothing, False), **team_wrong.WAYS, **team_wrong_looks.WAYS}.items():
-        counts, first = collections.Counter(), None
-        for number in range(TRIES):
-            script = team.script(number)
-            output = team.output(script)
-            printed = team_wrong.Printed(output)
-            if way(printed, calls_of(script.sessions, output, files.fault_of)[0], script.random) is False:
-                continue
-            try:
-                team.decide(script, printed.output())
-                counts['accepted'] += 1
-            except Undecided:
-                counts['undecided'] += 1
-            except Wrong as wrong:
-                counts['refused'] += 1
-                first = first or wrong
-            if counts['refused'] >= ENOUGH or (name == 'nothing' and counts['accepted'] >= 10 * ENOUGH):
-                break
-        is_right = counts['refused'] == 0 < counts['accepted'] if name == 'nothing' else counts['refused'] > 0 == (is_always and counts['accepted'])
-        told = ', '.join(f'{count} {kind}' for kind, count in sorted(counts.items())) or 'it could not be made'
-        print(f'{"" if is_right else "NOT AS IT SHOULD BE: "}{name}: {told}{f"; first: {first}" if first else ""}', flush=True)
-        failed += not is_right
-    return failed
+        for name, content in ('first script', script.data), ('output', output), ('pair', b' '.join(script.pair)):
+            self.write(name, content)
 
 
 def options_of(words):
@@ -237,7 +197,7 @@ def main():
     folder = tempfile.mkdtemp()
     team = Team(options, folder)
     if options.wrong:
-        failed = try_ways(team)
+        failed = try_wrong(team)
         shutil.rmtree(folder)
         return 1 if failed else 0
     wrong = team.run()
@@ -247,6 +207,7 @@ def main():
     shutil.rmtree(folder)
     print(f'{team.done} scripts, {team.lines} lines, {team.steps} steps of the search, {team.undecided} not decided')
     print('; '.join(f'{kind}: {count}' for kind, count in sorted(team.seen.items())))
+    print('; '.join(f'{"sessions start" if end is None else end[1].decode()}: {count}' for end, count in team.ends.most_common()))
     return 0
 
 
