@@ -10,7 +10,7 @@ MOST_KEPT = 20_000
 class WordMarks:
     """Words are parted by spaces, and each is marked that the list of the dictionary has not."""
     WORDS = {b'a.dic': {b'hello', b'tried', b'worked', b'Paris'}, b'b.dic': {b'hello', b'work', b'foobar', b'bars', 'straße'.encode()},
-             b'rules.dic': {b'hello'}}
+             b'rules.dic': {b'hello'}, b'examples/sample.dic': {b'the', b'fox', b'who', b'reads'}}
 
     def of(self, pair, texts):
         return [tuple(self.marks(self.WORDS[pair[1]], text)) for text in texts]

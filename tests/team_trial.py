@@ -25,9 +25,9 @@ def decide(sessions, pair, workers, output, marks, steps):
 
 def try_table():
     """What is wrong of the outputs that were written by hand."""
-    for about, workers, is_right, script, output in team_table.rows():
+    for about, pair, workers, is_right, script, output in team_table.rows():
         try:
-            decide(sessions_of(script), files.GOOD[0], workers, output, WordMarks(), 10_000)
+            decide(sessions_of(script), pair, workers, output, WordMarks(), 10_000)
             was = None
         except Wrong as wrong:
             was = wrong
