@@ -1,11 +1,12 @@
 #!/usr/bin/env bash
-# Times `team` on scripts of 1, 4 and 16 sessions, with 0 and with 4 workers. Each session has 10,000 lines, or as many as the first word says,
-# over a text of 2,000 paragraphs, or as many as the second word says. The sessions put the paragraphs in, each its share, of 100 bytes. Then 45
-# of 100 lines put another text in place of one, 45 replace its first byte, and the others put one in or take one out, at random places; one line
-# of 1,000 is a `settle`, and one of 2,000 a `show`. With the word `large` in place of both there is one script, of 16 sessions and 1,000,000
-# lines, with 4 workers. Prints a row for each run: how many lines there are, how many of them were refused since others had changed or taken out
-# the paragraph, the seconds that passed, the lines in a second, the processor seconds, and the most memory. Ends with status 1 where a run
-# has another number of replies than of lines, or another total than its last edit. Needs awk.
+# Times `team` on scripts of 1, 4 and 16 sessions, with 0 and with 4 workers. Each session has 10,000 lines, or as many as the first word
+# says, over a text of 2,000 paragraphs, or as many as the second word says. The sessions put the paragraphs in, each its share, of 100
+# bytes. Then 45 of 100 lines put another text in place of one, 45 replace its first byte, and the others put one in or take one out, at
+# random places; one line of 1,000 is a `settle`, and one of 2,000 a `show`. With the word `large` in place of both there is one script, of
+# 16 sessions and 1,000,000 lines, with 4 workers. Prints a row for each run: how many lines there are, how many of them were refused since
+# others had changed or taken out the paragraph, the seconds that passed, the lines in a second, the processor seconds, and the most memory.
+# Ends with status 1 where a run has another number of replies than of lines, or another total than its last edit. `TEAM_PROGRAM` names
+# another program.
 set -euo pipefail
 top=$(cd "$(dirname "$0")/.." && pwd)
 work=$(mktemp -d)
@@ -51,13 +52,14 @@ END {
 measure() {
     local refused seconds spent memory
     script "$1" "$2" "$3" > "$work/script"
-    /usr/bin/time -q -o "$work/cost" -f '%e %U %S %M' "$program" team "$work/a.aff" "$work/a.dic" "$work/script" --workers "$4" > "$work/out"
+    /usr/bin/time -q -o "$work/cost" -f '%e %U %S %M' \
+        "$program" team "$work/a.aff" "$work/a.dic" "$work/script" --workers "$4" > "$work/out"
     refused=$(awk -v due="$(($1 * $2))" "$faults" "$work/out")
     read -r seconds spent memory < <(awk '{ print $1, $2 + $3, $4 }' "$work/cost")
-    awk -v sessions="$1" -v workers="$4" -v lines="$(($1 * $2))" -v refused="$refused" -v seconds="$seconds" -v spent="$spent" -v memory="$memory" '
+    awk -v lines="$(($1 * $2))" -v refused="$refused" -v seconds="$seconds" -v spent="$spent" -v memory="$memory" -v row="| $1 | $4" '
     BEGIN {
         speed = seconds > 0 ? sprintf("%.0f", lines / seconds) : "not told"
-        printf "| %d | %d | %d | %d | %.2f s | %s | %.2f s | %.1f MB |\n", sessions, workers, lines, refused, seconds, speed, spent, memory / 1024
+        printf "%s | %d | %d | %.2f s | %s | %.2f s | %.1f MB |\n", row, lines, refused, seconds, speed, spent, memory / 1024
     }'
 }
 

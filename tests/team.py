@@ -1,14 +1,15 @@
 #!/usr/bin/env python3
 """Runs `team` on random scripts, and has team_history.py decide whether one history explains what each prints.
 
-`team.py SECONDS` goes on for so long, 5 where nothing is said, and ends with status 1 at the first output that no history explains, which it
-keeps with its script. It prints a seed; `--seed S --first K --scripts 1` is script K of that seed again, but for what threads do.
+`team.py SECONDS` goes on for so long, 5 where nothing is said, and ends with status 1 at the first output that no history explains, which
+it keeps with its script. It prints a seed; `--seed S --first K --scripts 1` is script K of that seed again, but for what threads do.
 
-`team.py --simulated` has a simulator in place of the program, by which sessions mix as they like. It needs no program. For half of the time it
-tries all outputs of small scripts (team_every.py).
+`team.py --simulated` has a simulator in place of the program, by which sessions mix as they like. It needs no program. For half of the
+time it tries all outputs of small scripts (team_every.py).
 
-`team.py --wrong` turns outputs in each of the ways of team_wrong.py and team_wrong_looks.py, and ends with status 1 where none is refused of
-those that one of them makes, or where one is accepted that nothing can explain. With `--simulated` it has simulators that go wrong too.
+`team.py --wrong` turns outputs in each of the ways of team_wrong.py and team_wrong_looks.py, and ends with status 1 where none is refused
+of those that one of them makes, or where one is accepted that nothing can explain. Where the program prints nothing that a way can turn,
+the simulator does. At last it has simulators that go wrong, of which some output has to be refused.
 
 Each of them begins with the outputs of team_table.py, which were written by hand.
 """
@@ -49,10 +50,12 @@ class Script:
         self.workers, self.pair = int(workers), rolled.choice(files.GOOD[:2])
         count = rolled.randint(1, options.sessions)
         writer = Writer(rolled, count, some_pairs(rolled))
-        self.data = rolled.choice((b'', b'', MARK)) + b''.join(line + rolled.choice((b'\n', b'\n', b'\r\n')) for line in writer.lines(options.lines))
+        lines = [line + rolled.choice((b'\n', b'\n', b'\r\n')) for line in writer.lines(options.lines)]
+        self.data = rolled.choice((b'', b'', MARK)) + b''.join(lines)
         self.sessions = sessions_of(self.data)
-        # How likely a turn of a session is followed by one of the same, where the simulator runs it.
-        self.stay = rolled.choice((0, 0.5, 0.9, 0.98))
+        # How likely a turn of a session is followed by one of the same, where the simulator runs it. Many sessions that mix much have
+        # too many histories for the checker to decide in time.
+        self.stay = rolled.choice((0, 0.5, 0.9, 0.98) if count <= 6 else (0.8, 0.9, 0.98))
 
     def simulated(self, marks, kind=Simulator):
         """What is printed where turns come as they like."""
@@ -75,8 +78,9 @@ class Team:
         self.options, self.folder = options, folder
         self.seen, self.ends = collections.Counter(), collections.Counter()
         self.done = self.lines = self.steps = self.undecided = 0
-        files.write_all(folder)
         self.marks = WordMarks() if options.simulated else ProgramMarks(options.program, folder)
+        if not options.simulated:
+            files.write_all(folder)
 
     def output(self, script):
         if self.options.simulated:
@@ -89,7 +93,8 @@ class Team:
 
     def call(self, words):
         """A run of the program: its status, and what it wrote."""
-        done = subprocess.run([self.options.program, 'team', *words], cwd=self.folder, capture_output=True, timeout=self.options.limit, check=False)
+        words = [self.options.program, 'team', *words]
+        done = subprocess.run(words, cwd=self.folder, capture_output=True, timeout=self.options.limit, check=False)
         return done.returncode, done.stdout, done.stderr
 
     def write(self, name, content):
@@ -106,7 +111,7 @@ class Team:
         if not is_right or error:
             raise Wrong(f'ended with {status}, {output[-100:]!r} and {error[:100]!r}, by {aff!r} {dic!r} {name!r}, and should with {end}')
         self.ends[end] += 1
-        words = script.random.choice(team_ends.WORDS)
+        words = script.random.choice(team_ends.BAD_WORDS)
         if (came := self.call(words)) != (2, b'affedit: words\n', b''):
             raise Wrong(f'the words {words} ended with {came}')
 
@@ -197,7 +202,7 @@ def main():
     folder = tempfile.mkdtemp()
     team = Team(options, folder)
     if options.wrong:
-        failed = try_wrong(team)
+        failed = try_wrong(team, Team(argparse.Namespace(**{**vars(options), 'simulated': True}), folder))
         shutil.rmtree(folder)
         return 1 if failed else 0
     wrong = team.run()
@@ -207,7 +212,8 @@ def main():
     shutil.rmtree(folder)
     print(f'{team.done} scripts, {team.lines} lines, {team.steps} steps of the search, {team.undecided} not decided')
     print('; '.join(f'{kind}: {count}' for kind, count in sorted(team.seen.items())))
-    print('; '.join(f'{"sessions start" if end is None else end[1].decode()}: {count}' for end, count in team.ends.most_common()))
+    if not options.simulated:
+        print('; '.join(f'{"sessions start" if end is None else end[1].decode()}: {count}' for end, count in team.ends.most_common()))
     return 0
 
 

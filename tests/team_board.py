@@ -10,8 +10,8 @@ END = -1
 
 
 class Paragraph(NamedTuple):
-    """Its id is its own for ever. `opened` is the time since which it waits; `before` are the times from and to which it waited with this text
-    and under this dictionary before it was stopped."""
+    """Its id is its own for ever. `opened` is the time since which it waits; `before` are the times from and to which it waited with this
+    text and under this dictionary before it was stopped."""
     id: int
     text: bytes
     state: str
@@ -84,8 +84,8 @@ def changed_text(command, text):
 
 
 def shown_needs(call, paragraphs, marks):
-    """Which paragraphs have to be checked, that wait, so that a look shows the board as it did; None where it cannot. `marks` is asked for the
-    marks of texts, where all else is as it is shown."""
+    """Which paragraphs have to be checked, that wait, so that a look shows the board as it did; None where it cannot. `marks` is asked for
+    the marks of texts, where all else is as it is shown."""
     shown, checked = call.shown, []
     if shown and max(shown) > len(paragraphs):
         return None

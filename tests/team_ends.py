@@ -5,12 +5,12 @@ from console_model import MARK, is_blank, lines_of
 from team_lines import MOST_LINE, MOST_PAIRS, MOST_SCRIPT, pairs_of, read_line
 
 ENDS = {b'no Missing': (5, b'missing'), b'no Files': (5, b'files'), b'no Large 16777216': (8, b'limit 16777216')}
-BAD_LINES = [b'0 show', b'17 show', b'001 show', b'x', b' 1 show', b'1\tshow', b'\t1 show', b'+1 show', b'show', b'100', b'1\xff', b'1 ins 1 \xc3', b'\xff',
-             '１ show'.encode(), b'1\x00', MARK + b'1 show']
-WORDS = [[], ['a.aff'], ['a.aff', 'a.dic'], ['a.aff', 'a.dic', 'script', 'more'], ['a.aff', 'a.dic', 'script', '--workers'],
-         ['a.aff', 'a.dic', 'script', '--workers', '17'], ['a.aff', 'a.dic', 'script', '--workers', '-1'], ['a.aff', 'a.dic', 'script', '--workers', '001'],
-         ['a.aff', 'a.dic', 'script', '--workers', '1', '--own', 'a.dic'], ['a.aff', 'a.dic', 'script', '--own', 'a.dic'],
-         ['--workers', '1', 'a.aff', 'a.dic', 'script']]
+BAD_LINES = [b'0 show', b'17 show', b'001 show', b'x', b' 1 show', b'1\tshow', b'\t1 show', b'+1 show', b'show', b'100', b'1\xff',
+             b'1 ins 1 \xc3', b'\xff', '１ show'.encode(), b'1\x00', MARK + b'1 show']
+GOOD_WORDS = ['a.aff', 'a.dic', 'script']
+BAD_WORDS = [[], GOOD_WORDS[:1], GOOD_WORDS[:2], [*GOOD_WORDS, 'more'], ['--workers', '1', *GOOD_WORDS],
+             *([*GOOD_WORDS, *more] for more in (['--workers'], ['--workers', '17'], ['--workers', '-1'], ['--workers', '001'],
+                                                 ['--workers', ''], ['--workers', '1', '--own', 'a.dic'], ['--own', 'a.dic']))]
 
 
 def fault_of_file(name, bad):
@@ -33,7 +33,7 @@ def fault_of_named(aff, dic):
 
 
 def fault_of_script(data):
-    """How a script ends the run by what stands in it: a line of no form, then one that is too long, then too many pairs, then one of them."""
+    """How a script ends the run by what stands in it: a line of no form, then one that is too long, too many pairs, and a pair."""
     lines = [(number, line) for number, line in enumerate(lines_of(data), 1) if not is_blank(line)]
     said = [(number, read_line(line)) for number, line in lines]
     for number, told in said:
@@ -49,7 +49,9 @@ def fault_of_script(data):
 
 def end_of(aff, dic, name, data):
     """The status and the last line of a run by these files, the last of which is the script; None where its sessions start."""
-    return fault_of_pair(aff, dic) or fault_of_file(name, {}) or ((8, b'limit %d' % MOST_SCRIPT) if len(data) > MOST_SCRIPT else fault_of_script(data))
+    if fault := fault_of_pair(aff, dic) or fault_of_file(name, {}):
+        return fault
+    return (8, b'limit %d' % MOST_SCRIPT) if len(data) > MOST_SCRIPT else fault_of_script(data)
 
 
 def spoilt(rolled, data):

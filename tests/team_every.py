@@ -1,7 +1,7 @@
 """All that may be printed of small scripts, by all orders of the steps of the simulator: the checker has to accept just that.
 
-Outputs that may not be printed are made of those that may be: with the replies of one session from one of them, and those of another one from
-another, or from what may be printed of the lines in another order.
+Outputs that may not be printed are made of those that may be: with the replies of one session from one of them, and those of another one
+from another, or from what may be printed of the lines in another order.
 """
 
 import console_files as files
@@ -10,9 +10,11 @@ from team_lines import Line, sections_of
 from team_simulator import Simulator
 
 # Lines that come of each other, over one paragraph or two.
-LINES = ['put 1 hello', 'put 1 q丁', 'put 2 丂', 'ins 1 七x', 'ins 2 丄', 'ins 3 丅', 'del 1', 'del 2', 'sub 1 0 1 q', 'sub 2 0 3 x', 'sub 1 1 1 ', 'show', 'show',
-         'show', 'settle', 'settle', 'stop 1', 'stop 1', 'stop 2', 'ask 1', 'ask 2', 'load b.aff b.dic', 'load a.aff a.dic', 'quit']
-FRONTS = [[], ['ins 1 丆'], ['ins 1 丆', 'ins 2 万'], ['ins 1 丆', 'ins 2 万', 'settle'], ['ins 1 丆', 'stop 1'], ['ins 1 丆', 'stop 1', 'ask 1']]
+LINES = ['put 1 hello', 'put 1 q丁', 'put 2 丂', 'ins 1 七x', 'ins 2 丄', 'ins 3 丅', 'del 1', 'del 2', 'sub 1 0 1 q', 'sub 2 0 3 x',
+         'sub 1 1 1 ', 'show', 'show', 'show', 'settle', 'settle', 'stop 1', 'stop 1', 'stop 2', 'ask 1', 'ask 2', 'load b.aff b.dic',
+         'load a.aff a.dic', 'quit']
+FRONTS = [[], ['ins 1 丆'], ['ins 1 丆', 'ins 2 万'], ['ins 1 丆', 'ins 2 万', 'settle'], ['ins 1 丆', 'stop 1'],
+          ['ins 1 丆', 'stop 1', 'ask 1']]
 # How many orders of steps a script has at most, and how many outputs are mixed of those of one.
 MOST_ORDERS = 4_000
 MIXES = 150

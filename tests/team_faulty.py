@@ -156,7 +156,8 @@ class BehindItself(Simulator):
     """An edit is refused as behind though nothing came between."""
 
     def done(self, command, kept, rev):
-        if kept is not None and command.name in (b'put', b'sub', b'del') and kept in self.paragraphs and kept.rev == rev and self.choose(5, range(5)) == 0:
+        is_current = command.name in (b'put', b'sub', b'del') and kept in self.paragraphs and kept.rev == rev
+        if is_current and self.choose(5, range(5)) == 0:
             return b'no Behind %d' % rev
         return super().done(command, kept, rev)
 
@@ -172,5 +173,5 @@ class PutInBehind(Simulator):
         return refusal
 
 
-FAULTY = [LostUpdate, GoneIsTaken, LateVersion, OldMarks, OldShow, MixedShow, CheckedIsStopped, SettleLeaves, SettleTakesAll, AskIsLost, CheckedOnceMore,
-          BehindItself, PutInBehind]
+FAULTY = [LostUpdate, GoneIsTaken, LateVersion, OldMarks, OldShow, MixedShow, CheckedIsStopped, SettleLeaves, SettleTakesAll, AskIsLost,
+          CheckedOnceMore, BehindItself, PutInBehind]

@@ -145,7 +145,8 @@ class Search:
     @staticmethod
     def ranks(state, settling):
         """All times that matter where only settles check, by their order."""
-        times = [[each.opened if each.state == WAITING else None, *(time for span in each.before for time in span)] for each in state.paragraphs]
+        times = [[each.opened if each.state == WAITING else None, *(time for span in each.before for time in span)]
+                 for each in state.paragraphs]
         times += [[seat.since, seat.latest] for seat in settling]
         ranks = {time: rank for rank, time in enumerate(sorted({time for row in times for time in row if time is not None}))}
         return tuple(tuple(map(ranks.get, row)) for row in times)

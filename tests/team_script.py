@@ -79,7 +79,7 @@ class Writer:
         edges = [at for at in range(len(text) + 1) if is_edge(text, at)]
         start, end = sorted(rolled.choices(edges, k=2))
         start, end = rolled.choice(((0, 0), (0, 5), (0, 0), (start, end), (len(text), len(text))))
-        put = rolled.choice((b'x', b'', self.name().encode(), self.name().encode() + b' '))
+        put = rolled.choice((b'x', b'', *(self.name().encode() + end for end in (b'', b' ', b'', b' ', b'', b' '))))
         if place <= len(self.texts):
             self.texts[place - 1] = text[:start] + put + text[end:]
         return b'sub %d %d %d %s' % (place, start, end, put)

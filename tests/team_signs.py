@@ -1,9 +1,9 @@
 """What looks tell of edits before they are come to. It prunes the search of team_history.py.
 
 A character that stands in the text of one Ok edit alone, and there once, is a sign of it: spans end between characters, so where the
-character is seen, the paragraph of that edit is. Paragraphs never change their order. So a look that shows two signs says which of two edits
-was of the paragraph that stands first, or that both were of one; and none of what it shows was taken out before. And how many paragraphs
-stand before one that is shown bounds how many may stand before it now, by how many are put in and taken out until then.
+character is seen, the paragraph of that edit is. Paragraphs never change their order. So a look that shows two signs says which of two
+edits was of the paragraph that stands first, or that both were of one; and none of what it shows was taken out before. And how many
+paragraphs stand before one that is shown bounds how many may stand before it now, by how many are put in and taken out until then.
 """
 
 import bisect

@@ -1,7 +1,8 @@
 """A simulator of `team`: sessions and workers take steps by turns, which are chosen, and what is printed comes of that.
 
 It is written from docs/CONSOLE.md and docs/TEAM.md beside the checker, and shares only the reading of lines with it. Each command that
-names a paragraph looks in one step, and is done or refused in another. A `settle` looks, and checks what waited there a paragraph in a step.
+names a paragraph looks in one step, and is done or refused in another. A `settle` looks, and checks what waited there a paragraph in a
+step.
 """
 
 from console_model import CHECKED, MOST_BYTES, MOST_PARAGRAPHS, NO_COMMAND, STOPPED, WAITING, is_edge

@@ -1,8 +1,9 @@
 """Outputs of `team` that were written by hand, each with its script: those that may be printed, and those that may not.
 
-They stand in team_outputs.txt, with an empty line between two. The first line of each says what it is about; the second one how many workers
-there are, and `yes` where it may be printed, else `no`; then come the script, a dash, and the output. The dictionary of a.aff and a.dic has the
-words `hello` and `tried`, that of b.aff and b.dic `foobar` and `bars`. The example of docs/TEAM.md is a script, and two outputs of it.
+They stand in team_outputs.txt, with an empty line between two. The first line of each says what it is about; the second one how many
+workers there are, and `yes` where it may be printed, else `no`; then come the script, a dash, and the output. The dictionary of a.aff and
+a.dic has the words `hello` and `tried`, that of b.aff and b.dic `foobar` and `bars`. The example of docs/TEAM.md is a script, and two
+outputs of it.
 """
 
 import os
@@ -18,7 +19,7 @@ def lines_of(*names):
 
 
 def rows():
-    """Each row: what it is about, the pair that is loaded first, the number of workers, whether it may be printed, the script, and the output."""
+    """Each row: what it is about, the first pair, the number of workers, whether it may be printed, the script, and the output."""
     lines = lines_of('team_outputs.txt')
     while any(lines):
         about, given = lines[0], lines[1].split(' ')

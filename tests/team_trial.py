@@ -7,13 +7,14 @@ import team_faulty
 import team_table
 import team_wrong
 import team_wrong_looks
+import team_wrong_parts
 from console_model import Wrong
 from team_history import Undecided, explain
 from team_lines import calls_of, sessions_of
 from team_marks import WordMarks
 
-# Of how many outputs each way makes others at most, and how many of these it has to make.
-TRIES = 250
+# Of how many outputs each way makes others at most; how many a simulator prints that goes wrong; and how many have to be refused.
+TRIES, MANY_TRIES = 200, 1_000
 ENOUGH = 3
 
 
@@ -35,19 +36,25 @@ def try_table():
             yield f'{about}: {"refused: " + str(was) if is_right else "accepted"}'
 
 
-def turned(team, way):
-    """Outputs that a way has turned, each with its script."""
-    for number in range(TRIES):
-        script = team.script(number)
-        printed = team_wrong.Printed(output := team.output(script))
-        if way(printed, calls_of(script.sessions, output, files.fault_of)[0], script.random) is not False:
-            yield script, printed.output()
+def turned(way, *teams):
+    """Outputs that a way has turned, each with its script: of the first of these that has some, for nobody can say what threads do."""
+    for team in teams:
+        is_made = False
+        for number in range(TRIES):
+            script = team.script(number)
+            printed = team_wrong.Printed(output := team.output(script))
+            if way(printed, calls_of(script.sessions, output, files.fault_of)[0], script.random) is not False:
+                is_made = True
+                yield script, printed.output()
+        if is_made:
+            return
 
 
 def simulated_by(team, kind):
-    """Outputs of a simulator that goes wrong."""
-    for number in range(TRIES):
+    """Outputs of a simulator that goes wrong, where sessions mix much."""
+    for number in range(MANY_TRIES):
         script = team.script(number)
+        script.stay = 0
         yield script, script.simulated(team.marks, kind)
 
 
@@ -65,17 +72,19 @@ def try_outputs(team, name, outputs, is_always):
             first = first or wrong
         if counts['refused'] >= ENOUGH or (name == 'nothing' and counts['accepted'] >= 10 * ENOUGH):
             break
-    is_right = counts['refused'] == 0 < counts['accepted'] if name == 'nothing' else 0 < counts['refused'] and not (is_always and counts['accepted'])
+    is_right = counts['refused'] > 0 and not (is_always and counts['accepted'])
+    if name == 'nothing':
+        is_right = counts['refused'] == 0 < counts['accepted']
     told = ', '.join(f'{count} {kind}' for kind, count in sorted(counts.items())) or 'it could not be made'
     print(f'{"" if is_right else "NOT AS IT SHOULD BE: "}{name}: {told}{f"; first: {first}" if first else ""}', flush=True)
     return is_right
 
 
-def try_wrong(team):
-    """How many ways there are of which no output is refused, or one accepted that may not be."""
-    failed = 0
-    for name, (way, is_always) in {'nothing': (team_wrong.nothing, False), **team_wrong.WAYS, **team_wrong_looks.WAYS}.items():
-        failed += not try_outputs(team, name, turned(team, way), is_always)
-    for kind in team_faulty.FAULTY if team.options.simulated else ():
-        failed += not try_outputs(team, 'a simulator: ' + kind.__doc__.rstrip('.'), simulated_by(team, kind), False)
+def try_wrong(team, simulated):
+    """How many ways there are of which no output is refused, or one accepted that may not be. The second one has the simulator."""
+    ways, failed = team_wrong.WAYS | team_wrong_looks.WAYS | team_wrong_parts.WAYS, 0
+    for name, (way, is_always) in {'nothing': (team_wrong.nothing, False), **ways}.items():
+        failed += not try_outputs(team, name, turned(way, team, simulated), is_always)
+    for kind in team_faulty.FAULTY:
+        failed += not try_outputs(simulated, 'a simulator: ' + kind.__doc__.rstrip('.'), simulated_by(simulated, kind), False)
     return failed

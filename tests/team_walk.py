@@ -25,8 +25,8 @@ class State:
 
 
 class Walk:
-    """What states come of each other for these calls, one list for each session. `pairs` are the dictionaries by their versions, and `marks` is
-    asked for the marks of texts by one of them."""
+    """What states come of each other for these calls, one list for each session. `pairs` are the dictionaries by their versions, and
+    `marks` is asked for the marks of texts by one of them."""
 
     def __init__(self, calls, pairs, has_workers, marks):
         self.calls = [[call for call in mine if call.kind not in ALWAYS] for mine in calls]
@@ -140,9 +140,9 @@ class Walk:
     # ---- how paragraphs are checked
 
     def ways_to_check(self, state, needs):
-        """How paragraphs may be checked that wait: by workers; or by sessions that settle and looked when they waited, each of which is given
-        with the first and the last time when it looked. Of those that have waited from their time on to now one session does for all: that
-        which checks the last one could have checked the others too."""
+        """How paragraphs may be checked that wait: by workers; or by sessions that settle and looked when they waited, each of which is
+        given with the first and the last time when it looked. Of those that have waited from their time on to now one session does for all:
+        that which checks the last one could have checked the others too."""
         if self.has_workers:
             return [()]
         rows = [paragraph for paragraph in state.paragraphs if paragraph.id in needs]
@@ -162,8 +162,8 @@ class Walk:
     def times_of_look(self, state, seat):
         """When a `settle` that ends here may have looked. With workers the first time does for all others."""
         latest = inf if seat.latest is None else seat.latest
-        times = {paragraph.opened for paragraph in state.paragraphs if paragraph.state == WAITING and seat.since < paragraph.opened <= latest}
-        return [seat.since] if self.has_workers else [seat.since, *sorted(times)]
+        times = {paragraph.opened for paragraph in state.paragraphs if paragraph.state == WAITING}
+        return [seat.since] + ([] if self.has_workers else [time for time in sorted(times) if seat.since < time <= latest])
 
     # ---- what may come next; each makes the next state of one that it may change
 

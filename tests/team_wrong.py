@@ -99,7 +99,8 @@ def edit_lost(printed, calls, rolled):
         return False
     version = rolled.choice([*edits])
     call = calls[edits[version][0]][edits[version][1]]
-    printed.put(edits[version], [b'no Gone' if call.command.name == b'ins' or rolled.random() < 0.5 else b'no Behind %d' % rolled.randint(1, version)])
+    is_gone = call.command.name == b'ins' or rolled.random() < 0.5
+    printed.put(edits[version], [b'no Gone' if is_gone else b'no Behind %d' % rolled.randint(1, version)])
     printed.move_text(version, -1)
 
 
@@ -198,35 +199,6 @@ def place_fallen(printed, calls, rolled):
     printed.put((section, place), [b' '.join([words[0], b'%d' % rolled.randrange(seen), *words[2:]]), *rest])
 
 
-def other_session(printed, calls, rolled):
-    """The replies of two sessions are printed under each other's number."""
-    if len(printed.sections) < 2:
-        return False
-    one, two = rolled.sample(range(len(printed.sections)), 2)
-    (first, its), (second, theirs) = printed.sections[one], printed.sections[two]
-    if its == theirs:
-        return False
-    printed.sections[one], printed.sections[two] = (first, theirs), (second, its)
-
-
-def one_of(printed, rolled):
-    """Where some reply stands."""
-    places = [(section, place) for section, (_, replies) in enumerate(printed.sections) for place in range(len(replies))]
-    return rolled.choice(places) if places else None
-
-
-def reply_missing(printed, calls, rolled):
-    if (where := one_of(printed, rolled)) is None:
-        return False
-    del printed.sections[where[0]][1][where[1]]
-
-
-def reply_doubled(printed, calls, rolled):
-    if (where := one_of(printed, rolled)) is None:
-        return False
-    printed.sections[where[0]][1].insert(where[1], printed.get(where))
-
-
 def replies_in_other_order(printed, calls, rolled):
     """Two Ok edits of one session have each other's reply."""
     edits = printed.edits(calls)
@@ -245,32 +217,6 @@ def load_doubled(printed, calls, rolled):
         return False
     one, two = rolled.sample(loads, 2)
     printed.put(one, printed.get(two))
-
-
-def total_moved(which, change):
-    def way(printed, calls, rolled):
-        printed.total[which] += change
-        return printed.total[which] >= 0
-    return way
-
-
-def session_missing(printed, calls, rolled):
-    del printed.sections[rolled.randrange(len(printed.sections))]
-
-
-def session_renumbered(printed, calls, rolled):
-    place = rolled.randrange(len(printed.sections))
-    printed.sections[place] = (printed.sections[place][0] % 16 + 1, printed.sections[place][1])
-
-
-def sessions_in_other_order(printed, calls, rolled):
-    if len(printed.sections) < 2:
-        return False
-    printed.sections.reverse()
-
-
-def line_behind(printed, calls, rolled):
-    printed.last = b'total text %d dict %d\n' % tuple(printed.total)
 
 
 # By their names: the way, and whether nothing that it makes can be explained. Of the others some output has to be refused at least.
@@ -302,15 +248,4 @@ WAYS = {
     'a load tells the version of another one': (load_doubled, True),
     'a load tells one version more': (reply_changed(b'dict ', 1), True),
     'a fault is told in place of a load': (reply_exchanged(b'dict ', [b'no Missing', b'no aff 1 OtherEncoding']), True),
-    'the replies of two sessions are exchanged': (other_session, False),
-    'a reply is missing': (reply_missing, True),
-    'a reply is doubled': (reply_doubled, True),
-    'the total tells one edit more': (total_moved(0, 1), True),
-    'the total tells one edit less': (total_moved(0, -1), True),
-    'the total tells one load more': (total_moved(1, 1), True),
-    'the total tells one load less': (total_moved(1, -1), True),
-    'a session is missing': (session_missing, True),
-    'a session has another number': (session_renumbered, True),
-    'sessions fall by number': (sessions_in_other_order, True),
-    'the last line is doubled': (line_behind, True),
 }

@@ -17,7 +17,7 @@ def old_show(printed, calls, rolled):
 def older_show(printed, calls, rolled):
     """A look shows a board that its session had seen left before."""
     shows = printed.those(b'text ')
-    pairs = [(one, two) for one in shows for two in shows if one[0] == two[0] and one[1] < two[1] and printed.get(one)[0] != printed.get(two)[0]
+    pairs = [(one, two) for one in shows for two in shows if one[0] == two[0] and printed.get(one)[0] != printed.get(two)[0]
              and any(call.kind in ('edit', 'load') for call in calls[one[0]][one[1]:two[1]])]
     if not pairs:
         return False
@@ -84,7 +84,8 @@ def rows_exchanged(printed, calls, rolled):
         return False
     one, two = rolled.sample(places, 2)
     to = {one: two, two: one}
-    moved = sorted(((to.get(int(place), int(place)), rest) for place, _, rest in (row.partition(b' ') for row in rows)), key=lambda row: row[0])
+    moved = [(int(place), rest) for place, _, rest in (row.partition(b' ') for row in rows)]
+    moved = sorted(((to.get(place, place), rest) for place, rest in moved), key=lambda row: row[0])
     printed.put(where, [first, *(b'%d %s' % row for row in moved), dot])
 
 
