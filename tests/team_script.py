@@ -5,7 +5,7 @@ from console_model import is_edge
 
 # How often a kind of line comes beside the others. Few put paragraphs in and take them out: see team_history.py.
 KINDS = {'put': 10, 'sub': 12, 'ins': 4, 'del': 2, 'show': 9, 'settle': 3, 'stop': 4, 'ask': 4, 'load': 2, 'own': 0.5, 'no_place': 1,
-         'bad_span': 1, 'long': 0.2, 'blank': 1, 'no_command': 1}
+         'bad_span': 1, 'long': 0.2, 'blank': 1, 'no_command': 1, 'quit': 0.1}
 NO_COMMANDS = [b'show ', b' show', b'SHOW', b'ins', b'ins x', b'put', b'sub 1 0', b'del 1 ', b'stop', b'ask one', b'load a.aff',
                b'load  a.aff a.dic', b'own', b'own ', b'own wurk', b'own *hello', b'Own wurk', b'quit ', b'settle 1', b'1', b'\x0b', b'#']
 WORDS = ['hello', 'tried', 'worked', 'foobar', 'bars', 'wurk', 'paris', 'Paris', 'straße', 'xx']
@@ -39,7 +39,7 @@ class Writer:
             yield number + (b' ' + text if text else rolled.choice((b'', b' ')))
         for number in numbers:
             if rolled.random() < 0.1:
-                yield from (b'%d %s' % (number, text) for text in (b'quit', b'show', b'load a.aff a.dic')[:rolled.randint(1, 2)])
+                yield from (b'%d %s' % (number, text) for text in (b'quit', b'show', self.write_load())[:rolled.randint(1, 3)])
             elif rolled.random() < 0.3:
                 yield from (b'%d %s' % (number, text) for text in (b'settle', b'show'))
 
@@ -54,6 +54,9 @@ class Writer:
     def text(self):
         rolled = self.random
         words = [self.name()] * (rolled.random() < 0.9) + rolled.choices(WORDS, k=rolled.choice((0, 1, 1, 2)))
+        if rolled.random() < 0.1:
+            # A word that takes the rules a while, so that others come between.
+            words.append(''.join(rolled.choices(files.STEMS, k=3)))
         rolled.shuffle(words)
         return rolled.choice((' ', ' ', ' ', '  ', ', ')).join(words).encode()
 
@@ -119,6 +122,9 @@ class Writer:
 
     def write_blank(self):
         return self.random.choice((b'', b' ', b'\t'))
+
+    def write_quit(self):
+        return b'quit'
 
     def write_no_command(self):
         return self.random.choice(NO_COMMANDS)

@@ -40,7 +40,7 @@ class Signs:
 
     def take(self, call):
         seen = [(place, self.edits[sign], sign) for place, marks in call.shown.items() for mark in marks
-                for sign in mark.split(b' ', 2)[-1].decode() if sign in self.edits]
+                for sign in mark.split(b' ', 2)[-1].decode(errors='replace') if sign in self.edits]
         for place, edit, sign in seen:
             self.until[sign] = max(self.until.get(sign, 0), call.text)
             for other_place, other, _ in seen:
