@@ -104,10 +104,14 @@ def edit_lost(printed, calls, rolled):
     printed.move_text(version, -1)
 
 
+def refused_edits(printed, calls):
+    return [where for where in printed.those(b'no ') if calls[where[0]][where[1]].kind in ('Gone', 'Behind', 'Place', 'BadSpan')
+            and calls[where[0]][where[1]].command.name in (b'ins', b'put', b'sub', b'del')]
+
+
 def edit_made(printed, calls, rolled):
     """A refusal is told to be Ok, and all later versions are one more."""
-    refused = [where for where in printed.those(b'no ') if calls[where[0]][where[1]].kind in ('Gone', 'Behind', 'Place', 'BadSpan')
-               and calls[where[0]][where[1]].command.name in (b'ins', b'put', b'sub', b'del')]
+    refused = refused_edits(printed, calls)
     if not refused:
         return False
     where, version = rolled.choice(refused), rolled.randint(1, printed.total[0] + 1)
@@ -123,7 +127,7 @@ def edit_refused(printed, calls, rolled):
 
 
 def refusal_taken(printed, calls, rolled):
-    refused = [where for where in printed.those(b'no ') if calls[where[0]][where[1]].kind in ('Gone', 'Behind', 'Place')]
+    refused = refused_edits(printed, calls)
     if not refused:
         return False
     printed.put(rolled.choice(refused), [b'ok %d' % rolled.randint(0, printed.total[0] + 1)])
@@ -241,7 +245,7 @@ WAYS = {
     'a `no Place` counts one more': (reply_changed(b'no Place ', 1), False),
     'a `no Place` counts one less': (reply_changed(b'no Place ', -1), False),
     'a `no BadSpan` tells one byte more': (reply_changed(b'no BadSpan ', 1), False),
-    'a `no TooLong` tells one byte more': (reply_changed(b'no TooLong ', 1), True),
+    'a `no TooLong` tells one byte more': (reply_changed(b'no TooLong ', 1), False),
     'a `no Parked` in place of a `no Finished`': (reply_exchanged(b'no Finished', [b'no Parked']), False),
     'a `no Finished` in place of a `no Parked`': (reply_exchanged(b'no Parked', [b'no Finished']), False),
     'a line that is no command is told to be done': (reply_exchanged(b'no Command', [b'ok 0', b'ok 1', b'dict 1']), True),
