@@ -1,7 +1,7 @@
 #!/usr/bin/env python3
 """Runs the program over files and inputs that no one meant: random bytes, and pieces of real ones that are cut, doubled and exchanged.
 
-`hostile.py RUNS` makes so many runs, 300 where nothing is said, of `check`, `edit`, `pipe`, `forms` and `make`, with workers and without. Each
+`hostile.py RUNS` makes so many runs, 300 where nothing is said, of `check`, `edit`, `pipe`, `forms`, `team` and `make`, with workers and without. Each
 has to end by itself within the seconds of --limit, with a status of the table, with the last line that this status has, and with nothing on
 standard error; marks have to stand in their text. A run that does not is told, and its files are kept; the status is 1 then. It prints a seed, which
 --seed takes, and how often which command ended with which status.
@@ -24,10 +24,11 @@ PROGRAMS = [os.path.join(TOP, 'crates/affedit/out/affedit'), os.path.join(TOP, '
 # No file that is made is larger, but for those that are to pass a limit.
 MOST = 200_000
 LAST = {
-    1: rb'\d+ of \d+', 2: rb'affedit: words', 3: rb'(aff|dic|own) \d+ [A-Za-z0-9]+', 4: rb'doc \d+', 5: rb'missing|files|input', 7: rb'memory',
+    1: rb'\d+ of \d+', 2: rb'affedit: words', 3: rb'(aff|dic|own) \d+ [A-Za-z0-9]+', 4: rb'(doc|script) \d+', 5: rb'missing|files|input', 7: rb'memory',
     8: rb'limit \d+'}
 STATUSES = {
-    'check': {0, 1, 3, 4, 5, 8}, 'edit': {0, 3, 5, 8}, 'pipe': {0, 3, 5, 8}, 'forms': {0, 3, 5, 8}, 'make': {0, 1, 2}, 'other': {2}}
+    'check': {0, 1, 3, 4, 5, 8}, 'edit': {0, 3, 5, 8}, 'pipe': {0, 3, 5, 8}, 'forms': {0, 3, 5, 8}, 'team': {0, 3, 4, 5, 8},
+    'make': {0, 1, 2}, 'other': {2}}
 AFF_LINES = [
     b'SET UTF-8', b'SET ISO8859-1', b'FLAG long', b'FLAG num', b'FLAG UTF-8', b'AF 2', b'AF AB', b'TRY esian', b'KEY qwert|asdf', b'WORDCHARS -.0123456789',
     b'IGNORE \xd9\x8b\xc3\xa4', b'ICONV 2', b'ICONV y i', b'ICONV ss \xc3\x9f', b'OCONV 1', b'OCONV a b', b'BREAK 2', b'BREAK -', b'BREAK ^x', b'BREAK 0', b'REP 2',
@@ -42,6 +43,7 @@ TEXTS = [b'hello wrold', b'retried foobar foobarfoo', b'STRASSE Strasse', b"it's
 EDITS = [
     b'ins 1 hello wrold', b'ins 2 foobar', b'put 1 x', b'sub 1 0 1 yz', b'sub 1 1 99 ', b'del 1', b'stop 1', b'ask 1', b'settle', b'show', b'load aff dic', b'load b.aff dic',
     b'own wurk', b'own *hello', b'own foo/work', b'quit', b'', b'ins', b'show ', b'ins 999999999 x']
+SCRIPTS = [b'%d %s' % (session, line) for session in (1, 2, 16) for line in EDITS] + [b'3', b'09 show', b'17 show', b' ', b'2  ins 1 a', b'1 load b.aff none.dic']
 PIPED = [b'hello wrold', b'^retried', b'!', b'%', b'*x', b'#', b'', b'^', b'@word']
 
 
@@ -117,25 +119,32 @@ class Runs:
     def files(self, rolled):
         files = {'aff': self.made(rolled, AFF_LINES, self.affs), 'dic': self.made(rolled, DIC_LINES, self.dics), 'text': self.made(rolled, TEXTS, self.texts)}
         files['own'] = self.made(rolled, [b'wurk', b'*hello', b'foo/work', b''], self.dics)
+        # A script of lines that are known is often good.
+        scripts = rolled.choice((SCRIPTS[:-6], SCRIPTS))
+        files['script'] = rolled.choice((lines_from(rolled, scripts), self.made(rolled, scripts, self.texts)))
+        if rolled.random() < 0.7:
+            files['b.aff'] = rolled.choice((b'', files['aff']))
         if rolled.random() < 0.5:
             # Most of what is twisted is refused: so a pair is often good, and what comes behind is reached.
             files['aff'] = rolled.choice((b'', self.affs[0]))
             files['dic'] = rolled.choice((b'3\nhello\nfoo/S\nwork\n', self.dics[0]))
         if rolled.random() < 0.02:
-            name, size = rolled.choice((('aff', 16_777_217), ('dic', 16_777_217), ('text', 67_108_865), ('text', 65_537)))
+            name, size = rolled.choice((('aff', 16_777_217), ('dic', 16_777_217), ('script', 16_777_217), ('text', 67_108_865), ('text', 65_537)))
             files[name] = rolled.choice((b'a', b'\n')) * size
         if rolled.random() < 0.03:
             del files[rolled.choice(sorted(files))]
         return files
 
     def words(self, rolled):
-        command = rolled.choice(('check', 'check', 'check', 'edit', 'edit', 'pipe', 'forms', 'make', 'other'))
+        command = rolled.choice(('check', 'check', 'check', 'edit', 'edit', 'pipe', 'forms', 'team', 'team', 'make', 'other'))
         options = [['--workers', str(rolled.choice((0, 1, 2, 4, 16)))], ['--own', 'own']]
         options = [word for option in options if rolled.random() < 0.5 for word in option]
         if command == 'check':
             return command, ['check', 'aff', 'dic', 'text', *options]
         if command == 'edit':
             return command, ['edit', 'aff', 'dic', *options]
+        if command == 'team':
+            return command, ['team', 'aff', 'dic', 'script', *(options if options[:1] == ['--workers'] else [])[:2]]
         if command == 'make':
             return command, ['make', rolled.choice(('0', '7', '18446744073709551616', '-1', 'x')), rolled.choice(('1', '300', '50001', ''))]
         if command == 'other':
@@ -185,11 +194,13 @@ class Runs:
             wanted = rb'0 of \d+'
         elif command == 'forms' and status == 0:
             wanted = rb'\d+ forms'
+        elif command == 'team' and status == 0:
+            wanted = rb'total text \d+ dict \d+'
         else:
             wanted = LAST.get(status, rb'.*')
         if not re.fullmatch(wanted, last, re.DOTALL):
             return f'status {status} behind {last[:200]!r}'
-        if status in (2, 3, 4) and written.count(b'\n') != 1:
+        if (status in (2, 3, 4) or command == 'team' and status > 0) and written.count(b'\n') != 1:
             return f'status {status} with more than one line'
         return self.marks_fault(written, files['text']) if command == 'check' and status == 1 else None
 
