@@ -58,6 +58,7 @@ pub mod simplifiedtriple;
 pub mod stop_and_ask;
 pub mod stripping;
 pub mod switches;
+pub mod team;
 pub mod unknown_lines;
 pub mod warn;
 pub mod wordchars;

@@ -24,8 +24,9 @@
 //!
 //! Without `words` a block with an input runs `edit a.aff a.dic`, and has the files of `FOLDER`
 //! beside its own. A block without an input runs `check a.aff a.dic text`, where a file that the
-//! block does not name is empty. With `words` a file that is not named is missing. Such a check is
-//! run again by each number of workers of `WORKERS`, and ends in the same way.
+//! block does not name is empty. With `words` a file that is not named is missing. Such a check, and
+//! `team a.aff a.dic script`, is run again by each number of workers of `WORKERS`, and ends in the
+//! same way.
 //!
 //! A dialogue that is to end with the status 0, and with nothing behind its last reply, needs no
 //! line that runs it. Each run with an input is tried in pieces of one byte, of seven, and in one,
@@ -172,7 +173,17 @@ fn run_line<R: Threads + Wait + Sync + Abort>(
     }
 }
 
-/// Runs the program without an input; a check of the usual files by each number of workers too.
+/// Whether a run without an input can have workers, and the given lines do not say how many: a check of
+/// the usual files, or sessions at once.
+fn takes_workers(given: &str) -> bool {
+    match last(given, "words") {
+        Some("team a.aff a.dic script") => last(given, "workers").is_none(),
+        Some(_) => false,
+        None => true,
+    }
+}
+
+/// Runs the program without an input, and where it can have workers by each number of them too.
 fn assert_checked<R: Threads + Wait + Sync + Abort>(
     rt: &R,
     alloc: Global,
@@ -180,7 +191,7 @@ fn assert_checked<R: Threads + Wait + Sync + Abort>(
     line: &str,
 ) -> Result<(), AllocError> {
     assert_ended(rt, alloc, given, line, &[], 1)?;
-    if last(given, "words").is_some() {
+    if !takes_workers(given) {
         return Ok(());
     }
     for workers in WORKERS {

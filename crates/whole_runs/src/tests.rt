@@ -3,6 +3,7 @@
 mod early_ends;
 mod made_inputs;
 mod memory;
+mod team;
 
 use crate::rows;
 use crate::runner::run_rows;
@@ -148,6 +149,13 @@ fn dialogues(rt: HostRuntime) -> Result<(), Fail> {
 #[test]
 fn piped_lines(rt: HostRuntime) -> Result<(), Fail> {
     run_rows(&rt, rt.alloc(), rows::pipe::ROWS)?;
+    Ok(())
+}
+
+/// Sessions at once.
+#[test]
+fn sessions_at_once(rt: HostRuntime) -> Result<(), Fail> {
+    run_rows(&rt, rt.alloc(), rows::team::ROWS)?;
     Ok(())
 }
 

@@ -135,7 +135,7 @@ pub(super) fn assert_closed<R: Abort>(
     closed: Option<(u64, u64)>,
 ) -> Result<(), AllocError> {
     let opens = match last(given, "words") {
-        Some(words) => words.starts_with("edit "),
+        Some(words) => words.starts_with("edit ") || words.starts_with("team "),
         None => has_input(given),
     };
     assert!(rt;
