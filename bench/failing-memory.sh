@@ -1,63 +1,81 @@
 #!/usr/bin/env bash
-# Makes each allocation of `check` fail in turn, until a run has none that fails: on the sample's dictionary, on one with
-# aliases, classes and a twofold suffix, on one with ICONV, IGNORE and BREAK, on one with compounds by flags and by rules, and
-# on one that is refused in its last line. And each allocation of `edit` in three dialogues: one with edits, a paragraph that is
-# stopped and asked for, and marks that are shown; one in which a dictionary is loaded, and another one is refused; and one by a
-# personal list, to which words are added. And each of a test of desks, which says itself whether it passes. Prints what the runs
-# ended with and how often, and ends with status 1 if one of them ended otherwise than as the run without a failing
-# allocation, or with status 7 and `memory`: alone, or behind whole first replies of a dialogue. Needs gcc.
+# Makes each request for memory of the built program fail in turn, until a run has none that fails.
+# - `check`, alone and with two workers: on the sample's dictionary, on one with aliases, classes and a twofold suffix, on one with ICONV,
+#   IGNORE and BREAK, on one with compounds by flags and by rules, and on one that is refused in its last line.
+# - `edit` in three dialogues: edits with a paragraph that is stopped and asked for, and marks that are shown; a dictionary that is loaded,
+#   and another one that is refused; a personal list, to which words are added. And in one with two workers, each of its looks behind a `settle`.
+# - `team` with two and with three sessions, without workers and with two; `pipe`, `forms` and `make`.
+# - A test of desks, which says itself whether it passes.
+# Then the same with each start of a thread in place of each request for memory: such a run has to end as one in which none fails.
+# With a number K as its word, it tries each K-th request alone. Four runs go at once.
+# Each run has to end within a minute, as the run without a failing request or with status 7 and `memory`: alone, or behind whole first
+# replies of a dialogue. Where threads may change what is printed, tests/team_history.py decides whether one history explains it.
+# Prints a row for each: how many requests failed, and what the runs ended with. Ends with status 1 if one ended otherwise, and with 2 where
+# the test of desks is not built. Needs gcc and Python 3.
 set -euo pipefail
 top=$(cd "$(dirname "$0")/.." && pwd)
 work=$(mktemp -d)
 trap 'rm -rf "$work"' EXIT
 
-cat > "$work/fail.c" <<'C'
+cat > "$work/fail.c" << 'C'
 #define _GNU_SOURCE
 #include <dlfcn.h>
 #include <errno.h>
+#include <pthread.h>
+#include <stdatomic.h>
 #include <stdlib.h>
-#include <string.h>
 #include <unistd.h>
 
-static long left = -1;
+extern void *__libc_malloc(size_t), *__libc_calloc(size_t, size_t), *__libc_realloc(void *, size_t), *__libc_memalign(size_t, size_t);
 
-static int fails(void) {
-    if (left < 0) {
-        const char *which = getenv("FAIL_ALLOCATION");
-        left = which ? atol(which) : 0;
-    }
-    if (left == 0 || --left > 0)
+// How many requests are left up to the one that fails; threads count together.
+static atomic_long requests, threads;
+
+__attribute__((constructor)) static void start(void) {
+    const char *request = getenv("FAIL_ALLOCATION"), *thread = getenv("FAIL_THREAD");
+    requests = request ? atol(request) : 0;
+    threads = thread ? atol(thread) : 0;
+}
+
+static int fails(atomic_long *left) {
+    if (atomic_load(left) <= 0 || atomic_fetch_sub(left, 1) != 1)
         return 0;
-    write(2, "failed\n", 7);
+    if (write(2, "failed\n", 7) != 7)
+        _exit(99);
+    return 1;
+}
+
+static int wants_memory(void) {
+    if (!fails(&requests))
+        return 0;
     errno = ENOMEM;
     return 1;
 }
 
-void *malloc(size_t size) {
-    static void *(*real)(size_t);
-    if (!real) real = dlsym(RTLD_NEXT, "malloc");
-    return fails() ? NULL : real(size);
-}
+void *malloc(size_t size) { return wants_memory() ? NULL : __libc_malloc(size); }
 
-void *realloc(void *old, size_t size) {
-    static void *(*real)(void *, size_t);
-    if (!real) real = dlsym(RTLD_NEXT, "realloc");
-    return fails() ? NULL : real(old, size);
-}
+void *calloc(size_t count, size_t size) { return wants_memory() ? NULL : __libc_calloc(count, size); }
 
-void *aligned_alloc(size_t align, size_t size) {
-    static void *(*real)(size_t, size_t);
-    if (!real) real = dlsym(RTLD_NEXT, "aligned_alloc");
-    return fails() ? NULL : real(align, size);
-}
+void *realloc(void *old, size_t size) { return wants_memory() ? NULL : __libc_realloc(old, size); }
+
+void *aligned_alloc(size_t align, size_t size) { return wants_memory() ? NULL : __libc_memalign(align, size); }
 
 int posix_memalign(void **out, size_t align, size_t size) {
-    static int (*real)(void **, size_t, size_t);
-    if (!real) real = dlsym(RTLD_NEXT, "posix_memalign");
-    return fails() ? ENOMEM : real(out, align, size);
+    void *made = wants_memory() ? NULL : __libc_memalign(align, size);
+    if (!made)
+        return ENOMEM;
+    *out = made;
+    return 0;
+}
+
+int pthread_create(pthread_t *made, const pthread_attr_t *how, void *(*run)(void *), void *given) {
+    static int (*real)(pthread_t *, const pthread_attr_t *, void *(*)(void *), void *);
+    if (!real)
+        real = (int (*)(pthread_t *, const pthread_attr_t *, void *(*)(void *), void *))dlsym(RTLD_NEXT, "pthread_create");
+    return fails(&threads) ? EAGAIN : real(made, how, run, given);
 }
 C
-gcc -shared -fPIC -O1 -o "$work/fail.so" "$work/fail.c" -ldl 2>/dev/null
+gcc -shared -fPIC -O1 -o "$work/fail.so" "$work/fail.c" -ldl
 # The folders have the files a.aff, a.dic, and text or, for a dialogue, the lines of its input.
 mkdir "$work/sample" "$work/affixes" "$work/conversions" "$work/compounds" "$work/refused" "$work/edits" "$work/loads"
 cp "$top/crates/affedit/data/a.aff" "$top/crates/affedit/data/a.dic" "$work/sample"
@@ -88,6 +106,7 @@ BREAK 1
 BREAK /
 AFF
 printf "3\ndon't\nco-op\nbar\n" > "$work/conversions/a.dic"
+# shellcheck disable=SC1112
 printf 'don’t co-op coop/bar bar/foo' > "$work/conversions/text"
 
 cat > "$work/compounds/a.aff" <<'AFF'
@@ -176,58 +195,206 @@ settle
 show
 LINES
 
-# The launcher builds the program where it is missing. The sample with this text has one mark, which is status 1.
-"$top/affedit" check "$work/sample/a.aff" "$work/sample/a.dic" "$work/sample/text" > /dev/null || [ $? -eq 1 ]
+# A dialogue for workers, in which each look stands behind a `settle`: threads change no answer to it.
+mkdir "$work/settled"
+cp "$work/loads/"*.aff "$work/loads/"*.dic "$work/settled"
+cat > "$work/settled/lines" << 'LINES'
+ins 1 hello wrold
+ins 2 wurk
+settle
+show
+put 1 hello work
+load b.aff b.dic
+settle
+show
+load c.aff b.dic
+quit
+LINES
+
+# Lines for `pipe`, scripts of two sessions and of three, and the dictionaries that they load.
+mkdir "$work/piped" "$work/sessions"
+cp "$work/edits/a.aff" "$work/edits/a.dic" "$work/piped"
+printf 'hello wrold\n^reworked\n!\nhello\n%%\n*x\nhello\n\n' > "$work/piped/lines"
+PYTHONDONTWRITEBYTECODE=1 python3 - "$top/tests" "$work/sessions" << 'PYTHON'
+import sys
+sys.path.insert(0, sys.argv[1])
+import console_files
+console_files.write_all(sys.argv[2])
+PYTHON
+cat > "$work/sessions/two" << 'LINES'
+1 ins 1 hello wrold
+2 ins 1 wurk
+1 settle
+2 put 1 x
+1 show
+2 load b.aff b.dic
+1 sub 1 0 1 y
+2 settle
+2 show
+LINES
+cat > "$work/sessions/three" << 'LINES'
+1 ins 1 foobar
+2 ins 1 hello
+3 show
+1 put 1 foo
+2 del 1
+3 stop 1
+3 ask 1
+2 settle
+1 load bad.aff a.dic
+3 show
+2 quit
+LINES
+
+# The launcher builds the program where it is missing.
+"$top/affedit" make 1 1 > /dev/null || [ $? -eq 1 ]
 program=$top/out/affedit
 
-# What a run in a folder ended with, as one line: of `edit` where the folder has lines, and else of `check`.
-ending() {
-    local status=0 words=(check a.aff a.dic text) input=/dev/null
-    if [ -e "$1/lines" ]; then
-        words=(edit a.aff a.dic)
-        input=lines
-    fi
-    if [ -e "$1/words" ]; then
-        words+=(--own words)
-    fi
-    (cd "$1" && LD_PRELOAD=$work/fail.so "$program" "${words[@]}" < "$input" > "$work/out" 2> "$work/told") || status=$?
-    echo "status $status: $(tr '\n' '|' < "$work/out")"
-}
+cat > "$work/runs.py" << 'PYTHON'
+import collections
+import concurrent.futures
+import os
+import subprocess
+import sys
 
-# What a run may say of memory, a line for each: alone, or behind the first replies of what a dialogue wrote, which is in `out`.
-wanting() {
-    echo 'status 7: memory|'
-    if [ -e "$1/lines" ]; then
-        awk '{ said = said $0 "|" } /^text / { inside = 1 } /^\.$/ { inside = 0 } !inside { print "status 7: " said "memory|" }' "$work/out"
-    fi
-}
+sys.dont_write_bytecode = True
+top, work, program, step = sys.argv[1], sys.argv[2], sys.argv[3], int(sys.argv[4])
+sys.path.insert(0, os.path.join(top, 'tests'))
+import console_files
+import team_marks
+import team_trial
+from console_model import Wrong
+from team_history import Undecided
+from team_lines import sessions_of
+
+# No run takes longer. With threads, the run that has no failing request may come before one that has: so many without one are the end.
+LIMIT, AT_ONCE, ENOUGH = 60, 4, 8
+PAIR = (b'a.aff', b'a.dic')
+marks = team_marks.ProgramMarks(program, os.path.join(work, 'sessions'))
+
+
+def run(row, variable, number):
+    """What a run ended with, its output, and whether something failed in it."""
+    folder, words, given = row[1:4]
+    environment = {**os.environ, 'LD_PRELOAD': os.path.join(work, 'fail.so'), variable: str(number)}
+    with open(os.path.join(work, folder, given) if given else os.devnull, 'rb') as source:
+        try:
+            done = subprocess.run([program, *words.split()], cwd=os.path.join(work, folder), stdin=source, capture_output=True, env=environment,
+                                  timeout=LIMIT, check=False)
+        except subprocess.TimeoutExpired:
+            return 'hangs', b'', True
+    if done.stderr not in (b'', b'failed\n'):
+        return f'{done.returncode}, and says {done.stderr!r}', done.stdout, True
+    return done.returncode, done.stdout, bool(done.stderr)
+
+
+def fronts(whole, kind):
+    """The first replies of a dialogue, as many as one likes."""
+    said, inside = b'', False
+    yield said
+    for line in whole.splitlines(keepends=True):
+        said += line
+        if kind == 'edit':
+            inside = line.startswith(b'text ') or inside and line != b'.\n'
+        else:
+            inside = line != b'\n'
+        if not inside:
+            yield said
+
+
+def is_explained(script, workers, output):
+    """Whether a history explains an output of `team`; of one that cannot be decided nothing is said."""
+    with open(os.path.join(work, 'sessions', script), 'rb') as file:
+        sessions = sessions_of(file.read())
+    try:
+        team_trial.decide(sessions, PAIR, workers, output, marks, 100_000)
+    except Undecided:
+        return True
+    except Wrong as wrong:
+        print(wrong)
+        return False
+    return True
+
+
+def is_right(row, whole, status, output, kind):
+    """Whether a run ended as the one without a failing request, or said that memory is wanting."""
+    if kind != 'thread' and status == 7:
+        replies = fronts(whole[1], row[4]) if row[4] in ('edit', 'pipe') else [b'']
+        return output in {front + b'memory\n' for front in replies}
+    if row[4] == 'team':
+        return status == 0 and is_explained(row[3] or row[5], row[6], output)
+    return (status, output) == whole
+
+
+def tries(row, kind, step, pool):
+    """Tries each request in turn; gives how many failed, how the runs ended, and whether all of them ended well."""
+    variable = 'FAIL_THREAD' if kind == 'thread' else 'FAIL_ALLOCATION'
+    whole = run(row, variable, 0)[:2]
+    if row[4] == 'team' and not is_right(row, whole, *whole, 'thread'):
+        print(f'{row[0]}: the run without a failing request ended with {whole}')
+        return 0, collections.Counter(), False
+    ends, failed, well, quiet, first = collections.Counter(), 0, True, 0, 1
+    while quiet < ENOUGH:
+        numbers = range(first, first + 4 * AT_ONCE * step, step)
+        first = numbers[-1] + step
+        for number, (status, output, has_failed) in zip(numbers, pool.map(lambda number: run(row, variable, number), numbers)):
+            quiet = 0 if has_failed else quiet + 1
+            failed += has_failed
+            if not is_right(row, whole, status, output, kind):
+                print(f'{row[0]}: with {variable}={number} the status is {status}, the output:\n{output.decode(errors="replace")}')
+                well = False
+            if has_failed:
+                ends['memory alone' if (status, output) == (7, b'memory\n') else 'behind replies' if status == 7 else 'as else'] += 1
+    return failed, ends, well
+
+
+def rows():
+    for folder in ('sample', 'affixes', 'conversions', 'compounds', 'refused'):
+        yield f'check, {folder}', folder, 'check a.aff a.dic text', None, 'check'
+        yield f'check, {folder}, 2 workers', folder, 'check a.aff a.dic text --workers 2', None, 'check'
+    yield 'edit, edits', 'edits', 'edit a.aff a.dic', 'lines', 'edit'
+    yield 'edit, loads', 'loads', 'edit a.aff a.dic', 'lines', 'edit'
+    yield 'edit, personal words', 'personal', 'edit a.aff a.dic --own words', 'lines', 'edit'
+    for workers in (0, 2):
+        yield f'edit, looks behind settle, {workers} workers', 'settled', f'edit a.aff a.dic --workers {workers}', 'lines', 'edit'
+    for script in ('two', 'three'):
+        for workers in (0, 2):
+            yield f'team, {script} sessions, {workers} workers', 'sessions', f'team a.aff a.dic {script} --workers {workers}', None, 'team', script, workers
+    yield 'pipe', 'piped', 'pipe a.aff a.dic', 'lines', 'pipe'
+    yield 'forms', 'affixes', 'forms a.aff a.dic', None, 'forms'
+    yield 'make', 'sample', 'make 7 40', None, 'make'
+
+
+def main():
+    well = True
+    with concurrent.futures.ThreadPoolExecutor(AT_ONCE) as pool:
+        print('| run | requests that failed in turn | `memory` alone | behind replies | as else |')
+        print('|---|---|---|---|---|')
+        for row in rows():
+            failed, ends, is_well = tries(row, 'memory', step, pool)
+            print(f'| {row[0]} | {failed} | {ends["memory alone"]} | {ends["behind replies"]} | {ends["as else"]} |', flush=True)
+            well = well and is_well and failed > 0
+        print('\n| run | starts of a thread that failed in turn | as else |\n|---|---|---|')
+        for row in rows():
+            if 'workers' in row[0] or row[4] == 'team':
+                failed, ends, is_well = tries(row, 'thread', 1, pool)
+                print(f'| {row[0]} | {failed} | {ends["as else"]} |', flush=True)
+                well = well and is_well
+    sys.exit(0 if well else 1)
+
+
+main()
+PYTHON
 
 wrong=0
-for name in sample affixes conversions compounds refused edits loads personal; do
-    : > "$work/seen"
-    whole=$(FAIL_ALLOCATION=0 ending "$work/$name")
-    { echo "$whole"; wanting "$work/$name"; } > "$work/allowed"
-    for which in $(seq 1 100000); do
-        ended=$(FAIL_ALLOCATION=$which ending "$work/$name")
-        if ! grep -q failed "$work/told"; then
-            echo "$name: $((which - 1)) allocations failed in turn; without a failing one: $whole"
-            break
-        fi
-        echo "$ended" >> "$work/seen"
-    done
-    sort "$work/seen" | uniq -c
-    if grep -vxF -f "$work/allowed" "$work/seen" > /dev/null; then
-        echo "$name: a run ended in another way"
-        wrong=1
-    fi
-done
+python3 "$work/runs.py" "$top" "$work" "$program" "${1:-1}" || wrong=1
 
 # The test of a desk with little memory, which passes where an event that finds none is not seen, and each other one is.
 tests=$top/crates/desk_tests/out/desk_tests_tests
 [ -x "$tests" ] || { echo "run rt ci first: $tests is not built" >&2; exit 2; }
 for which in $(seq 1 100000); do
     status=0
-    FAIL_ALLOCATION=$which LD_PRELOAD=$work/fail.so "$tests" tests::memory::an_event_without_memory_is_not_seen > /dev/null 2> "$work/told" || status=$?
+    FAIL_ALLOCATION=$which LD_PRELOAD=$work/fail.so timeout 60 "$tests" tests::memory::an_event_without_memory_is_not_seen > /dev/null 2> "$work/told" || status=$?
     if ! grep -q failed "$work/told"; then
         echo "a desk: $((which - 1)) allocations failed in turn"
         break
