@@ -23,12 +23,17 @@ TOP = os.path.dirname(os.path.dirname(os.path.abspath(__file__)))
 PROGRAMS = [os.path.join(TOP, 'crates/affedit/out/affedit'), os.path.join(TOP, 'out/affedit')]
 # No file that is made is larger, but for those that are to pass a limit.
 MOST = 200_000
-LAST = {
-    1: rb'\d+ of \d+', 2: rb'affedit: words', 3: rb'(aff|dic|own) \d+ [A-Za-z0-9]+', 4: rb'(doc|script) \d+', 5: rb'missing|files|input', 7: rb'memory',
-    8: rb'limit \d+'}
-STATUSES = {
-    'check': {0, 1, 3, 4, 5, 8}, 'edit': {0, 3, 5, 8}, 'pipe': {0, 3, 5, 8}, 'forms': {0, 3, 5, 8}, 'team': {0, 3, 4, 5, 8},
-    'make': {0, 1, 2}, 'other': {2}}
+# The last line of each status that a command may end with, but for 6 and 7, which nothing here brings about.
+FAULTS = rb'(aff|dic) \d+ [A-Za-z0-9]+'
+ENDS = {
+    'check': {0: rb'0 of \d+', 1: rb'\d+ of \d+', 3: rb'(aff|dic|own) \d+ [A-Za-z0-9]+', 4: rb'doc \d+', 5: rb'missing|files',
+              8: rb'limit (16777216|67108864|20000|65536)'},
+    'edit': {0: rb'.*', 3: rb'(aff|dic|own) \d+ [A-Za-z0-9]+', 5: rb'missing|files|input', 8: rb'limit (16777216|131072|4294967295)'},
+    'pipe': {0: rb'.*', 3: FAULTS, 5: rb'missing|files|input', 8: rb'limit (16777216|131072|4294967295)'},
+    'forms': {0: rb'\d+ forms', 3: FAULTS, 5: rb'missing|files', 8: rb'limit (16777216|1000000)'},
+    'team': {0: rb'total text \d+ dict \d+', 3: FAULTS, 4: rb'script \d+', 5: rb'missing|files', 8: rb'limit (16777216|131072|4)'},
+    'make': {0: rb'marks 0', 1: rb'marks \d+', 2: rb'affedit: words'},
+    'other': {2: rb'affedit: words'}}
 AFF_LINES = [
     b'SET UTF-8', b'SET ISO8859-1', b'FLAG long', b'FLAG num', b'FLAG UTF-8', b'AF 2', b'AF AB', b'TRY esian', b'KEY qwert|asdf', b'WORDCHARS -.0123456789',
     b'IGNORE \xd9\x8b\xc3\xa4', b'ICONV 2', b'ICONV y i', b'ICONV ss \xc3\x9f', b'OCONV 1', b'OCONV a b', b'BREAK 2', b'BREAK -', b'BREAK ^x', b'BREAK 0', b'REP 2',
@@ -181,24 +186,14 @@ class Runs:
     def fault(self, command, done, files):
         """What is wrong with the end of a run, if anything is."""
         status, written = done.returncode, done.stdout
-        if status not in STATUSES[command]:
+        if status not in ENDS[command]:
             return f'status {status}'
         if done.stderr:
             return f'on standard error: {done.stderr[:200]!r}'
         last = written.removesuffix(b'\n').rsplit(b'\n', 1)[-1]
         if written and not written.endswith(b'\n'):
             return 'no end of the last line'
-        if command == 'make' and status != 2:
-            wanted = rb'marks \d+'
-        elif command == 'check' and status == 0:
-            wanted = rb'0 of \d+'
-        elif command == 'forms' and status == 0:
-            wanted = rb'\d+ forms'
-        elif command == 'team' and status == 0:
-            wanted = rb'total text \d+ dict \d+'
-        else:
-            wanted = LAST.get(status, rb'.*')
-        if not re.fullmatch(wanted, last, re.DOTALL):
+        if not re.fullmatch(ENDS[command][status], last, re.DOTALL):
             return f'status {status} behind {last[:200]!r}'
         if (status in (2, 3, 4) or command == 'team' and status > 0) and written.count(b'\n') != 1:
             return f'status {status} with more than one line'
@@ -230,7 +225,7 @@ def main():
     for number in range(asked.first, asked.first + asked.runs):
         runs.run(number)
     print(f'seed {asked.seed}, {asked.runs} runs, the longest {runs.longest:.2f} s, {runs.wrong} wrong')
-    for command in STATUSES:
+    for command in ENDS:
         print(f'{command}: ' + ', '.join(f'{count} with {status}' for (name, status), count in sorted(runs.ends.items()) if name == command))
     sys.exit(1 if runs.wrong else 0)
 
