@@ -3,7 +3,8 @@
 # says, over a text of 2,000 paragraphs, or as many as the second word says. The sessions put the paragraphs in, each its share, of 100
 # bytes. Then 45 of 100 lines put another text in place of one, 45 replace its first byte, and the others put one in or take one out, at
 # random places; one line of 1,000 is a `settle`, and one of 2,000 a `show`. With the word `large` in place of both there is one script, of
-# 16 sessions and 1,000,000 lines, with 4 workers. Prints a row for each run: how many lines there are, how many of them were refused since
+# 16 sessions and 1,000,000 lines, with 4 workers or as many as the second word says; and then as many such lines are the input of `edit`
+# with these workers, where nothing is refused. Prints a row for each run: how many lines there are, how many of them were refused since
 # others had changed or taken out the paragraph, the seconds that passed, the lines in a second, the processor seconds, and the most memory.
 # Ends with status 1 where a run has another number of replies than of lines, or another total than its last edit. `TEAM_PROGRAM` names
 # another program.
@@ -37,6 +38,7 @@ script() {
 }
 
 # What is wrong of an output, by how many replies are due. A look is a reply of many lines, of which none begins as another reply.
+# shellcheck disable=SC2016
 faults='
 /^(ok|no|text) / { replies++ }
 /^ok / && $2 > last { last = $2 }
@@ -48,15 +50,23 @@ END {
     exit replies != due || $0 != "total text " last " dict 0"
 }'
 
-# measure SESSIONS LINES PARAGRAPHS WORKERS
+# measure SESSIONS LINES PARAGRAPHS WORKERS: of `team`, or of `edit` where SESSIONS is that word.
 measure() {
-    local refused seconds spent memory
-    script "$1" "$2" "$3" > "$work/script"
-    /usr/bin/time -q -o "$work/cost" -f '%e %U %S %M' \
-        "$program" team "$work/a.aff" "$work/a.dic" "$work/script" --workers "$4" > "$work/out"
-    refused=$(awk -v due="$(($1 * $2))" "$faults" "$work/out")
+    local count=$1 words=(team "$work/a.aff" "$work/a.dic" "$work/script" --workers "$4") refused seconds spent memory
+    if [ "$1" = edit ]; then
+        count=1
+        words=(edit "$work/a.aff" "$work/a.dic" --workers "$4")
+    fi
+    script "$count" "$2" "$3" > "$work/script"
+    cut -d ' ' -f 2- "$work/script" > "$work/lines"
+    /usr/bin/time -q -o "$work/cost" -f '%e %U %S %M' "$program" "${words[@]}" < "$work/lines" > "$work/out"
+    if [ "$1" = edit ]; then
+        awk '/^ok / && $2 > last { last = $2 } END { print "total text " last " dict 0" }' "$work/out" > "$work/total"
+        cat "$work/total" >> "$work/out"
+    fi
+    refused=$(awk -v due="$((count * $2))" "$faults" "$work/out")
     read -r seconds spent memory < <(awk '{ print $1, $2 + $3, $4 }' "$work/cost")
-    awk -v lines="$(($1 * $2))" -v refused="$refused" -v seconds="$seconds" -v spent="$spent" -v memory="$memory" -v row="| $1 | $4" '
+    awk -v lines="$((count * $2))" -v refused="$refused" -v seconds="$seconds" -v spent="$spent" -v memory="$memory" -v row="| $1 | $4" '
     BEGIN {
         speed = seconds > 0 ? sprintf("%.0f", lines / seconds) : "not told"
         printf "%s | %d | %d | %.2f s | %s | %.2f s | %.1f MB |\n", row, lines, refused, seconds, speed, spent, memory / 1024
@@ -71,7 +81,8 @@ program=${TEAM_PROGRAM:-$top/out/affedit}
 echo '| sessions | workers | lines | refused | time | lines in a second | processor time | memory |'
 echo '|---|---|---|---|---|---|---|---|'
 if [ "${1:-}" = large ]; then
-    measure 16 62500 2000 4
+    measure 16 62500 2000 "${2:-4}"
+    measure edit 1000000 2000 "${2:-4}"
     exit
 fi
 for sessions in 1 4 16; do
