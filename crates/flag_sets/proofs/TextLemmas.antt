@@ -271,3 +271,11 @@ pub put-ordinary : (flag : Flag) (set : List Flag) → IsOrdinary flag → AreOr
 put-ordinary flag set one all =
     All-from_recursion IsOrdinary (put flag set)
     (put-each flag set one (recursion_from_All IsOrdinary set all))
+
+-- the rest lists the same where its first flag is put in
+pub put-next : (set : List Flag) (flag : Flag) (more rest total : Option (List Flag))
+    → rest ≡ with_first flag more → option_map (put_all set) rest ≡ total
+    → option_map (put_all (put flag set)) more ≡ total
+put-next set flag None rest total is whole = ap (option_map (put_all set)) (sym is) ∙ whole
+put-next set flag (Some flags) rest total is whole =
+    ap (option_map (put_all set)) (sym is) ∙ whole

@@ -116,16 +116,19 @@ fn read_listed(alloc: Global, kind: FlagKind, text: &str) -> Result<FlagSet, Fla
         (λ fault. fault ≢ FlagFault.NoMemory → flag_field kind None text.now ≡ Err fault) }
     ensures ordinary { IfOk result AreOrdinary }
 {
-    let mut set = FlagSet::new(alloc);
+    sets_have_their_flags();
+    let mut flags = Vec::new(alloc);
     let mut rest = text;
     while !rest.is_empty() {
         let Some((flag, more)) = first_flag(kind, rest) else {
             return Err(FlagFault::BadFlag);
         };
-        set.insert(flag)?;
+        let Ok(()) = flags.push(flag) else {
+            return Err(FlagFault::NoMemory);
+        };
         rest = more;
     }
-    Ok(set)
+    Ok(FlagSet::from_list(alloc, flags)?)
 }
 
 /// A copy of the alias whose ordinal the text is.

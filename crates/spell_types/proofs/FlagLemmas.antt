@@ -3,11 +3,20 @@ use Rattle.std.proofs.Common.{◌≡◌, ◌∙◌, refl, sym, ap, subst, ℕ, z
 use Rattle.std.proofs.Common.{Bool, true, false, List, [], ◌∷◌, length, get_or, slice_get, Some}
 use Rattle.std.proofs.Common.{Result, Ok, Err, is_ok, IfOk, IfErr, All, Contains, Any, insert}
 use Rattle.std.proofs.Common.{unwrap_or, eq-eqb, Less, Greater, arith, tests, ◌⊎◌, inl, inr, ⊎_elim}
-use Rattle.std.specs.List.Sorted.{IsPartitionPoint, IsBinarySearchResult}
-use Rattle.std.specs.Ordering.{nat_cmp, ordering_index}
+use Rattle.std.proofs.Common.{true≢false, Ordering, ◌++◌}
+use Rattle.std.specs.List.{dedup}
+use Rattle.std.specs.Cmp.{IsTotalOrder, IsEquivalence}
+use Rattle.std.specs.List.Sorted.{IsPartitionPoint, IsBinarySearchResult, IsPermutation, IsSorted}
+use Rattle.std.specs.List.Sorted.{IsStrictlySortedBy}
+use Rattle.std.specs.Ordering.{nat_cmp, ordering_index, is_eq, eq_by_cmp}
 use Rattle.std.proofs.lemmas.Bool.{cases_lt}
 use Rattle.std.proofs.lemmas.Bool.Decides.{nat_tests, Decides-eqb}
+use Rattle.std.proofs.lemmas.Cmp.{nat_cmp_total, on_total, eq_by_cmp_equiv}
 use Rattle.std.proofs.lemmas.List.Elements.{All-nil, All-cons, All-head, All-tail, All-weaker}
+use Rattle.std.proofs.lemmas.List.Elements.{All-from_recursion}
+use Rattle.std.proofs.lemmas.List.Kept.{IsStrictlySortedBy-dedup, Contains-dedup}
+use Rattle.std.proofs.lemmas.List.Kept.{Contains-from_dedup}
+use Rattle.std.proofs.lemmas.List.Sorted.{Contains-permutation, IsPermutation-sym}
 use Rattle.std.proofs.lemmas.List.Folds.{list_any_at, list_any_none, Any-from_list_any}
 use Rattle.std.proofs.lemmas.List.{get_or_default}
 use Rattle.std.proofs.lemmas.Option.{slice_get_within, get_or_from_slice_get}
@@ -209,6 +218,11 @@ put_all-has set (flag ∷ more) asked =
     ∙ sym (or-assoc (has more (Some asked)) (flag.0 == asked.0) (has set (Some asked)))
     ∙ ap (λ b. b || has set (Some asked)) (or-none (has more (Some asked)) (flag.0 == asked.0))
 
+pub put_all-last : (set flags : List Flag) (flag : Flag)
+    → put_all set (flags ++ flag ∷ []) ≡ put flag (put_all set flags)
+put_all-last set [] flag = refl
+put_all-last set (first ∷ more) flag = put_all-last (put first set) more flag
+
 -- `has` tells what stands in a list
 pub has-Contains : (xs : List Flag) (flag : Flag) → has xs (Some flag) ≡ true → Contains xs flag
 has-Contains xs flag is = found (Any-from_list_any (λ held. held.0 == flag.0) xs is)
@@ -236,3 +250,135 @@ Contains-put_all flags flag holds =
     has-Contains (put_all [] flags) flag
     (put_all-has [] flags flag ∙ or-none (has flags (Some flag)) false
     ∙ Contains-has flags flag holds)
+
+-- ---- two rising lists with the same flags are one
+above-missing : (flag : Flag) (xs : List Flag) → All (Below flag) xs → has xs (Some flag) ≡ false
+above-missing flag xs above =
+    list_any_none (λ held. held.0 == flag.0) xs (λ k d within. apart _ _ (above k d within))
+  where
+    apart : (a b : ℕ) → a < b → (b == a) ≡ false
+    apart a b low = grind (arith, nat_tests)
+
+first-held : (flag : Flag) (xs : List Flag) → has (flag ∷ xs) (Some flag) ≡ true
+first-held flag xs = grind (arith, nat_tests)
+
+below-all : (flag first : Flag) (more : List Flag) → flag.0 < first.0 → IsRising (first ∷ more)
+    → All (Below flag) (first ∷ more)
+below-all flag first more low rising =
+    All-cons (Below flag) first more low
+    (All-weaker (Below first) (Below flag) (λ x above. omega arith) more
+    (rising-head first more rising))
+
+pub rising-same : (xs ys : List Flag) → IsRising xs → IsRising ys
+    → ((flag : Flag) → has xs (Some flag) ≡ has ys (Some flag)) → xs ≡ ys
+rising-same [] [] up up' same = refl
+rising-same [] (y ∷ ys) up up' same = absurd (true≢false (sym (same y ∙ first-held y ys)))
+rising-same (x ∷ xs) [] up up' same = absurd (true≢false (sym (first-held x xs) ∙ same x))
+rising-same (x ∷ xs) (y ∷ ys) up up' same =
+    let heads : x ≡ y =
+    three x.0 y.0
+    (λ low. absurd (true≢false (sym (first-held x xs) ∙ same x
+    ∙ above-missing x (y ∷ ys) (below-all x y ys low up'))))
+    (λ equal. ap (λ n. record { 0 = n }) equal)
+    (λ high. absurd (true≢false (sym (first-held y ys) ∙ sym (same y)
+    ∙ above-missing y (x ∷ xs) (below-all y x xs high up)))) in
+    ap (λ first. first ∷ xs) heads
+    ∙ ap (λ more. y ∷ more) (rising-same xs ys (rising-tail x xs up) (rising-tail y ys up')
+    (λ flag. rest flag heads))
+  where
+    rest : (flag : Flag) → x ≡ y → has xs (Some flag) ≡ has ys (Some flag)
+    rest flag heads =
+        three flag.0 x.0
+        (λ low. behind flag (other _ _ (inr low))
+        (other _ _ (inr (subst (λ h. flag.0 < h.0) heads low))))
+        (λ equal. both flag equal)
+        (λ high. behind flag (other _ _ (inl high))
+        (other _ _ (inl (subst (λ h. h.0 < flag.0) heads high))))
+      where
+        other : (a b : ℕ) → (a < b) ⊎ (b < a) → (a == b) ≡ false
+        other a b (inl low) = grind (arith, nat_tests)
+        other a b (inr high) = grind (arith, nat_tests)
+
+        behind : (flag : Flag) → (x.0 == flag.0) ≡ false → (y.0 == flag.0) ≡ false
+            → has xs (Some flag) ≡ has ys (Some flag)
+        behind flag one two =
+            ap (λ b. b || has xs (Some flag)) (sym one) ∙ same flag
+            ∙ ap (λ b. b || has ys (Some flag)) two
+
+        both : (flag : Flag) → flag.0 ≡ x.0 → has xs (Some flag) ≡ has ys (Some flag)
+        both flag equal =
+            above-missing flag xs (subst (λ n. All (λ later. n < later.0) xs) (sym equal)
+            (rising-head x xs up))
+            ∙ sym (above-missing flag ys (subst (λ n. All (λ later. n < later.0) ys)
+            (sym (equal ∙ ap (λ h. h.0) heads)) (rising-head y ys up')))
+
+-- a list that is sorted and has no repeats is the set of its flags
+pub listed : (flags set : List Flag) → IsRising set
+    → ((flag : Flag) → Contains set flag → Contains flags flag)
+    → ((flag : Flag) → Contains flags flag → Contains set flag)
+    → set ≡ put_all [] flags
+listed flags set rising from to =
+    rising-same set (put_all [] flags) rising (put_all-IsRising [] flags rising-nil)
+    (λ flag. alike flag (has set (Some flag)) (has (put_all [] flags) (Some flag)) refl refl)
+  where
+    alike : (flag : Flag) (p q : Bool) → has set (Some flag) ≡ p
+        → has (put_all [] flags) (Some flag) ≡ q → p ≡ q
+    alike flag true true held put = refl
+    alike flag false false held put = refl
+    alike flag true false held put =
+        sym (Contains-has (put_all [] flags) flag (Contains-put_all flags flag
+        (from flag (has-Contains set flag held)))) ∙ put
+    alike flag false true held put =
+        sym held ∙ Contains-has set flag (to flag
+        (put_all-Contains flags flag (has-Contains (put_all [] flags) flag put)))
+
+-- ---- a sort, and repeats removed
+abbrev pub flag_cmp : Flag → Flag → Ordering
+flag_cmp x y = nat_cmp x.0 y.0
+
+flags-total : IsTotalOrder flag_cmp
+flags-total = on_total (λ (flag : Flag). flag.0) nat_cmp_total
+
+strict-rising : (xs : List Flag) → IsStrictlySortedBy flag_cmp xs → IsRising xs
+unfolding IsStrictlySortedBy
+strict-rising [] sorted = rising-nil
+strict-rising (x ∷ xs) sorted =
+    rising-cons x xs
+    (All-weaker (λ y. flag_cmp x y ≡ Less) (Below x) (λ y less. below _ _ less) xs
+    (All-from_recursion (λ y. flag_cmp x y ≡ Less) xs sorted.0))
+    (strict-rising xs sorted.1)
+  where
+    below : (a b : ℕ) → nat_cmp a b ≡ Less → a < b
+    below a b less = grind (arith, nat_tests)
+
+pub sorted_set : (E : Flag → Flag → Bool) → ((x y : Flag) → E x y ≡ (x.0 == y.0))
+    → (flags moved kept : List Flag) → IsPermutation flags moved
+    → IsSorted flag_cmp moved → kept ≡ dedup E moved → kept ≡ put_all [] flags
+sorted_set E equal flags moved kept permutation sorted is =
+    listed flags kept
+    (subst IsRising (sym is)
+    (strict-rising (dedup E moved) (IsStrictlySortedBy-dedup flags-total ties moved sorted)))
+    (λ flag inside. Contains-permutation moved flags flag (IsPermutation-sym flags moved permutation)
+    (Contains-from_dedup E moved flag (subst (λ xs. Contains xs flag) is inside)))
+    (λ flag inside. subst (λ xs. Contains xs flag) (sym is)
+    (Contains-dedup equivalence exact moved flag
+    (Contains-permutation flags moved flag permutation inside)))
+  where
+    same-number : (x y : ℕ) → x == y ≡ is_eq (nat_cmp x y)
+    same-number x y = grind (arith, nat_tests)
+
+    ties : (x y : Flag) → E x y ≡ eq_by_cmp flag_cmp x y
+    ties x y = equal x y ∙ same-number x.0 y.0
+
+    exact : (x y : Flag) → E x y ≡ true → x ≡ y
+    exact x y same = ap (λ n. record { 0 = n }) ((Decides-eqb x.0 y.0).0 (sym (equal x y) ∙ same))
+
+    alike : IsEquivalence (eq_by_cmp flag_cmp)
+    alike = eq_by_cmp_equiv flags-total
+
+    equivalence : IsEquivalence E
+    equivalence = record {
+      refl = λ x. ties x x ∙ alike.refl x;
+      symm = λ x y. ties x y ∙ alike.symm x y ∙ sym (ties y x);
+      congr = λ x y z same. ties x z ∙ alike.congr x y z (sym (ties x y) ∙ same) ∙ sym (ties y z);
+    }

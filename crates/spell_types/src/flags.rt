@@ -1,6 +1,6 @@
 //! Flags, and sets of them.
 
-ghost use Rattle.std.specs.Prelude.{◌≡◌, ◌<◌, ◌≤◌, ◌↔◌, ◌==◌, ◌||◌, List, [], ◌∷◌, length};
+ghost use Rattle.std.specs.Prelude.{◌≡◌, ◌<◌, ◌≤◌, ◌↔◌, ◌==◌, ◌||◌, List, [], ◌∷◌, ◌++◌, length};
 ghost use Rattle.std.specs.Prelude.{slice_get, Some, IsTrue, OnOk, OnErr, IfOk, IfErr, Contains};
 ghost use Rattle.std.specs.Prelude.{insert};
 ghost use Rattle.std.specs.List.Sorted.{IsPartitionPoint};
@@ -62,6 +62,15 @@ impl FlagSet {
         FlagSet { alloc, kept: None }
     }
 
+    /// The set of flags in any order. It sorts them, so a long list costs no more where it falls.
+    pub fn from_list(alloc: Global, mut flags: Vec<Flag>) -> Result<FlagSet, NoMemory>
+        ensures { IfOk result (λ set. set ≡ put_all [] flags.items) }
+    {
+        put_in_order(&mut flags);
+        let kept = kept_of(alloc, flags)?;
+        Ok(FlagSet { alloc, kept })
+    }
+
     /// The flags, from the one with the lowest number on.
     pub fn as_slice(&self) -> &[Flag]
         ensures flags { result.now ≡ self.now }
@@ -99,6 +108,24 @@ fn slice_of(kept: &Kept) -> &[Flag]
         None => &[],
         Some(flags) => flags.as_slice(),
     }
+}
+
+/// Sorts flags, and leaves each once.
+fn put_in_order(flags: &mut Vec<Flag>)
+    ensures { flags.new.items ≡ put_all [] flags.old.items }
+{
+    flags.sort_unstable();
+    flags.dedup();
+}
+
+/// What keeps a list of flags.
+fn kept_of(alloc: Global, flags: Vec<Flag>) -> Result<Kept, NoMemory>
+    ensures { IfOk result (λ kept. kept_flags kept ≡ flags.items) }
+{
+    if flags.is_empty() {
+        return Ok(None);
+    }
+    Ok(Some(Arc::new(alloc, flags)?))
 }
 
 /// The same flags, in memory that both have.
@@ -140,7 +167,7 @@ pub fn has(set: &FlagSet, flag: Option<Flag>) -> bool
 }
 
 /// The set of some flags rises, and has exactly those flags. `has` tells which flags a set has,
-/// also once flags are put in.
+/// also once flags are put in. A flag behind others is put in last.
 pub fn sets_have_their_flags()
     ensures rising { (flags : List Flag) → IsRising (put_all [] flags) }
     ensures members { (flags : List Flag) (flag : Flag) →
@@ -151,6 +178,8 @@ pub fn sets_have_their_flags()
         has (put flag set) (Some asked) ≡ (flag.0 == asked.0 || has set (Some asked)) }
     ensures put_all { (set flags : List Flag) (asked : Flag) →
         has (put_all set flags) (Some asked) ≡ (has flags (Some asked) || has set (Some asked)) }
+    ensures put_last { (set flags : List Flag) (flag : Flag) →
+        put_all set (flags ++ flag ∷ []) ≡ put flag (put_all set flags) }
 {}
 
 /// The place of a flag in a rising list, or the place where it is missing.
