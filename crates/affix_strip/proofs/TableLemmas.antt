@@ -1,10 +1,12 @@
 -- The tables of a dictionary: one rule more; and which places they give.
 use Rattle.std.proofs.Common.{◌≡◌, ◌∙◌, ◌⊎◌, inl, inr, refl, sym, ap, subst, ℕ, zero, suc, ◌+◌, ◌<◌}
 use Rattle.std.proofs.Common.{Bool, true, false, cond, ◌||◌, List, [], ◌∷◌, ◌++◌}
-use Rattle.std.proofs.Common.{length, take, get_or, nat_eq, slice_get, None, Some, if◌then◌else◌}
-use Rattle.std.proofs.Common.{eq-eqb, map, Result, Ok, Err, IfOk, Vec, Global}
+use Rattle.std.proofs.Common.{length, take, get_or, slice_get, None, Some, if◌then◌else◌}
+use Rattle.std.proofs.Common.{map, Result, Ok, Err, IfOk, Vec, Global, ◌↔◌, Contains, IsTrue}
+use Rattle.std.specs.Option.{option_map}
 use Rattle.std.proofs.lemmas.List.{take_more}
-use Rattle.std.proofs.lemmas.Option.{option_and_then_some, cond_some}
+use Rattle.std.proofs.lemmas.Option.{option_and_then_some, cond_some, slice_get_within}
+use Rattle.std.proofs.lemmas.Option.{get_or_from_slice_get}
 use Rattle.std.proofs.lemmas.Bool.{or_left, or_right}
 use Rattle.spell_types.specs.declared.flags.Flag.{Flag}
 use Rattle.spell_types.specs.declared.rules.Rule.{Rule}
@@ -28,11 +30,7 @@ get-more (z ∷ xs) x (suc i) y at = later (get-more xs x i y at)
     later (inl there) = inl there
     later (inr (last, same)) = inr (ap suc last, same)
 
--- what a set has once a flag, or some flags, are put in
-abbrev pub TellsPut : Type 0
-TellsPut = (set : List Flag) (flag asked : Flag)
-    → has (put flag set) (Some asked) ≡ (nat_eq flag.0 asked.0 || has set (Some asked))
-
+-- what a set has once some flags are put in
 abbrev pub TellsPutAll : Type 0
 TellsPutAll = (set flags : List Flag) (asked : Flag) → has (put_all set flags) (Some asked)
     ≡ (has flags (Some asked) || has set (Some asked))
@@ -83,41 +81,54 @@ are-seconds rules set carried (Ok seconds) are = record { set = set; carried = c
 are-seconds rules set carried (Err why) are = tt
 
 -- ---- the flags of classes
-or-true : (b : Bool) → (b || true) ≡ true
-or-true true = refl
-or-true false = refl
-
-pub classes-more : TellsPut → (rules : List Rule) (rule : Rule) (before now : List Flag)
-    → HasClasses rules before → now ≡ put rule.flag before → HasClasses (rules ++ rule ∷ []) now
-classes-more tells rules rule before now holds is =
-    record { flags = λ place other at. by (get-more rules rule place other at) }
+pub classes-listed : ((flags : List Flag) (flag : Flag) → Contains (put_all [] flags) flag
+    ↔ Contains flags flag)
+    → ((set : List Flag) (flag : Flag) → IsTrue (has set (Some flag)) ↔ Contains set flag)
+    → (rules : List Rule) (set : List Flag)
+    → set ≡ put_all [] (map (λ (rule : Rule). rule.flag) rules) → HasClasses rules set
+classes-listed members told rules set is =
+    record {
+      flags = λ place rule at.
+          subst (λ flags. has flags (Some rule.flag) ≡ true) (sym is)
+          ((told (put_all [] (listed rules)) rule.flag).1
+          ((members (listed rules) rule.flag).1 (inside rules place rule at)));
+    }
   where
-    has-now : (asked : Flag)
-        → has now (Some asked) ≡ (nat_eq rule.flag.0 asked.0 || has before (Some asked))
-    has-now asked = ap (λ set. has set (Some asked)) is ∙ tells before rule.flag asked
+    listed : List Rule → List Flag
+    listed = map (λ (rule : Rule). rule.flag)
 
-    by : {place : ℕ} {other : Rule} → (slice_get rules place ≡ Some other)
-        ⊎ ((place ≡ length rules) × (rule ≡ other)) → has now (Some other.flag) ≡ true
-    by {place} {other} (inl at) =
-        has-now other.flag
-        ∙ ap (λ b. nat_eq rule.flag.0 other.flag.0 || b) (holds.flags place other at)
-        ∙ or-true (nat_eq rule.flag.0 other.flag.0)
-    by {place} {other} (inr (at, same)) =
-        has-now other.flag
-        ∙ ap (λ b. b || has before (Some other.flag))
-        (eq-eqb rule.flag.0 other.flag.0 (ap (λ (r : Rule). r.flag.0) same))
+    inside : (rules : List Rule) (place : ℕ) (rule : Rule) → slice_get rules place ≡ Some rule
+        → Contains (listed rules) rule.flag
+    inside rules place rule at = (
+      place,
+      slice_get_within (listed rules) place rule.flag (mapped rules place at),
+      get_or_from_slice_get (listed rules) place rule.flag rule.flag (mapped rules place at),
+    )
+      where
+        mapped : (rules : List Rule) (place : ℕ) → slice_get rules place ≡ Some rule
+            → slice_get (listed rules) place ≡ Some rule.flag
+        mapped [] place at = absurd (cc)
+        mapped (first ∷ more) zero at = ap (option_map (λ (r : Rule). r.flag)) at
+        mapped (first ∷ more) (suc place) at = mapped more place at
 
-put_all-more : (set flags : List Flag) (flag : Flag)
-    → put_all set (flags ++ flag ∷ []) ≡ put flag (put_all set flags)
-put_all-more set [] flag = refl
-put_all-more set (first ∷ flags) flag = put_all-more (put first set) flags flag
+pub if-listed : (rules : List Rule) (flags : List Flag) {E : Type 0} (made : Result (List Flag) E)
+    → flags ≡ map (λ (rule : Rule). rule.flag) rules
+    → IfOk made (λ set. set ≡ put_all [] flags)
+    → ((rules : List Rule) (set : List Flag)
+    → set ≡ put_all [] (map (λ (rule : Rule). rule.flag) rules) → HasClasses rules set)
+    → IfOk made (λ set. HasClasses rules set)
+if-listed rules flags (Ok set) are is classes = classes rules set (is ∙ ap (put_all []) are)
+if-listed rules flags (Err why) are is classes = tt
 
-pub put_all-next : (set before now flags items : List Flag) (i : ℕ) (d : Flag) → items ≡ flags
+-- ---- the flags of a set, put in one by one
+pub put_all-next : ((set flags : List Flag) (flag : Flag)
+    → put_all set (flags ++ flag ∷ []) ≡ put flag (put_all set flags))
+    → (set before now flags items : List Flag) (i : ℕ) (d : Flag) → items ≡ flags
     → i < length items → before ≡ put_all set (take i flags) → now ≡ put (get_or items i d) before
     → now ≡ put_all set (take (i + 1) flags)
-put_all-next set before now flags items i d same within was is =
+put_all-next put_last set before now flags items i d same within was is =
     is ∙ ap (put (get_or items i d)) (was ∙ ap (λ fs. put_all set (take i fs)) (sym same))
-    ∙ sym (put_all-more set (take i items) (get_or items i d))
+    ∙ sym (put_last set (take i items) (get_or items i d))
     ∙ ap (put_all set) (sym (take_more items i d within))
     ∙ ap (λ fs. put_all set (take (i + 1) fs)) same
 

@@ -1,7 +1,7 @@
 -- Going over entries by their places, and over the characters of their words.
-use Rattle.std.proofs.Common.{◌≡◌, ◌∙◌, refl, sym, ap, ℕ, ◌+◌, ◌<◌, Bool}
-use Rattle.std.proofs.Common.{true, false, ◌&&◌, ◌||◌, ◌∷◌, [], ◌++◌, List, length, take, drop}
-use Rattle.std.proofs.Common.{get_or, nat_eq, slice_get, Some, eq-eqb, ne_eqb, arith}
+use Rattle.std.proofs.Common.{◌≡◌, ◌∙◌, sym, ap, ℕ, ◌+◌, ◌<◌, Bool}
+use Rattle.std.proofs.Common.{false, ◌&&◌, ◌||◌, ◌∷◌, [], ◌++◌, List, length, take, drop}
+use Rattle.std.proofs.Common.{get_or, slice_get, Some, eq-eqb, ne_eqb}
 use Rattle.std.specs.List.{list_any}
 use Rattle.std.specs.Str.{chars}
 use Rattle.std.proofs.lemmas.List.{take_more, drop_more}

@@ -7,7 +7,7 @@ ghost use Rattle.affix_strip.specs.Classes.{HasClasses};
 ghost use Rattle.affix_strip.specs.Tables.{HasCarried, AreSeconds};
 
 use lists::NoMemory;
-use spell_types::{FlagSet, Rule, Side, has, sets_have_their_flags};
+use spell_types::{Flag, FlagSet, Rule, Side, has, sets_have_their_flags};
 use std::alloc::Global;
 
 /// The flags of all affix classes.
@@ -15,11 +15,15 @@ pub(crate) fn flags_of_classes(alloc: Global, rules: &[Rule]) -> Result<FlagSet,
     ensures { IfOk result (λ set. HasClasses rules.now set) }
 {
     sets_have_their_flags();
-    let mut set = FlagSet::new(alloc);
-    for rule in rules {
-        set.insert(rule.flag)?;
-    }
-    Ok(set)
+    FlagSet::from_list(alloc, listed_flags(alloc, rules)?)
+}
+
+/// The flag of each rule.
+fn listed_flags(alloc: Global, rules: &[Rule]) -> Result<Vec<Flag>, NoMemory>
+    ensures { IfOk result (λ flags. flags.items ≡ map (λ rule. rule.flag) rules.now) }
+{
+    let flags = rules.iter().map(|rule| rule.flag).collect(alloc)?;
+    Ok(flags)
 }
 
 /// At the place of each rule whether it may be a second suffix: whether suffix rules carry its
@@ -71,6 +75,7 @@ fn add_carried(rule: &Rule, set: &mut FlagSet) -> Result<(), NoMemory>
 fn put_all(flags: &FlagSet, set: &mut FlagSet) -> Result<(), NoMemory>
     ensures { OnOk result (set.new ≡ put_all set.old flags.now) }
 {
+    sets_have_their_flags();
     for flag in flags.as_slice() {
         set.insert(*flag)?;
     }

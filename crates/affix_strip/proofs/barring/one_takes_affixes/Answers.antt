@@ -1,5 +1,5 @@
 -- The entry passes, or one more does not.
-use Rattle.std.proofs.Common.{◌≡◌, ◌∙◌, ◌&&◌, Bool, sym, ap}
+use Rattle.std.proofs.Common.{◌∙◌, ◌&&◌, sym, ap}
 use Rattle.lists.specs.Laws.{any-at}
 use Rattle.spell_types.specs.Flags.{has}
 use Rattle.affix_strip.specs.Classes.{has_flag_of}
