@@ -1,9 +1,11 @@
 -- The lines of a file, of which those before the first that is not UTF-8 are read.
 use Rattle.std.proofs.Common.{◌≡◌, ◌∙◌, inl, inr, ℕ, ◌+◌, ◌==◌, cond, Bool, true, false}
 use Rattle.std.proofs.Common.{not, ◌||◌, List, [], ◌∷◌, length, map, Option, Some, None, Ok}
-use Rattle.std.proofs.Common.{Err, refl, sym, ap, drop, if◌then◌else◌}
-use Rattle.std.specs.List.{find, take_while, position_from, range_with_len}
+use Rattle.std.proofs.Common.{Err, refl, sym, ap, drop, if◌then◌else◌, ◌≤◌, Result, arith}
+use Rattle.std.proofs.Common.{filter_map}
+use Rattle.std.specs.List.{cons_option, find, take_while, position_from, range_with_len}
 use Rattle.std.specs.List.{slice_split}
+use Rattle.std.proofs.lemmas.List.{length-map}
 use Rattle.std.specs.Option.{option_map, option_or}
 use Rattle.std.proofs.lemmas.Iterator.Adapters.{position_from-zero}
 use Rattle.std.proofs.lemmas.List.Sums.{take_while-cons}
@@ -15,7 +17,7 @@ use Rattle.text_lines.specs.Lines.{line_texts, good_lines, bad_line, first_place
 use Rattle.team_script.specs.declared.fault.ScriptFault.{ScriptFault}
 use Rattle.team_script.specs.declared.fault.ScriptFault.TheVariants.{Bad}
 use Rattle.team_script.specs.declared.line.SessionLine.{SessionLine}
-use Rattle.team_script.specs.Lines.{told_in, is_formless, is_bad, first_bad}
+use Rattle.team_script.specs.Lines.{told_in, line_told, is_formless, is_bad, first_bad}
 use Rattle.team_script.specs.Due.{MayCome, unless_bad, lines_due, first_formless, good_due}
 
 -- lines are numbered one after another
@@ -163,3 +165,38 @@ fault-given bytes good fault are (inr due) =
     inr (ap (λ found. unless_bad found (told_in (line_texts bytes))) (bad-is bytes)
     ∙ first-fault (first_formless bytes (good_lines bytes)) (bad_line bytes) _ _ fault
     (ap (good_due bytes) (sym are) ∙ due))
+
+-- ---- how many lines there are
+few-of : (f : List ℕ → Option SessionLine) (texts : List (List ℕ))
+    → length (filter_map f texts) ≤ length texts
+few-of f [] = omega arith
+few-of f (text ∷ texts) = by (f text) (few-of f texts)
+  where
+    by : (found : Option SessionLine) → length (filter_map f texts) ≤ length texts
+        → length (cons_option found (filter_map f texts)) ≤ length (text ∷ texts)
+    by None few = omega (arith, few)
+    by (Some line) few = omega (arith, few)
+
+-- no more lines are told than are read
+pub few-told : (bytes : List ℕ) (lines : List Line) (told : List SessionLine) (count : ℕ)
+    → good_due bytes lines ≡ Ok told → length lines ≤ count → length told ≤ count
+few-told bytes lines told count due few = by (first_formless bytes lines) due
+  where
+    texts : List (List ℕ)
+    texts = map (text_of bytes) lines
+
+    within : (a b c d : ℕ) → a ≡ b → b ≤ c → c ≡ d → d ≤ count → a ≤ count
+    within a b c d is less same most = omega (arith, is, less, same, most)
+
+    short : told_in texts ≡ told → length told ≤ count
+    short is =
+        within (length told) (length (told_in texts)) (length texts) (length lines)
+        (sym (ap length is)) (few-of line_told texts) (length-map lines (text_of bytes)) few
+
+    lines_in : Result (List SessionLine) ScriptFault → List SessionLine
+    lines_in (Ok found) = found
+    lines_in (Err fault) = []
+
+    by : (bad : Option ℕ) → unless_bad bad (told_in texts) ≡ Ok told → length told ≤ count
+    by None is = short (ap lines_in is)
+    by (Some line) is = absurd (cc)

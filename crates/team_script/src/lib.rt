@@ -6,7 +6,7 @@
 //! dictionary files its texts load.
 #![tactic(auto)]
 
-ghost use Rattle.std.specs.Prelude.{◌≡◌};
+ghost use Rattle.std.specs.Prelude.{◌≡◌, ◌≤◌, length, IfOk};
 ghost use Rattle.lists.specs.Answers.{GivesDue};
 ghost use Rattle.team_script.specs.Due.{MayCome, script_due};
 
@@ -36,7 +36,8 @@ use std::alloc::Global;
 /// the file.
 #[tactic(auto, unfolding(crate::specs::Due::script_due))]
 pub fn read_script(alloc: Global, bytes: &[u8]) -> Result<Script, ScriptFault>
-    ensures { GivesDue MayCome (λ script. script) (script_due bytes.now) result }
+    ensures due { GivesDue MayCome (λ script. script) (script_due bytes.now) result }
+    ensures few { IfOk result (λ script. length script.lines ≤ length bytes.now) }
 {
     let lines = read_lines(alloc, bytes)?;
     check_lengths(&lines)?;

@@ -1,6 +1,6 @@
 //! Reads the lines of a script.
 
-ghost use Rattle.std.specs.Prelude.{◌≡◌, ℕ, List, All, OnOk, IfOk};
+ghost use Rattle.std.specs.Prelude.{◌≡◌, ◌≤◌, ℕ, List, length, All, OnOk, IfOk};
 ghost use Rattle.std.specs.List.{list_any};
 ghost use Rattle.lists.specs.Answers.{GivesDue};
 ghost use Rattle.text_lines.specs.Lines.{IsInside, line_texts};
@@ -24,6 +24,7 @@ pub fn read_lines(alloc: Global, bytes: &[u8]) -> Result<Items<SessionLine>, Scr
     ensures due { GivesDue MayCome (λ told. told) (lines_due (line_texts bytes.now)) result }
     ensures sessions { IfOk result (All IsNumbered) }
     ensures whole { IfOk result HaveWhole }
+    ensures few { IfOk result (λ told. length told ≤ length bytes.now) }
 {
     lines_are_sound();
     let found = lines(alloc, bytes)?;

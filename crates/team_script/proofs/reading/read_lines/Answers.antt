@@ -1,10 +1,10 @@
 -- What is due of all lines follows from what is due of those that are read.
-use Rattle.std.proofs.Common.{◌∙◌, inr}
+use Rattle.std.proofs.Common.{◌∙◌, ◌≤◌, inr, length, subst, sym}
 use Rattle.lists.specs.AnswerLaws.{gives-fault}
 use Rattle.text_lines.specs.Lines.{line_texts}
 use Rattle.team_script.specs.Lines.{HasNoBreak, IsNumbered}
 use Rattle.team_script.specs.Due.{MayCome}
-use Rattle.team_script.proofs.FileLemmas.{lines-given, bad-given, fault-given}
+use Rattle.team_script.proofs.FileLemmas.{lines-given, bad-given, fault-given, few-told}
 use Rattle.team_script.proofs.SessionLemmas.{due-all}
 use Rattle.team_script.proofs.reading.read_lines.Goals as goal
 
@@ -43,3 +43,10 @@ returns-in-None-clause-whole c =
     (lines-given c.args.bytes.now c.deref.result.now c.in_ok-found.found.bad c.in_ok-told.told
     (c.deref.ensures ∙ c.in_ok-found.ensures.good) c.in_ok-found.ensures.bad c.in-None.is
     c.in_ok-told.ensures)
+
+pub returns-in-None-clause-few : goal.returns-in-None-clause-few
+returns-in-None-clause-few c =
+    few-told c.args.bytes.now c.deref.result.now c.in_ok-told.told (length c.args.bytes.now)
+    c.in_ok-told.ensures
+    (subst (λ lines. length lines ≤ length c.args.bytes.now) (sym c.deref.ensures)
+    c.in_ok-found.ensures.few)
