@@ -1,5 +1,5 @@
 -- Who asks, once a desk is closed.
-use Rattle.std.proofs.Common.{◌≡◌, ◌∙◌, refl, sym, ap, subst, ℕ, ◌+◌, ◌<◌, ◌≤◌, ◌==◌, ◌⊎◌, inl, inr}
+use Rattle.std.proofs.Common.{◌≡◌, ◌∙◌, refl, sym, subst, ℕ, ◌+◌, ◌<◌, ◌≤◌, ◌==◌, ◌⊎◌, inl, inr}
 use Rattle.std.proofs.Common.{Bool, true, false, not, ◌&&◌, cond, List, [], ◌∷◌, length, map}
 use Rattle.std.proofs.Common.{zero-add, arith}
 use Rattle.std.specs.List.{All, AllByRecursion, range_with_len}
@@ -64,7 +64,7 @@ asked-of first count bound (entry ∷ entries) below each = (
     rest k (inr one) = inr one
 
 -- what holds of the number of each eye holds of all numbers
-each-number : (P : ℕ → Type 0) (count : ℕ) (eyes : List EyeSeen)
+pub each-number : (P : ℕ → Type 0) (count : ℕ) (eyes : List EyeSeen)
     → IsPermutation (range_with_len 0 count) (map (λ eye. eye.number) eyes)
     → All (λ (eye : EyeSeen). P eye.number) eyes → (k : ℕ) → k < count → P k
 each-number P count eyes numbers all k less =

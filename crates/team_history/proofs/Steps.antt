@@ -1,5 +1,6 @@
 -- What becomes of an eye by one command of its session.
-use Rattle.std.proofs.Common.{◌≡◌, ◌∙◌, refl, sym, ap, subst, ℕ, ◌+◌, ◌&&◌, Bool, true, false, not, List, []}
+use Rattle.std.proofs.Common.{◌≡◌, ◌∙◌, refl, sym, ap, subst, ℕ, ◌+◌, ◌&&◌, Bool, true, false, not}
+use Rattle.std.proofs.Common.{List, []}
 use Rattle.std.proofs.Common.{◌∷◌, ◌++◌, length, Option, None, Some, Result, Ok, Err, append_assoc}
 use Rattle.std.proofs.Common.{append-nil, arith}
 use Rattle.std.specs.Prelude.{if◌then◌else◌}
@@ -52,7 +53,7 @@ EventsAsked = (by : ℕ) (board : Seen) (command : Command) (event : SeenEvent)
     → HasWholeText command → event_for by board command ≡ Some event → IsAsked event
 
 -- ---- counts
-events-counted : (event : SeenEvent) (counts : Counts) → is_quiet event ≡ false
+pub events-counted : (event : SeenEvent) (counts : Counts) → is_quiet event ≡ false
     → events_in (counted (kind_of event) counts) ≡ events_in counts + 1
 events-counted (AnEdit session edit) counts asked = omega arith
 events-counted (ALoad lexicon) counts asked = omega arith

@@ -1,12 +1,13 @@
 -- What a session is told through its eye. Each of its commands takes the eye from one state to a
 -- later one.
-use Rattle.std.specs.Prelude.{◌≡◌, ℕ, List, [], ◌∷◌, ◌++◌, Option, None, Some, Result, Ok, Err}
+use Rattle.std.specs.Prelude.{◌≡◌, ℕ, ◌+◌, ◌^◌, ◌≤◌, List, [], ◌∷◌, ◌++◌, Option, None, Some}
+use Rattle.std.specs.Prelude.{Result, Ok, Err}
 use Rattle.spell_types.specs.declared.Lexicon.{Lexicon}
 use Rattle.dictionary_swap.specs.Loads.{DictionaryFiles, lexicon_due}
 use Rattle.dictionary_swap.specs.declared.fault.LoadFault.{LoadFault}
 use Rattle.edit_core.specs.Runs.{Entry, last_board}
 use Rattle.edit_core.specs.Seen.{Seen}
-use Rattle.board_share.specs.Eyes.{EyeSeen, events_in}
+use Rattle.board_share.specs.Eyes.{EyeSeen, events_in, last_of}
 use Rattle.console_lang.specs.declared.command.Command.{Command}
 use Rattle.console_lang.specs.declared.command.Command.TheVariants.{Load}
 use Rattle.console_lang.specs.declared.reply.Reply.{Reply}
@@ -15,6 +16,17 @@ use Rattle.console_board.specs.OwnConsoles.{fault_reply}
 use Rattle.console_board.specs.Transcripts.{HasWholeText, IsThere}
 use Rattle.console_history.specs.Told.{IsLexiconTold, IsPlainTold}
 use Rattle.team_history.specs.ToldBy.{IsOneToldIn, Session, taken_in}
+
+-- ---- how much is asked for
+
+-- an eye keeps its number, and counts so many events more at most that are not checks
+pub record AsksAtMost (most : ℕ) (old new : EyeSeen) : Type 0 where
+  pub number : new.number ≡ old.number
+  pub asked : events_in new.counts ≤ events_in old.counts + most
+
+-- no event may come any more behind the last board that an eye knows
+abbrev pub IsAtLastPoint : EyeSeen → Type 0
+IsAtLastPoint eye = 2 ^ 62 ≤ (last_of eye.run).point
 
 -- ---- one command
 

@@ -3,4 +3,7 @@
 
 mod laws;
 
-pub use laws::{closed_sessions_are_told, heard_sessions_go_on, only_sessions_ask};
+pub use laws::{
+    closed_sessions_are_not_spent, closed_sessions_are_told, heard_sessions_go_on,
+    only_sessions_ask, told_commands_ask_once,
+};

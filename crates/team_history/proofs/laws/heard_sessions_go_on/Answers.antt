@@ -1,5 +1,5 @@
 -- By the stretch that the eye comes to know.
-use Rattle.std.proofs.Common.{◌≡◌, ◌∙◌, ◌+◌, ℕ, List, refl, sym, ap, subst, ◌∷◌, [], ◌++◌}
+use Rattle.std.proofs.Common.{◌∙◌, ◌+◌, ℕ, List, refl, sym, ap, subst, ◌∷◌, [], ◌++◌}
 use Rattle.std.specs.Prelude.{if◌then◌else◌}
 use Rattle.edit_core.specs.Runs.{Entry, last_board}
 use Rattle.edit_core.specs.Seen.{Seen}
