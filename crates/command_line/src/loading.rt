@@ -1,6 +1,6 @@
 //! Loads the files that words name. Why a file is not loaded is a failure.
 
-ghost use Rattle.std.specs.Prelude.{◌≡◌, ◌<◌, ◌≤◌, ℕ, List, Option, IfOk, IsErrOf};
+ghost use Rattle.std.specs.Prelude.{◌≡◌, ◌<◌, ◌≤◌, ℕ, List, length, Option, IfOk, IsErrOf};
 ghost use Rattle.std.specs.Arc.{arc_value};
 ghost use Rattle.std.specs.Option.{option_copied};
 ghost use Rattle.lists.specs.Answers.{GivesDue, failing};
@@ -8,6 +8,7 @@ ghost use Rattle.console_board.specs.Transcripts.{IsThere};
 ghost use Rattle.dictionary_swap.specs.Loads.{DictionaryFiles, MayCome as LoadMayCome};
 ghost use Rattle.dictionary_swap.specs.Loads.{lexicon_due};
 ghost use Rattle.dictionary_swap.specs.declared.fault.LoadFault.TheVariants.{Failed};
+ghost use Rattle.dictionary_swap.specs.declared.limits.TheConstants.{SIZE_LIMIT};
 ghost use Rattle.own_dictionary.specs.Dictionaries.{IsBase, in_force};
 ghost use Rattle.team_script.specs.Due.{script_due};
 ghost use Rattle.command_line.specs.Due.{IsFileThere, IsListThere, IsOwnThere, MayCome, OwnFiles};
@@ -136,10 +137,11 @@ fn shared(alloc: Global, speller: Speller) -> Result<Arc<Speller>, NoMemory>
     Ok(Arc::new(alloc, speller)?)
 }
 
-/// The script of this name.
+/// The script of this name. It has no more lines than a file has bytes.
 pub fn load_script<F: Files>(alloc: Global, files: &mut F, name: &str) -> Result<Script, Failure>
     ensures due { (file : Option (List ℕ)) × IsFileThere (F.told files.old) name.now file
         × GivesDue MayCome (λ script. script) (read_due file) result }
+    ensures few { IfOk result (λ script. length script.lines ≤ SIZE_LIMIT) }
     ensures failed { IsErrOf result (Load Failed) → F.faults files.old < F.faults files.new }
     ensures same { F.told files.new ≡ F.told files.old }
     ensures count { F.faults files.old ≤ F.faults files.new }
@@ -152,6 +154,7 @@ pub fn load_script<F: Files>(alloc: Global, files: &mut F, name: &str) -> Result
 fn script_of(alloc: Global, bytes: &[u8]) -> Result<Script, Failure>
     ensures due { GivesDue MayCome (λ script. script)
         (failing script_failure (script_due bytes.now)) result }
+    ensures few { IfOk result (λ script. length script.lines ≤ length bytes.now) }
     ensures failed { ¬ (IsErrOf result (Load Failed)) }
 {
     match read_script(alloc, bytes) {
@@ -228,6 +231,7 @@ fn load_bytes<F: Files>(
 ) -> Result<Vec<u8>, Failure>
     ensures due { (file : Option (List ℕ)) × IsFileThere (F.told files.old) name.now file
         × GivesDue MayCome (λ bytes. bytes.items) (bytes_due limit file) result }
+    ensures bounded { IfOk result (λ bytes. length bytes.items ≤ limit) }
     ensures failed { IsErrOf result (Load Failed) → F.faults files.old < F.faults files.new }
     ensures same { F.told files.new ≡ F.told files.old }
     ensures count { F.faults files.old ≤ F.faults files.new }

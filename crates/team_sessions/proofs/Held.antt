@@ -1,7 +1,8 @@
 -- The pair that a line loads is held.
-use Rattle.std.proofs.Common.{◌≡◌, ◌∙◌, refl, sym, ap, subst, ℕ, Bool, true, false, ◌||◌, cond, List, []}
+use Rattle.std.proofs.Common.{◌≡◌, ◌∙◌, refl, sym, ap, subst, ℕ, Bool, true, false, ◌||◌, cond}
+use Rattle.std.proofs.Common.{List, []}
 use Rattle.std.proofs.Common.{◌∷◌}
-use Rattle.std.proofs.Common.{map, find, Option, Some, None, Result, Ok, Err, IfOk, All}
+use Rattle.std.proofs.Common.{map, find, Option, Some, None, Result, Ok, Err, All}
 use Rattle.std.specs.List.{AllByRecursion, list_any}
 use Rattle.std.specs.Str.{bytes_eq}
 use Rattle.std.proofs.lemmas.Bool.{and_parts, true≢false}
@@ -21,7 +22,6 @@ use Rattle.team_history.specs.Eyes.{IsLoadedTold, IsPairTold}
 use Rattle.team_history.specs.ToldBy.{Session}
 use Rattle.console_board.specs.OwnConsoles.{fault_reply}
 use Rattle.console_history.specs.Told.{IsLexiconTold}
-use Rattle.team_sessions.specs.Sessions.{IsOf}
 use Rattle.team_sessions.specs.Pairs.{Holds, IsLoaded, is_named, names_of}
 use Rattle.team_sessions.specs.declared.pairs.LoadedPair.{LoadedPair}
 
@@ -99,7 +99,7 @@ lexicon-told lexicon_of (Ok lexicon) loaded held {old} {new} {reply} is holds to
 lexicon-told lexicon_of (Err fault) loaded held is holds told =
     absurd (subst (λ (r : Result _ LoadFault). Holds lexicon_of (Err fault) r) is holds)
 
-fault-held : {A : Type 0} (lexicon_of : A → Lexicon) (due : Result Lexicon LoadFault)
+pub fault-held : {A : Type 0} (lexicon_of : A → Lexicon) (due : Result Lexicon LoadFault)
     (loaded : Result A LoadFault) (fault : LoadFault) (eye : EyeSeen) (reply : Reply)
     → loaded ≡ Err fault → Holds lexicon_of due loaded → reply ≡ fault_reply fault
     → IsLoadedTold due eye eye reply
@@ -111,17 +111,3 @@ fault-held lexicon_of (Err due) loaded fault eye reply is holds replied = (
       ∙ ap fault_reply
       (subst (λ (r : Result _ LoadFault). Holds lexicon_of (Err due) r) is holds),
 )
-
--- a fault that is held is told
-pub fault-told : {J : Type 0} (lexicon_of : J → Lexicon) (pairs : List (LoadedPair J))
-    (pair : LoadedPair J) (aff dic : List ℕ) (fault : LoadFault) {E : Type 0}
-    (result : Result Reply E) (eye : EyeSeen)
-    → find (is_named aff dic) pairs ≡ Some pair → pair.loaded ≡ Err fault
-    → IfOk result (λ reply. reply ≡ fault_reply fault)
-    → IfOk result (λ reply. (number : ℕ) (of : Session) → IsOf lexicon_of pairs number of
-    → IsPairTold of aff dic eye eye reply)
-fault-told lexicon_of pairs pair aff dic fault (Ok reply) eye found is replied = λ number of means.
-    pair-brought lexicon_of of pairs pair aff dic found means.loaded
-    (λ due holds. fault-held (λ held. lexicon_of (arc_value held)) due pair.loaded fault eye
-    reply is holds replied)
-fault-told lexicon_of pairs pair aff dic fault (Err wanting) eye found is replied = tt

@@ -6,3 +6,4 @@ pub mod Seats
 pub mod UpTo
 pub mod Held
 pub mod Closings
+pub mod Stops

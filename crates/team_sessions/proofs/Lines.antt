@@ -1,5 +1,6 @@
 -- The lines of a session, answered one after another.
-use Rattle.std.proofs.Common.{◌≡◌, ◌∙◌, ◌<◌, refl, sym, ap, subst, ℕ, zero, suc, ◌+◌, take, drop, get_or, length, arith, Bool, true, false, not, List, []}
+use Rattle.std.proofs.Common.{◌≡◌, ◌∙◌, ◌<◌, refl, sym, ap, subst, ℕ, zero, suc, ◌+◌, take, drop}
+use Rattle.std.proofs.Common.{get_or, length, arith, Bool, true, false, List, []}
 use Rattle.std.proofs.Common.{◌∷◌, ◌++◌, cond, map, Option, None, Some, append_assoc, append-nil}
 use Rattle.std.proofs.Common.{All}
 use Rattle.std.specs.Borrow.{Bor}
@@ -22,8 +23,8 @@ use Rattle.console_board.specs.Transcripts.{asked_by, asked_for, before_quit, is
 use Rattle.console_board.specs.Transcripts.{written_of}
 use Rattle.team_history.specs.Eyes.{HasHeard, IsSaidTo}
 use Rattle.team_history.specs.ToldBy.{Session, session_asks, without_own}
-use Rattle.team_sessions.specs.Sessions.{AnswersAll, AnswersLine, HasAnswered, IsAnswered, IsOf}
-use Rattle.team_sessions.specs.Sessions.{IsReplied, line_asks}
+use Rattle.team_sessions.specs.Sessions.{AnswersAll, AnswersLine, IsAnswered, IsOf}
+use Rattle.team_sessions.specs.Sessions.{line_asks}
 use Rattle.team_sessions.specs.declared.pairs.LoadedPair.{LoadedPair}
 
 -- ---- what lines ask for
@@ -107,7 +108,8 @@ module _ {J : Type 0} (lexicon_of : J → Lexicon) (pairs : List (LoadedPair J))
       let led = so_far session opening of heard in record {
         commands = led.commands;
         replies = led.replies;
-        heard = subst (HasHeard session opening led.commands led.replies) (sym answered.0) led.heard;
+        heard = subst (HasHeard session opening led.commands led.replies) (sym answered.0)
+            led.heard;
         asks = led.asks ∙ ap (λ more. led.commands ++ more) says;
         text_is = answered.1 ∙ led.text_is;
       }

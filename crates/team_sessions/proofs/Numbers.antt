@@ -1,5 +1,6 @@
 -- The numbers of eyes stay, whatever comes through them.
-use Rattle.std.proofs.Common.{◌≡◌, ◌∙◌, refl, sym, ap, ℕ, ◌+◌, true, List, [], ◌∷◌, ◌++◌, length}
+use Rattle.std.proofs.Common.{◌≡◌, ◌∙◌, refl, ap, ℕ, ◌+◌, List, [], ◌∷◌, length}
+use Rattle.std.proofs.Common.{◌≤◌}
 use Rattle.std.proofs.Common.{map, Option, None, Some, arith}
 use Rattle.std.specs.List.{AllByRecursion, AllZip, range_with_len}
 use Rattle.spell_types.specs.declared.Lexicon.{Lexicon}
@@ -77,20 +78,39 @@ none-asked opening (n ∷ numbers) (new ∷ news) worked = (
         → edits + (loads + asks) ≡ 0
     none edits loads asks one two three = omega (arith, one, two, three)
 
--- sessions that have answered their lines have the numbers that they began with
+-- sessions have the numbers that they began with
 pub performed-numbers : {J : Type 0} (lexicon_of : J → Lexicon) (pairs : List (LoadedPair J))
     (opening : Seen) (first : ℕ) (scripts : List Script) (news : List (SessionSeen J))
     → AllZip (HasPerformed lexicon_of)
     (seats pairs scripts (fresh_eyes opening first (length scripts))) news
-    → AllByRecursion (λ session. session.done ≡ true) news
     → map number_of (map (λ (session : SessionSeen J). session.eye) news)
     ≡ range_with_len first (length scripts)
-performed-numbers lexicon_of pairs opening first [] [] performed done = refl
-performed-numbers lexicon_of pairs opening first [] (new ∷ news) performed done =
+performed-numbers lexicon_of pairs opening first [] [] performed = refl
+performed-numbers lexicon_of pairs opening first [] (new ∷ news) performed = absurd performed
+performed-numbers lexicon_of pairs opening first (script ∷ scripts) [] performed =
     absurd performed
-performed-numbers lexicon_of pairs opening first (script ∷ scripts) [] performed done =
+performed-numbers lexicon_of pairs opening first (script ∷ scripts) (new ∷ news) performed =
+    λ i. performed.0.asks.number i
+    ∷ performed-numbers lexicon_of pairs opening (first + 1) scripts news performed.1 i
+
+-- each asks for one event a line at most
+pub performed-few : {J : Type 0} (lexicon_of : J → Lexicon) (pairs : List (LoadedPair J))
+    (opening : Seen) (first most : ℕ) (scripts : List Script) (news : List (SessionSeen J))
+    → AllByRecursion (λ (script : Script). length script.lines ≤ most) scripts
+    → AllZip (HasPerformed lexicon_of)
+    (seats pairs scripts (fresh_eyes opening first (length scripts))) news
+    → AllByRecursion (λ (eye : EyeSeen). events_in eye.counts ≤ most)
+    (map (λ (session : SessionSeen J). session.eye) news)
+performed-few lexicon_of pairs opening first most [] [] short performed = tt
+performed-few lexicon_of pairs opening first most [] (new ∷ news) short performed =
     absurd performed
-performed-numbers lexicon_of pairs opening first (script ∷ scripts) (new ∷ news) performed
-    done =
-    λ i. (performed.0 done.0).0 i
-    ∷ performed-numbers lexicon_of pairs opening (first + 1) scripts news performed.1 done.1 i
+performed-few lexicon_of pairs opening first most (script ∷ scripts) [] short performed =
+    absurd performed
+performed-few lexicon_of pairs opening first most (script ∷ scripts) (new ∷ news) short
+    performed = (
+      within (events_in new.eye.counts) (length script.lines) performed.0.asks.asked short.0,
+      performed-few lexicon_of pairs opening (first + 1) most scripts news short.1 performed.1,
+    )
+  where
+    within : (n lines : ℕ) → n ≤ 0 + lines → lines ≤ most → n ≤ most
+    within n lines few short = omega (arith, few, short)

@@ -1,5 +1,5 @@
 -- Commands that are done without a dictionary.
-use Rattle.std.proofs.Common.{◌≡◌, refl, sym, subst, ℕ, List, Some}
+use Rattle.std.proofs.Common.{◌≡◌, sym, subst, ℕ, Some}
 use Rattle.board_share.specs.Eyes.{EyeSeen}
 use Rattle.console_lang.specs.declared.command.Command.{Command}
 use Rattle.console_lang.specs.declared.command.Command.TheVariants.{Ins, Put, Sub, Del, Load, Stop}

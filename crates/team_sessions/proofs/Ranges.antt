@@ -1,8 +1,7 @@
 -- Numbers one after another, and lists that are parted.
-use Rattle.std.proofs.Common.{◌≡◌, ◌∙◌, refl, sym, ap, subst, ℕ, zero, suc, ◌+◌, ◌≤◌, List, []}
-use Rattle.std.proofs.Common.{◌∷◌, ◌++◌, map, drop, length, arith}
+use Rattle.std.proofs.Common.{◌≡◌, ◌∙◌, refl, ap, ℕ, zero, suc, ◌+◌, List, []}
+use Rattle.std.proofs.Common.{◌∷◌, ◌++◌, map, drop, arith}
 use Rattle.std.specs.List.{AllByRecursion, range_with_len}
-use Rattle.std.proofs.lemmas.List.FromFn.{length-range_with_len}
 
 -- in two parts
 pub range-append : (a m n : ℕ) → range_with_len a (m + n) ≡ range_with_len a m

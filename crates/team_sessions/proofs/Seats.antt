@@ -1,10 +1,13 @@
 -- Sessions that have done nothing, one behind another.
-use Rattle.std.proofs.Common.{◌≡◌, ◌∙◌, refl, sym, ap, ℕ, zero, suc, ◌+◌, ◌<◌, ◌≤◌, List, [], ◌∷◌}
+use Rattle.std.proofs.Common.{◌≡◌, ◌∙◌, refl, sym, ap, ℕ, ◌+◌, ◌<◌, ◌≤◌, List, [], ◌∷◌}
 use Rattle.std.proofs.Common.{◌++◌, map, take, drop, get_or, length, All, append_assoc, append-nil}
 use Rattle.std.proofs.Common.{length-append, zero-add, subst, arith, Result, Ok, Err, IfOk}
+use Rattle.std.proofs.Common.{Option, None, Some}
+use Rattle.std.specs.Option.{option_or}
+use Rattle.desk_console.specs.declared.stop.Stop.{Stop}
 use Rattle.spell_types.specs.declared.Lexicon.{Lexicon}
 use Rattle.std.specs.List.{AllByRecursion, range_with_len}
-use Rattle.std.proofs.lemmas.List.{length-map, nil_from_length, same_from_push}
+use Rattle.std.proofs.lemmas.List.{length-map, map-append, nil_from_length, same_from_push}
 use Rattle.std.proofs.lemmas.List.Elements.{All-from_recursion, recursion_from_All}
 use Rattle.std.proofs.lemmas.List.FromFn.{length-range_with_len, map-range_with_len_more}
 use Rattle.std.proofs.lemmas.List.FromFn.{take-map-range_with_len}
@@ -12,7 +15,7 @@ use Rattle.edit_core.specs.Seen.{Seen}
 use Rattle.input_lines.specs.Answers.{HasNoBreak}
 use Rattle.board_share.specs.Eyes.{EyeSeen, fresh_eye}
 use Rattle.team_sessions.specs.Pairs.{LoadsHeld}
-use Rattle.team_sessions.specs.Seats.{AreBehind, fresh_eyes, seat, seats}
+use Rattle.team_sessions.specs.Seats.{AreBehind, first_stop, fresh_eyes, seat, seats}
 use Rattle.team_sessions.specs.Sessions.{IsReady, SessionSeen}
 use Rattle.team_sessions.proofs.Ranges.{map-drop, range-drop}
 use Rattle.team_sessions.specs.Teams.{Script}
@@ -45,8 +48,8 @@ taken-more taken rest all more x are is =
     append_assoc taken (x ∷ []) more ∙ ap (λ l. taken ++ l) (sym is) ∙ are
 
 -- where an eye is left, so is a script
-pub few-taken : {A : Type 0} (scripts : List Script) (taken rest more : List EyeSeen) (eye : EyeSeen)
-    (eyes : List EyeSeen) (count : ℕ) → length eyes ≡ length scripts → taken ++ rest ≡ eyes
+pub few-taken : {A : Type 0} (scripts : List Script) (taken rest more : List EyeSeen)
+    (eye : EyeSeen) (eyes : List EyeSeen) (count : ℕ) → length eyes ≡ length scripts → taken ++ rest ≡ eyes
     → rest ≡ eye ∷ more → count ≡ length taken → length scripts ≤ count → A
 few-taken scripts taken rest more eye eyes count as_many are is counted full =
     let below = taken-below taken rest eyes more eye are is in
@@ -93,7 +96,8 @@ pub later-eyes : (opening : Seen) (workers count : ℕ) {eyes later : List EyeSe
     → eyes ≡ fresh_eyes opening 0 (workers + count) → later ≡ drop workers eyes
     → later ≡ fresh_eyes opening workers count
 later-eyes opening workers count are is =
-    is ∙ ap (drop workers) are ∙ map-drop (fresh_eye opening) workers (range_with_len 0 (workers + count))
+    is ∙ ap (drop workers) are
+    ∙ map-drop (fresh_eye opening) workers (range_with_len 0 (workers + count))
     ∙ ap (map (fresh_eye opening)) (range-drop 0 workers count
     ∙ ap (λ n. range_with_len n count) (zero-add workers))
 
@@ -126,18 +130,53 @@ few-first workers count is = omega (arith, is)
 -- behind the sessions that had done nothing
 pub behind-seats : {J R E : Type 0} (lexicon_of : J → Lexicon) (pairs : List (LoadedPair J))
     (scripts : List Script) (eyes_of : R → List EyeSeen) (texts_of : R → List (List ℕ))
-    (result : Result R E) {sessions : List (SessionSeen J)} {taken later crew first : List EyeSeen}
+    (stop_of : R → Option Stop) (result : Result R E)
+    {sessions : List (SessionSeen J)} {taken later crew first : List EyeSeen}
     → sessions ≡ seats pairs scripts taken → taken ≡ later → crew ≡ first
-    → IfOk result (λ r. AreBehind lexicon_of sessions crew (eyes_of r) (texts_of r))
+    → IfOk result (λ r. AreBehind lexicon_of sessions crew (eyes_of r) (texts_of r) (stop_of r))
     → IfOk result (λ r. AreBehind lexicon_of (seats pairs scripts later) first (eyes_of r)
-    (texts_of r))
-behind-seats lexicon_of pairs scripts eyes_of texts_of (Ok r) {later = later} {crew = crew}
+    (texts_of r) (stop_of r))
+behind-seats lexicon_of pairs scripts eyes_of texts_of stop_of (Ok r) {later = later} {crew = crew}
     are is first_is behind =
     subst (λ workers. AreBehind lexicon_of (seats pairs scripts later) workers (eyes_of r)
-    (texts_of r)) first_is
-    (subst (λ sessions. AreBehind lexicon_of sessions crew (eyes_of r) (texts_of r))
+    (texts_of r) (stop_of r)) first_is
+    (subst (λ sessions. AreBehind lexicon_of sessions crew (eyes_of r) (texts_of r) (stop_of r))
     (are ∙ ap (seats pairs scripts) is) behind)
-behind-seats lexicon_of pairs scripts eyes_of texts_of (Err fault) are is first_is behind = tt
+behind-seats lexicon_of pairs scripts eyes_of texts_of stop_of (Err fault) are is first_is behind =
+    tt
+
+-- one more of what is gathered
+pub gathered-more : {X Y : Type 0} (f : X → Y) (front items now : List Y) (taken : List X) (x : X)
+    (y : Y) → items ≡ front ++ map f taken → now ≡ items ++ y ∷ [] → y ≡ f x
+    → now ≡ front ++ map f (taken ++ x ∷ [])
+gathered-more f front items now taken x y are is same =
+    is ∙ (λ i. are i ++ same i ∷ []) ∙ append_assoc front (map f taken) (f x ∷ [])
+    ∙ ap (λ l. front ++ l) (sym (map-append f taken (x ∷ [])))
+
+pub mapped-more : {A X Y : Type 0} (g : A → Y) (f : X → Y) (items now : List A) (taken : List X)
+    (x : X) (a : A) → map g items ≡ map f taken → now ≡ items ++ a ∷ [] → g a ≡ f x
+    → map g now ≡ map f (taken ++ x ∷ [])
+mapped-more g f items now taken x a are is same =
+    ap (map g) is ∙ map-append g items (a ∷ []) ∙ (λ i. are i ++ same i ∷ [])
+    ∙ sym (map-append f taken (x ∷ []))
+
+-- why the first was stopped, with one session more
+pub stop-more : {J : Type 0} (sessions : List (SessionSeen J)) (session : SessionSeen J)
+    → first_stop (sessions ++ session ∷ [])
+    ≡ option_or (first_stop sessions) session.stopped
+stop-more [] session = by session.stopped
+  where
+    by : (stopped : Option Stop) → option_or stopped None ≡ stopped
+    by None = refl
+    by (Some why) = refl
+stop-more (first ∷ sessions) session = by first.stopped (stop-more sessions session)
+  where
+    by : (stopped : Option Stop)
+        → first_stop (sessions ++ session ∷ []) ≡ option_or (first_stop sessions) session.stopped
+        → option_or stopped (first_stop (sessions ++ session ∷ []))
+        ≡ option_or (option_or stopped (first_stop sessions)) session.stopped
+    by None rest = rest
+    by (Some why) rest = refl
 
 -- one is left to take off
 pub some-left : {A : Type 0} (opening : Seen) (count : ℕ) {eyes : List EyeSeen}

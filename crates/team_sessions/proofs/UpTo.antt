@@ -2,14 +2,14 @@
 use Rattle.std.proofs.Common.{◌≡◌, ◌∙◌, refl, sym, ap, subst, ℕ, ◌+◌, ◌≤◌, Bool, true, false, cond}
 use Rattle.std.proofs.Common.{List, [], ◌∷◌, ◌++◌, length, map, filter, All, length-append, arith}
 use Rattle.std.specs.List.{list_any, range_with_len}
-use Rattle.std.proofs.lemmas.List.{map-append}
+use Rattle.std.proofs.lemmas.List.{length-map, map-append}
 use Rattle.std.proofs.lemmas.List.Elements.{All-append, All-from_recursion}
 use Rattle.team_sessions.proofs.Ranges.{range-append}
 use Rattle.team_script.specs.Lines.{HasNoBreak, is_of, texts_of}
 use Rattle.team_script.specs.Pairs.{LoadsAmong}
 use Rattle.team_script.specs.Told.{Told}
 use Rattle.team_script.specs.declared.line.SessionLine.{SessionLine}
-use Rattle.team_sessions.specs.Teams.{Script, scripts_in}
+use Rattle.team_sessions.specs.Teams.{Script}
 
 -- what the lines of a script are to those of these sessions that are there
 abbrev pub scripts_among : List SessionLine → List ℕ → List Script
@@ -21,6 +21,7 @@ scripts_among lines numbers =
 pub record AreUpTo (script : Told) (count : ℕ) (scripts : List Script) : Type 0 where
   pub scripts_are : scripts ≡ scripts_among script.lines (range_with_len 1 count)
   pub few : length scripts ≤ count
+  pub short : All (λ (one : Script). length one.lines ≤ length script.lines) scripts
   pub whole : All (λ (one : Script). All HasNoBreak one.lines) scripts
   pub named : All (λ (one : Script). All (LoadsAmong script.pairs) one.lines) scripts
 
@@ -28,6 +29,7 @@ pub none-yet : (script : Told) → AreUpTo script 0 []
 none-yet script = record {
   scripts_are = refl;
   few = omega arith;
+  short = All-from_recursion (λ (one : Script). length one.lines ≤ length script.lines) [] tt;
   whole = All-from_recursion (λ (one : Script). All HasNoBreak one.lines) [] tt;
   named = All-from_recursion (λ (one : Script). All (LoadsAmong script.pairs) one.lines) [] tt;
 }
@@ -66,10 +68,12 @@ passed-over script count scripts absent are = record {
       ∙ sym (among-more script.lines count
       ∙ ap (λ (more : List Script). scripts_among script.lines (range_with_len 1 count) ++ more)
       (ap (λ k. scripts_among script.lines (k ∷ [])) (swap count)
-      ∙ ap (λ b. map (λ session. record { session = session; lines = texts_of session script.lines })
+      ∙ ap (λ b. map (λ session.
+      record { session = session; lines = texts_of session script.lines })
       (cond b ((count + 1) ∷ []) [])) absent)
       ∙ nil (scripts_among script.lines (range_with_len 1 count)));
   few = omega (arith, are.few);
+  short = are.short;
   whole = are.whole;
   named = are.named;
 }
@@ -80,6 +84,25 @@ passed-over script count scripts absent are = record {
     nil : {X : Type 0} (xs : List X) → xs ++ [] ≡ xs
     nil [] = refl
     nil (x ∷ xs) = ap (λ l. x ∷ l) (nil xs)
+
+-- a session has no more lines than the script
+texts-few : (session : ℕ) (lines : List SessionLine)
+    → length (texts_of session lines) ≤ length lines
+texts-few session lines =
+    within (length-map (filter (is_of session) lines) (λ line. line.text)) (kept lines)
+  where
+    within : {a b c : ℕ} → a ≡ b → b ≤ c → a ≤ c
+    within {a} {b} {c} is few = omega (arith, is, few)
+
+    kept : (lines : List SessionLine) → length (filter (is_of session) lines) ≤ length lines
+    kept [] = omega arith
+    kept (line ∷ lines) = by (is_of session line) (kept lines)
+      where
+        by : (own : Bool) → length (filter (is_of session) lines) ≤ length lines
+            → length (cond own (line ∷ filter (is_of session) lines)
+            (filter (is_of session) lines)) ≤ length (line ∷ lines)
+        by true few = omega (arith, few)
+        by false few = omega (arith, few)
 
 -- a session that is there
 pub one-more : (script : Told) (count : ℕ) (scripts : List Script) (texts : List (List ℕ))
@@ -100,6 +123,14 @@ one-more script count scripts texts there are_texts whole named are =
           record { session = session; lines = texts_of session script.lines })
           (cond b ((count + 1) ∷ []) [])) there));
       few = omega (arith, are.few, length-append scripts (one ∷ []));
+      short = All-append (λ (one : Script). length one.lines ≤ length script.lines) scripts
+          (one ∷ []) are.short
+          (All-from_recursion (λ (one : Script). length one.lines ≤ length script.lines)
+          (one ∷ []) (
+            subst (λ l. length l ≤ length script.lines) (sym are_texts)
+                (texts-few (count + 1) script.lines),
+            tt,
+          ));
       whole = All-append (λ (one : Script). All HasNoBreak one.lines) scripts (one ∷ []) are.whole
           (All-from_recursion (λ (one : Script). All HasNoBreak one.lines) (one ∷ []) (whole, tt));
       named = All-append (λ (one : Script). All (LoadsAmong script.pairs) one.lines) scripts

@@ -1,10 +1,12 @@
 -- The eyes of a desk before and behind the sessions.
-use Rattle.std.specs.Prelude.{◌≡◌, ℕ, ◌+◌, true, false, List, [], ◌∷◌, ◌++◌, length, map}
-use Rattle.std.specs.List.{AllByRecursion, AllZip, range_with_len}
+use Rattle.std.specs.Prelude.{◌≡◌, ℕ, List, [], ◌∷◌, ◌++◌, map, Option, None}
+use Rattle.std.specs.List.{AllZip, range_with_len}
+use Rattle.std.specs.Option.{option_or}
 use Rattle.spell_types.specs.declared.Lexicon.{Lexicon}
 use Rattle.edit_core.specs.Seen.{Seen}
 use Rattle.board_share.specs.Eyes.{EyeSeen, fresh_eye}
 use Rattle.worker_crew.specs.Crews.{HasWorked}
+use Rattle.desk_console.specs.declared.stop.Stop.{Stop}
 use Rattle.team_sessions.specs.Sessions.{HasPerformed, SessionSeen}
 use Rattle.team_sessions.specs.Teams.{Script, session_line}
 use Rattle.team_sessions.specs.declared.pairs.LoadedPair.{LoadedPair}
@@ -21,7 +23,7 @@ seat pairs script eye = record {
   pairs = pairs;
   eye = eye;
   text = session_line script.session;
-  done = false;
+  stopped = None;
 }
 
 -- sessions that have done nothing, one for each script and eye
@@ -31,14 +33,19 @@ seats pairs scripts [] = []
 seats pairs [] (eye ∷ eyes) = []
 seats pairs (script ∷ scripts) (eye ∷ eyes) = seat pairs script eye ∷ seats pairs scripts eyes
 
--- the eyes of the workers and then those of the sessions, all of which have answered their lines; and
--- what is to be printed of these
+-- why the first was stopped of those that were
+abbrev pub first_stop : {J : Type 0} → List (SessionSeen J) → Option Stop
+first_stop [] = None
+first_stop (session ∷ sessions) = option_or session.stopped (first_stop sessions)
+
+-- the eyes of the workers and then those of the sessions, which have performed; what is to be
+-- printed of these; and why the first was stopped of those that were
 pub record AreBehind {J : Type 0} (lexicon_of : J → Lexicon) (olds : List (SessionSeen J))
-    (workers eyes : List EyeSeen) (texts : List (List ℕ)) : Type 0 where
+    (workers eyes : List EyeSeen) (texts : List (List ℕ)) (stopped : Option Stop) : Type 0 where
   pub others : List EyeSeen
   pub worked : AllZip HasWorked workers others
   pub sessions : List (SessionSeen J)
   pub performed : AllZip (HasPerformed lexicon_of) olds sessions
-  pub done : AllByRecursion (λ session. session.done ≡ true) sessions
+  pub stopped_is : stopped ≡ first_stop sessions
   pub eyes_are : eyes ≡ others ++ map (λ session. session.eye) sessions
   pub texts_are : texts ≡ map (λ session. session.text) sessions

@@ -1,6 +1,6 @@
 -- A session before and behind its lines.
-use Rattle.std.specs.Prelude.{◌≡◌, ℕ, Bool, true, false, List, [], ◌∷◌, ◌++◌, All, Option, None}
-use Rattle.std.specs.Prelude.{Some}
+use Rattle.std.specs.Prelude.{◌≡◌, ℕ, true, false, List, [], ◌∷◌, ◌++◌, length, All, Option, None}
+use Rattle.std.specs.Prelude.{Some, IfSome}
 use Rattle.std.specs.Option.{option_map}
 use Rattle.spell_types.specs.declared.Lexicon.{Lexicon}
 use Rattle.edit_core.specs.Seen.{Seen}
@@ -11,10 +11,19 @@ use Rattle.input_lines.specs.Answers.{HasNoBreak}
 use Rattle.input_lines.specs.declared.responder.Flow.{Flow}
 use Rattle.input_lines.specs.declared.responder.Flow.TheVariants.{On, Quit}
 use Rattle.console_board.specs.Transcripts.{asked_for, is_quit, line_says, written_of}
-use Rattle.team_history.specs.Eyes.{HasHeard, IsSaidTo}
+use Rattle.desk_console.specs.declared.stop.Stop.{Stop}
+use Rattle.desk_console.specs.declared.stop.Stop.TheVariants as stop
+use Rattle.team_history.specs.Eyes.{AsksAtMost, HasHeard, IsAtLastPoint, IsSaidTo}
 use Rattle.team_history.specs.ToldBy.{Session, session_asks, without_own}
 use Rattle.team_sessions.specs.Pairs.{IsLoaded, LoadsHeld}
 use Rattle.team_sessions.specs.declared.pairs.LoadedPair.{LoadedPair}
+
+-- ---- why a session may be stopped
+
+-- memory is wanting, or its eye knows the last point that a history may have
+abbrev pub MayStop : EyeSeen → Stop → Type 0
+MayStop eye stop.Wanting = Unit {0}
+MayStop eye (stop.Spent point) = IsAtLastPoint eye
 
 -- ---- one line
 
@@ -69,24 +78,25 @@ AnswersAll lexicon_of pairs number lines old new text text_now =
     (session : Session) (opening : Seen) → IsOf lexicon_of pairs number session
     → HasHeard session opening [] [] old → HasAnswered session opening lines text text_now new
 
--- a session: its number, its lines, the pairs that were loaded, its eye, what is to be printed of it
--- so far, and whether all its lines were answered
+-- a session: its number, its lines, the pairs that were loaded, its eye, what is to be printed of
+-- it so far, and why it was stopped, if it was
 pub record SessionSeen (J : Type 0) : Type 0 where
   pub number : ℕ
   pub lines : List (List ℕ)
   pub pairs : List (LoadedPair J)
   pub eye : EyeSeen
   pub text : List ℕ
-  pub done : Bool
+  pub stopped : Option Stop
 
 -- its lines can be answered: they have no line feeds, and the pairs that they load are there
 pub record IsReady {J : Type 0} (session : SessionSeen J) : Type 0 where
   pub whole : All HasNoBreak session.lines
   pub held : All (LoadsHeld session.pairs) session.lines
 
--- its lines were answered, or it was stopped; its eye has the same number
-abbrev pub HasPerformed : {J : Type 0} → (J → Lexicon) → SessionSeen J → SessionSeen J → Type 0
-HasPerformed lexicon_of old new =
-    new.done ≡ true
-    → (new.eye.number ≡ old.eye.number)
-    × AnswersAll lexicon_of old.pairs old.number old.lines old.eye new.eye old.text new.text
+-- It asked for one event a line at most, checks aside. Its lines were answered, or it was stopped.
+pub record HasPerformed {J : Type 0} (lexicon_of : J → Lexicon) (old new : SessionSeen J) : Type
+    0 where
+  pub asks : AsksAtMost (length old.lines) old.eye new.eye
+  pub cut : IfSome new.stopped (MayStop new.eye)
+  pub answered : new.stopped ≡ None
+      → AnswersAll lexicon_of old.pairs old.number old.lines old.eye new.eye old.text new.text

@@ -57,4 +57,5 @@ pub record IsTeamwork (folder : Option Folder) (first : ℕ) (opening : Seen) (s
 abbrev pub total_line : Seen → List ℕ
 total_line board =
     codes "total text "
-    ++ (decimal board.text_version ++ (codes " dict " ++ (decimal board.dict_version ++ codes "\n")))
+    ++ (decimal board.text_version
+    ++ (codes " dict " ++ (decimal board.dict_version ++ codes "\n")))

@@ -1,5 +1,5 @@
-//! Sessions at once: each is a console over one desk, which answers its lines in a thread of its own,
-//! beside workers.
+//! Sessions at once: each is a console over one desk, which answers its lines in a thread of its
+//! own, beside workers.
 #![tactic(auto)]
 
 mod answering;
@@ -11,4 +11,4 @@ mod team;
 
 pub use pairs::LoadedPair;
 pub use scripts::{SessionLines, scripts_of};
-pub use team::{MOST_AT_ONCE, Teamed, answer_at_once};
+pub use team::{MOST_AT_ONCE, MOST_LINES, Teamed, answer_at_once};

@@ -37,6 +37,8 @@ impl<'a> Model for SessionLines<'a> {
 pub fn scripts_of(alloc: Global, script: &Script) -> Result<Vec<SessionLines<'_>>, NoMemory>
     ensures scripts { IfOk result (λ scripts. scripts.items ≡ scripts_in script.now.lines) }
     ensures few { IfOk result (λ scripts. length scripts.items ≤ 16) }
+    ensures short { IfOk result
+        (λ scripts. All (λ of_one. length of_one.lines ≤ length script.now.lines) scripts.items) }
     ensures whole { IfOk result
         (λ scripts. All (λ of_one. All HasNoBreak of_one.lines) scripts.items) }
     ensures named { IfOk result

@@ -1,6 +1,6 @@
 //! A session, which answers its lines in whatever thread it is given.
 
-ghost use Rattle.std.specs.Prelude.{◌≡◌, IfOk, OnOk, false, true, map};
+ghost use Rattle.std.specs.Prelude.{◌≡◌, IfOk, None, map};
 ghost use Rattle.std.specs.String.{string_bytes};
 ghost use Rattle.board_share.specs.Eyes.{EyeSeen};
 ghost use Rattle.team_sessions.specs.Sessions.{HasPerformed, IsReady};
@@ -11,7 +11,7 @@ use crate::pairs::LoadedPair;
 use crate::scripts::SessionLines;
 use board_share::{Desk, Eye, Naming};
 use check_workers::Bell;
-use desk_console::DeskConsole;
+use desk_console::{DeskConsole, Stop};
 use joined_tasks::Task;
 use lists::NoMemory;
 use mark_types::Judge;
@@ -40,8 +40,8 @@ pub(crate) struct Session<
     pub(crate) pairs: &'p [LoadedPair<J>],
     pub(crate) console: DeskConsole<'a, J, (), D, W, R>,
     pub(crate) text: String,
-    /// Whether all its lines were answered.
-    pub(crate) done: bool,
+    /// Why it was stopped, if it was.
+    pub(crate) stopped: Option<Stop>,
 }
 
 impl<'a, 'p, 's, 't, J: Judge + Drop, D: Naming, W: Wait + Drop, R: Wait, G: Gate> Model
@@ -58,7 +58,7 @@ impl<'a, 'p, 's, 't, J: Judge + Drop, D: Naming, W: Wait + Drop, R: Wait, G: Gat
       pairs = inside.pairs.now;
       eye = inside.console.eye;
       text = string_bytes inside.text;
-      done = inside.done;
+      stopped = inside.stopped;
     } };
 }
 
@@ -79,10 +79,7 @@ impl<J: Judge + Drop, D: Naming, W: Wait + Drop, R: Wait, G: Gate> Task
             &mut self.console,
             &mut self.text,
         );
-        self.done = match answered {
-            Ok(()) => true,
-            Err(NoMemory) => false,
-        };
+        self.stopped = answered.err();
     }
 }
 
@@ -119,7 +116,7 @@ pub(crate) fn session_of<
       pairs = hall.now.pairs.now;
       eye = eye;
       text = session_line script.now.session;
-      done = false;
+      stopped = None;
     }) }
 {
     let text = head_of(hall.alloc, script.session)?;
@@ -131,7 +128,7 @@ pub(crate) fn session_of<
         pairs: hall.pairs,
         console: DeskConsole::new(hall.rt, hall.desk, hall.bell, eye, ()),
         text,
-        done: false,
+        stopped: None,
     })
 }
 
@@ -155,22 +152,19 @@ impl<J: Judge + Drop, D: Naming, W: Wait + Drop, R: Wait, G: Gate> Session<
     R,
     G,
 > {
-    /// Its eye, and what is to be printed of it. A session that was stopped has met want of memory.
-    pub(crate) fn into_parts(self) -> Result<(Eye<J, D>, String), NoMemory>
-        ensures done { OnOk result (self.entry.done ≡ true) }
-        ensures eye { IfOk result (λ parts. parts.0 ≡ self.entry.eye) }
-        ensures text { IfOk result (λ parts. string_bytes parts.1 ≡ self.entry.text) }
+    /// Its eye, what is to be printed of it, and why it was stopped, if it was.
+    pub(crate) fn into_parts(self) -> (Eye<J, D>, String, Option<Stop>)
+        ensures eye { result.0 ≡ self.entry.eye }
+        ensures text { string_bytes result.1 ≡ self.entry.text }
+        ensures stopped { result.2 ≡ self.entry.stopped }
     {
         let Session {
             console,
             text,
-            done,
+            stopped,
             ..
         } = self;
-        if !done {
-            return Err(NoMemory);
-        }
         let (eye, _stopped) = console.into_eye();
-        Ok((eye, text))
+        (eye, text, stopped)
     }
 }

@@ -1,16 +1,17 @@
 //! Sessions at once, from the start of their desk to its end.
 
-ghost use Rattle.std.specs.Prelude.{◌≡◌, ◌+◌, ◌<◌, ◌≤◌, ◌++◌, List, [], All, IfOk, OnOk, Option};
-ghost use Rattle.std.specs.Prelude.{length, map, true};
+ghost use Rattle.std.specs.Prelude.{◌≡◌, ◌+◌, ◌<◌, ◌≤◌, ◌++◌, ℕ, List, [], All, IfOk, OnOk, Option};
+ghost use Rattle.std.specs.Prelude.{None, Some, length, map};
 ghost use Rattle.std.specs.Arc.{arc_value};
-ghost use Rattle.std.specs.List.{AllByRecursion, AllZip};
+ghost use Rattle.std.specs.List.{AllZip};
 ghost use Rattle.std.specs.String.{string_bytes};
 ghost use Rattle.outside.specs.Files.{Folder};
 ghost use Rattle.edit_core.specs.Seen.{opening_of};
 ghost use Rattle.board_share.specs.Namings.{IsNamed};
 ghost use Rattle.input_lines.specs.Answers.{HasNoBreak};
 ghost use Rattle.team_sessions.specs.Pairs.{IsLoaded, LoadsHeld};
-ghost use Rattle.team_sessions.specs.Seats.{AreBehind, fresh_eyes, seats};
+ghost use Rattle.desk_console.specs.declared.stop.Stop.TheVariants.{Spent};
+ghost use Rattle.team_sessions.specs.Seats.{AreBehind, first_stop, fresh_eyes, seats};
 ghost use Rattle.team_sessions.specs.Sessions.{HasPerformed, IsReady};
 ghost use Rattle.team_sessions.specs.Teams.{IsTeamwork};
 
@@ -20,6 +21,7 @@ use crate::scripts::SessionLines;
 use crate::session::{Hall, Session, session_of};
 use board_share::{Blank, Closed, Desk, Eye, Naming};
 use check_workers::Bell;
+use desk_console::Stop;
 use desk_dialogue::Place;
 use edit_core::Board;
 use lists::NoMemory;
@@ -29,11 +31,17 @@ use std::alloc::Global;
 use std::marker::Brand;
 use std::sync::{Arc, Wait};
 use std::thread::Threads;
-use team_history::{closed_sessions_are_told, heard_sessions_go_on, only_sessions_ask};
+use team_history::{
+    closed_sessions_are_not_spent, closed_sessions_are_told, heard_sessions_go_on,
+    only_sessions_ask,
+};
 use worker_crew::{Crew, Room, crew_of, work_beside_crowd};
 
 /// How many workers and sessions there may be together.
 pub const MOST_AT_ONCE: u64 = 63;
+
+/// How many lines a session may have.
+pub const MOST_LINES: u64 = 16_777_216;
 
 /// What sessions at once have come to.
 #[derive(Drop)]
@@ -45,9 +53,9 @@ pub struct Teamed<J: Judge + Drop> {
 }
 
 /// Opens a desk without a text by a dictionary, and a session over it for each script. All answer
-/// their lines at once, each in a thread of its own, while so many workers check beside them. Where no
-/// thread can be made, they come one after another. The desk is closed at the end. Where memory for
-/// any session is wanting, nothing is told.
+/// their lines at once, each in a thread of its own, while so many workers check beside them. Where
+/// no thread can be made, they come one after another. The desk is closed at the end. Where memory
+/// for any session is wanting, nothing is told.
 pub fn answer_at_once<J, R, G>(
     place: &Place<'_, R, G>,
     workers: u32,
@@ -60,6 +68,7 @@ where
     R: Threads + Wait + Sync,
     G: Gate + Sync,
     requires few { workers + length scripts.now ≤ MOST_AT_ONCE }
+    requires short { All (λ script. length script.lines ≤ MOST_LINES) scripts.now }
     requires whole { All (λ script. All HasNoBreak script.lines) scripts.now }
     requires held { All (λ script. All (LoadsHeld pairs.now) script.lines) scripts.now }
     // The history of the desk tells what is to be printed, by the dictionaries that were loaded.
@@ -84,8 +93,8 @@ fn empty_board<J: Judge + Drop>(alloc: Global, judge: Arc<J>) -> Result<Board<J>
     }
 }
 
-/// Starts a desk of this name with an eye for each worker and each session, and one more, so that there
-/// is a desk where there are none.
+/// Starts a desk of this name with an eye for each worker and each session, and one more, so that
+/// there is a desk where there are none.
 fn answer_named<J, D, R, G>(
     place: &Place<'_, R, G>,
     workers: u32,
@@ -100,6 +109,7 @@ where
     R: Threads + Wait + Sync,
     G: Gate + Sync,
     requires few { workers + length scripts.now ≤ MOST_AT_ONCE }
+    requires short { All (λ script. length script.lines ≤ MOST_LINES) scripts.now }
     requires whole { All (λ script. All HasNoBreak script.lines) scripts.now }
     requires held { All (λ script. All (LoadsHeld pairs.now) script.lines) scripts.now }
     requires opens { opening ≡ opening_of opening.lexicon [] }
@@ -131,16 +141,19 @@ where
     R: Threads + Wait + Sync,
     G: Gate + Sync,
     requires few { workers + length scripts.now ≤ MOST_AT_ONCE }
+    requires short { All (λ script. length script.lines ≤ MOST_LINES) scripts.now }
     requires whole { All (λ script. All HasNoBreak script.lines) scripts.now }
     requires held { All (λ script. All (LoadsHeld pairs.now) script.lines) scripts.now }
     requires eyes { eyes.items
         ≡ fresh_eyes D.opening 0 (workers + length scripts.now + 1) }
     requires parts { D.parts ≡ workers + length scripts.now + 1 }
+    requires empty { D.opening.paragraphs ≡ [] }
     ensures { IfOk result (λ done. (folder : Option Folder)
         → All (IsLoaded J.lexicon folder) pairs.now
         → IsTeamwork folder workers D.opening scripts.now done.closed
         (map string_bytes done.texts.items)) }
 {
+    closed_sessions_are_not_spent();
     closed_sessions_are_told();
     heard_sessions_go_on();
     only_sessions_ask();
@@ -148,18 +161,41 @@ where
     let Some(spare) = eyes.pop() else {
         unreachable!()
     };
-    let Answered { mut eyes, texts } = answer_by(place, workers, &desk, eyes, pairs, scripts)?;
+    let Answered {
+        mut eyes,
+        texts,
+        stopped,
+    } = answer_by(place, workers, &desk, eyes, pairs, scripts)?;
     eyes.push(spare)?;
     let closed = desk.close(place.rt, eyes);
-    Ok(Teamed { texts, closed })
+    concluded(stopped, texts, closed)
 }
 
-/// What the workers and the sessions of a desk leave: their eyes, first those of the workers, and what
-/// is to be printed of each session.
+/// What sessions have come to whose desk is closed. One that was stopped has met want of memory,
+/// since no history gets to its last point.
+fn concluded<J: Judge + Drop>(
+    stopped: Option<Stop>,
+    texts: Vec<String>,
+    closed: Closed<J>,
+) -> Result<Teamed<J>, NoMemory>
+    requires { (point : ℕ) → ¬ (stopped ≡ Some (Spent point)) }
+    ensures none { OnOk result (stopped ≡ None) }
+    ensures all { IfOk result (λ done. done ≡ record { texts = texts; closed = closed }) }
+{
+    match stopped {
+        None => Ok(Teamed { texts, closed }),
+        Some(Stop::Wanting) => Err(NoMemory),
+        Some(Stop::Spent { .. }) => unreachable!(),
+    }
+}
+
+/// What the workers and the sessions of a desk leave: their eyes, first those of the workers, what
+/// is to be printed of each session, and why the first was stopped that was.
 #[derive(Drop)]
 struct Answered<J: Judge + Drop, D: Naming> {
     eyes: Vec<Eye<J, D>>,
     texts: Vec<String>,
+    stopped: Option<Stop>,
 }
 
 /// Lets the workers and the sessions of a desk work: the first eyes are those of the workers.
@@ -184,7 +220,7 @@ where
     ensures { IfOk result (λ answered. AreBehind J.lexicon
         (seats pairs.now scripts.now (fresh_eyes D.opening workers (length scripts.now)))
         (fresh_eyes D.opening 0 workers) answered.eyes.items
-        (map string_bytes answered.texts.items)) }
+        (map string_bytes answered.texts.items) answered.stopped) }
 {
     let mut eyes = eyes;
     let bell = Bell::new(place.alloc)?;
@@ -256,7 +292,7 @@ where
     G: Gate + Sync,
     requires { All IsReady sessions.items }
     ensures { IfOk result (λ answered. AreBehind J.lexicon sessions.entry.items crew.entry
-        answered.eyes.items (map string_bytes answered.texts.items)) }
+        answered.eyes.items (map string_bytes answered.texts.items) answered.stopped) }
 {
     let mut sessions = sessions;
     let mut closing = closing;
@@ -264,14 +300,15 @@ where
     gather(alloc, eyes, sessions)
 }
 
-/// The eyes of sessions behind others, and what is to be printed of each, if none was stopped.
+/// The eyes of sessions behind others, what is to be printed of each, and why the first was stopped
+/// that was.
 fn gather<J: Judge + Drop, D: Naming, W: Wait + Drop, R: Wait, G: Gate>(
     alloc: Global,
     eyes: Vec<Eye<J, D>>,
     sessions: Vec<Session<'_, '_, '_, '_, J, D, W, R, G>>,
 ) -> Result<Answered<J, D>, NoMemory>
-    ensures done { OnOk result
-        (AllByRecursion (λ session. session.done ≡ true) sessions.entry.items) }
+    ensures stopped { IfOk result
+        (λ answered. answered.stopped ≡ first_stop sessions.entry.items) }
     ensures eyes { IfOk result (λ answered. answered.eyes.items
         ≡ eyes.items ++ map (λ session. session.eye) sessions.entry.items) }
     ensures texts { IfOk result (λ answered. map string_bytes answered.texts.items
@@ -279,10 +316,16 @@ fn gather<J: Judge + Drop, D: Naming, W: Wait + Drop, R: Wait, G: Gate>(
 {
     let mut eyes = eyes;
     let mut texts = Vec::with_capacity(alloc, sessions.len())?;
+    let mut stopped = None;
     for session in sessions {
-        let (eye, text) = session.into_parts()?;
+        let (eye, text, cause) = session.into_parts();
         eyes.push(eye)?;
         texts.push(text)?;
+        stopped = stopped.or(cause);
     }
-    Ok(Answered { eyes, texts })
+    Ok(Answered {
+        eyes,
+        texts,
+        stopped,
+    })
 }

@@ -2,13 +2,14 @@
 //! beside workers.
 
 ghost use Rattle.std.specs.Prelude.{◌≡◌, ◌==◌, ◌<◌, ◌≤◌, ◌++◌, ℕ, [], All, map, Option, Some, None};
-ghost use Rattle.std.specs.Prelude.{IfErr, IfOk, IfSome, IsErrOf, OnErr, OnOk, false, true};
+ghost use Rattle.std.specs.Prelude.{IfErr, IfOk, IfSome, IsErrOf, OnErr, OnOk, false, true, length};
 ghost use Rattle.std.specs.Arc.{arc_value};
 ghost use Rattle.std.specs.List.{flat_map};
 ghost use Rattle.std.specs.String.{string_bytes};
 ghost use Rattle.outside.specs.Files.{Folder};
 ghost use Rattle.outside.specs.Sink.{Appends, AppendsFront};
 ghost use Rattle.dictionary_swap.specs.declared.fault.LoadFault.TheVariants.{Failed as FailedLoad};
+ghost use Rattle.dictionary_swap.specs.declared.limits.TheConstants.{SIZE_LIMIT};
 ghost use Rattle.edit_core.specs.Seen.{opening_of};
 ghost use Rattle.board_share.specs.Eyes.{last_of};
 ghost use Rattle.input_lines.specs.Ends.{Reading};
@@ -156,6 +157,7 @@ fn load_team<F: Files>(
 ) -> Result<LoadedTeam, Failure>
     ensures ok { IfOk result (λ team. IsTeamLoaded (F.told files.old) names.now
         (record { lexicon = arc_value team.judge; script = team.script }) team.pairs.items) }
+    ensures few { IfOk result (λ team. length team.script.lines ≤ SIZE_LIMIT) }
     ensures err { IfErr result (IsNotLoaded (F.told files.old) names.now) }
     ensures failed { IsErrOf result (Load FailedLoad) → F.faults files.old < F.faults files.new }
     ensures same { F.told files.new ≡ F.told files.old }
@@ -259,7 +261,8 @@ fn perform<R, G>(
 where
     R: Threads + Wait + Sync,
     G: Gate + Sync,
-    requires { map names_of team.now.pairs.items ≡ team.now.script.pairs }
+    requires pairs { map names_of team.now.pairs.items ≡ team.now.script.pairs }
+    requires few { length team.now.script.lines ≤ SIZE_LIMIT }
     ensures work { IfOk result (λ done. (folder : Option Folder)
         → All (IsLoaded (λ lexicon. lexicon) folder) team.now.pairs.items
         → IsTeamwork folder workers (opening_of (arc_value team.now.judge) [])

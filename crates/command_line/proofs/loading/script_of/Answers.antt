@@ -11,13 +11,13 @@ use Rattle.command_line.proofs.TeamLemmas.{script-comes, script-unfailed}
 use Rattle.command_line.proofs.loading.script_of.Goals as goal
 
 pub returns-in-Ok-clause-due : goal.returns-in-Ok-clause-due
-returns-in-Ok-clause-due c = ap (failing script_failure) c.in-Ok.ensures
+returns-in-Ok-clause-due c = ap (failing script_failure) c.in-Ok.ensures.due
 
 pub returns-in-Err-clause-due : goal.returns-in-Err-clause-due
 returns-in-Err-clause-due c =
     subst (FailsAs MayCome (failing script_failure (script_due c.args.bytes.now)))
     (sym c.from.ensures)
-    (fails-told ScriptMayCome MayCome script_failure script-comes c.in-Err.ensures)
+    (fails-told ScriptMayCome MayCome script_failure script-comes c.in-Err.ensures.due)
 
 pub returns-in-Err-clause-failed : goal.returns-in-Err-clause-failed
 returns-in-Err-clause-failed c = λ is.

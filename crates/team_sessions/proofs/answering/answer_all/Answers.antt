@@ -1,16 +1,19 @@
 -- Each line is answered, or ends the session.
-use Rattle.std.proofs.Common.{◌∙◌, ◌+◌, ap, map, drop, subst, ℕ, List, [], get_or, Bor}
+use Rattle.std.proofs.Common.{arith, ◌+◌, ap, map, drop, subst, ℕ, List, [], get_or, Bor}
 use Rattle.std.specs.String.{string_bytes}
 use Rattle.std.proofs.lemmas.List.{drop_all}
 use Rattle.team_sessions.specs.Sessions.{AnswersLine}
 use Rattle.team_sessions.proofs.Lines.{AreMidway, all-answered, goes-on, next-line, quit-answered}
+use Rattle.team_sessions.proofs.Stops.{asks-more}
 use Rattle.team_sessions.proofs.answering.answer_all.Goals as goal
 
 pub loop-line-preserved : goal.loop-line-preserved
 loop-line-preserved g c =
     let answered = c.in_ok-answer.ensures in
     let d : Bor (List ℕ) = record { ref_ptr = (0, 0); now = [] } in (
-      answered.number ∙ c.loop-line.invariant.0,
+      asks-more c.loop-line.line-index (c.loop-line.line-index + 1) c.args.console.now.eye
+          c.loop-line.console.eye c.answer.new.console.eye c.loop-line.invariant.0 answered.asks
+          (omega arith),
       goes-on g.J.Judge.lexicon c.args.pairs.now c.args.session
           (map (λ line. line.now) c.args.lines.now) c.args.console.now.eye
           (string_bytes c.args.replies.now) c.heard_sessions_go_on.ensures.one_more

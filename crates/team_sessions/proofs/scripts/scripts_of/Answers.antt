@@ -6,7 +6,8 @@ use Rattle.team_sessions.proofs.scripts.scripts_of.Goals as goal
 
 pub loop-before-init : goal.loop-before-init
 loop-before-init c =
-    subst (AreUpTo c.args.script.now 0) (sym c.new-scripts.ensures.items) (none-yet c.args.script.now)
+    subst (AreUpTo c.args.script.now 0) (sym c.new-scripts.ensures.items)
+    (none-yet c.args.script.now)
 
 pub loop-before-preserved : goal.loop-before-preserved
 loop-before-preserved c =
@@ -26,11 +27,16 @@ loop-before-preserved c =
 
 pub returns-clause-scripts : goal.returns-clause-scripts
 returns-clause-scripts c =
-    (up-to-all c.loop-before.invariant c.loop-before-test.false c.loop-before.auto.before-end).scripts_are
+    (up-to-all c.loop-before.invariant c.loop-before-test.false
+    c.loop-before.auto.before-end).scripts_are
 
 pub returns-clause-few : goal.returns-clause-few
 returns-clause-few c =
     (up-to-all c.loop-before.invariant c.loop-before-test.false c.loop-before.auto.before-end).few
+
+pub returns-clause-short : goal.returns-clause-short
+returns-clause-short c =
+    (up-to-all c.loop-before.invariant c.loop-before-test.false c.loop-before.auto.before-end).short
 
 pub returns-clause-whole : goal.returns-clause-whole
 returns-clause-whole c =

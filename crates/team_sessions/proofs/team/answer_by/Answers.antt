@@ -25,7 +25,7 @@ answer_beside-requires-after_bounds g c κs within =
 pub returns : goal.returns
 returns g c =
     behind-seats g.J.Judge.lexicon c.args.pairs.now c.args.scripts.now (λ r. r.eyes.items)
-    (λ r. map string_bytes r.texts.items) c.answer_beside.result
+    (λ r. map string_bytes r.texts.items) (λ r. r.stopped) c.answer_beside.result
     c.in_ok-sessions.ensures
     (later-eyes g.D.Naming.opening c.args.workers (length c.args.scripts.now) c.requires.eyes
     c.in_ok-others.ensures.tail)

@@ -1,10 +1,12 @@
 -- The history is that of the sessions.
-use Rattle.std.proofs.Common.{◌≡◌, ◌∙◌, ◌+◌, ◌++◌, ◌∷◌, [], ap, subst, sym, length, map, arith}
+use Rattle.std.proofs.Common.{◌∙◌, ◌+◌, ◌≤◌, ◌++◌, ◌∷◌, [], ap, subst, sym, length, map}
+use Rattle.std.proofs.lemmas.List.Elements.{recursion_from_All}
 use Rattle.std.specs.List.{range_with_len}
 use Rattle.std.specs.List.Sorted.{IsPermutation}
 use Rattle.board_share.specs.Endings.{IsTheirs}
 use Rattle.board_share.specs.Eyes.{EyeSeen}
-use Rattle.team_sessions.proofs.Closings.{all-permuted, is-teamwork}
+use Rattle.team_sessions.specs.Teams.{Script}
+use Rattle.team_sessions.proofs.Closings.{all-permuted, ended-work, is-teamwork, never-spent}
 use Rattle.team_sessions.proofs.Seats.{some-left, taken-off}
 use Rattle.team_sessions.proofs.team.answer_over.Goals as goal
 
@@ -27,18 +29,34 @@ close-closed-requires g c =
     (map (λ (eye : EyeSeen). eye.number) c.push.new.self.items)) (sym c.requires.parts)
     (subst (λ l. IsPermutation (range_with_len 0 (c.args.workers + length c.args.scripts.now + 1))
     (map (λ (eye : EyeSeen). eye.number) l))
-    (sym (c.in_ok-push.ensures.items ∙ ap (λ eye. c.in_ok-eyes.field-0.eyes.items ++ eye ∷ []) spare))
+    (sym (c.in_ok-push.ensures.items
+    ∙ ap (λ eye. c.in_ok-eyes.field-0.eyes.items ++ eye ∷ []) spare))
     (all-permuted g.J.Judge.lexicon c.args.pairs.now g.D.Naming.opening c.args.workers
-    c.args.scripts.now c.in_ok-eyes.field-0.eyes.items _ behind))
+    c.args.scripts.now c.in_ok-eyes.field-0.eyes.items _ _ behind))
+
+pub concluded-requires : goal.concluded-requires
+concluded-requires g c =
+    let spare = (taken-off g.D.Naming.opening (c.args.workers + length c.args.scripts.now)
+    c.requires.eyes c.in-Some.ensures.items).1 in
+    never-spent g.J.Judge.lexicon c.args.pairs.now g.D.Naming.opening c.args.workers
+    c.args.scripts.now c.in_ok-eyes.field-0.eyes.items _ _ c.in_ok-eyes.ensures
+    c.closed_sessions_are_not_spent.ensures
+    (subst (λ l. IsTheirs l c.close-closed.result)
+    (c.in_ok-push.ensures.items ∙ ap (λ eye. c.in_ok-eyes.field-0.eyes.items ++ eye ∷ []) spare)
+    c.close-closed.ensures)
+    c.requires.empty c.requires.few
+    (recursion_from_All (λ (script : Script). length script.lines ≤ 16777216)
+    c.args.scripts.now c.requires.short)
 
 pub returns : goal.returns
 returns g c =
     let spare = (taken-off g.D.Naming.opening (c.args.workers + length c.args.scripts.now)
     c.requires.eyes c.in-Some.ensures.items).1 in
-    is-teamwork g.J.Judge.lexicon c.args.pairs.now g.D.Naming.opening c.args.workers
-    c.args.scripts.now c.in_ok-eyes.field-0.eyes.items _ c.in_ok-eyes.ensures
+    ended-work _ c.concluded.result c.concluded.ensures.none c.concluded.ensures.all
+    (is-teamwork g.J.Judge.lexicon c.args.pairs.now g.D.Naming.opening c.args.workers
+    c.args.scripts.now c.in_ok-eyes.field-0.eyes.items _ _ c.in_ok-eyes.ensures
     c.heard_sessions_go_on.ensures.start c.closed_sessions_are_told.ensures
     c.only_sessions_ask.ensures
     (subst (λ l. IsTheirs l c.close-closed.result)
     (c.in_ok-push.ensures.items ∙ ap (λ eye. c.in_ok-eyes.field-0.eyes.items ++ eye ∷ []) spare)
-    c.close-closed.ensures)
+    c.close-closed.ensures))
