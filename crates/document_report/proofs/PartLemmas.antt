@@ -1,6 +1,7 @@
 -- What is counted of two parts is counted of both together.
 use Rattle.std.proofs.Common.{◌≡◌, ◌∙◌, ℕ, ◌+◌, List, [], ◌∷◌, ◌++◌, length, map}
 use Rattle.std.proofs.Common.{refl, sym, ap, arith, append_assoc, length-append}
+use Rattle.std.specs.Borrow.{Bor}
 use Rattle.std.specs.List.{flat_map}
 use Rattle.std.specs.Str.{chars}
 use Rattle.std.specs.String.{string_bytes}
@@ -8,13 +9,12 @@ use Rattle.std.proofs.lemmas.List.{length-map, map-append}
 use Rattle.std.proofs.lemmas.Grind.{flat_map-append}
 use Rattle.spell_types.specs.declared.Lexicon.{Lexicon}
 use Rattle.mark_types.specs.Marks.{LocatedWord, located_words, in_paragraph, marks_of}
-use Rattle.document_report.specs.declared.counting.Part.{Part}
 use Rattle.document_report.specs.declared.printing.Output.{Output}
 use Rattle.document_report.specs.declared.printing.Output.TheVariants.{Marks, Summary}
 use Rattle.document_report.specs.declared.printing.Report.{Report}
 use Rattle.document_report.specs.Given.{listed}
-use Rattle.document_report.specs.Parts.{AreOf, IsCounted, each_from, marks_of_part, paragraphs_of}
-use Rattle.document_report.specs.Parts.{words_of_part}
+use Rattle.document_report.specs.Parts.{IsReport, each_from, numbered_marks, numbered_words}
+use Rattle.document_report.specs.Parts.{paragraphs_of}
 use Rattle.document_report.specs.Reports.{line_of}
 use Rattle.document_report.specs.Texts.{lent}
 
@@ -36,61 +36,53 @@ listed-append : (output : Output) (front back : List ℕ)
 listed-append Marks front back = refl
 listed-append (Summary entries) front back = refl
 
-module _ {part front back : Part} (both : AreOf part front back) where
-  paragraphs-both : paragraphs_of part ≡ paragraphs_of front ++ paragraphs_of back
-  paragraphs-both =
-      ap (λ paragraphs. map chars (lent paragraphs)) both.paragraphs
-      ∙ ap (map chars)
-      (map-append (λ text. text.now) front.paragraphs.now back.paragraphs.now)
-      ∙ map-append chars (lent front.paragraphs.now) (lent back.paragraphs.now)
-
+module _ (first : ℕ) (front back : List (Bor (List ℕ))) where
   each-both : (found : List ℕ → List LocatedWord)
-      → each_from found part.first (paragraphs_of part)
-      ≡ each_from found front.first (paragraphs_of front)
-      ++ each_from found back.first (paragraphs_of back)
+      → each_from found first (paragraphs_of (front ++ back))
+      ≡ each_from found first (paragraphs_of front)
+      ++ each_from found (first + length front) (paragraphs_of back)
   each-both found =
-      let count : length (paragraphs_of front) ≡ length front.paragraphs.now =
-      length-map (lent front.paragraphs.now) chars
-      ∙ length-map front.paragraphs.now (λ text. text.now) in
-      let next : part.first + length (paragraphs_of front) ≡ back.first =
-      ap (λ n. part.first + n) count ∙ sym both.follows in
-      ap (each_from found part.first) paragraphs-both
-      ∙ each-append found part.first (paragraphs_of front) (paragraphs_of back)
-      ∙ ap (λ n. each_from found n (paragraphs_of front)
-      ++ each_from found (part.first + length (paragraphs_of front)) (paragraphs_of back))
-      (sym both.begins)
-      ∙ ap (λ n. each_from found front.first (paragraphs_of front)
-      ++ each_from found n (paragraphs_of back)) next
+      let apart : paragraphs_of (front ++ back) ≡ paragraphs_of front ++ paragraphs_of back =
+      ap (map chars) (map-append (λ text. text.now) front back)
+      ∙ map-append chars (lent front) (lent back) in
+      let count : length (paragraphs_of front) ≡ length front =
+      length-map (lent front) chars ∙ length-map front (λ text. text.now) in
+      ap (each_from found first) apart
+      ∙ each-append found first (paragraphs_of front) (paragraphs_of back)
+      ∙ ap (λ n. each_from found first (paragraphs_of front)
+      ++ each_from found (first + n) (paragraphs_of back)) count
 
   pub counted-both : (output : Output) (lexicon : Lexicon) {earlier later all : Report}
-      → IsCounted output lexicon front earlier → IsCounted output lexicon back later
+      → IsReport output lexicon first front earlier
+      → IsReport output lexicon (first + length front) back later
       → string_bytes all.text ≡ string_bytes earlier.text ++ string_bytes later.text
       → all.marks ≡ earlier.marks + later.marks → all.words ≡ earlier.words + later.words
-      → IsCounted output lexicon part all
+      → IsReport output lexicon first (front ++ back) all
   counted-both output lexicon {earlier} {later} {all} one other text marks words =
+      let behind = first + length front in
       let marked = each-both (λ paragraph. marks_of lexicon (paragraph ∷ [])) in
       let cut =
       each-both (λ paragraph. located_words lexicon.affixes.wordchars (paragraph ∷ [])) in
-      let length_is = ap length both.paragraphs
-      ∙ length-append front.paragraphs.now back.paragraphs.now in
       record {
         text = text
             ∙ (ap (λ lines. lines ++ string_bytes later.text) one.text
-            ∙ ap (λ lines. listed output (flat_map line_of (marks_of_part lexicon front)) ++ lines)
+            ∙ ap (λ lines. listed output (flat_map line_of (numbered_marks lexicon first front))
+            ++ lines)
             other.text
-            ∙ sym (listed-append output (flat_map line_of (marks_of_part lexicon front))
-            (flat_map line_of (marks_of_part lexicon back)))
+            ∙ sym (listed-append output (flat_map line_of (numbered_marks lexicon first front))
+            (flat_map line_of (numbered_marks lexicon behind back)))
             ∙ ap (listed output)
             (sym (ap (flat_map line_of) marked
-            ∙ flat_map-append line_of (marks_of_part lexicon front)
-            (marks_of_part lexicon back))));
+            ∙ flat_map-append line_of (numbered_marks lexicon first front)
+            (numbered_marks lexicon behind back))));
         marks = omega (
           arith,
           marks,
           one.marks,
           other.marks,
           ap length marked
-              ∙ length-append (marks_of_part lexicon front) (marks_of_part lexicon back),
+              ∙ length-append (numbered_marks lexicon first front)
+              (numbered_marks lexicon behind back),
         );
         words = omega (
           arith,
@@ -98,8 +90,9 @@ module _ {part front back : Part} (both : AreOf part front back) where
           one.words,
           other.words,
           ap length cut
-              ∙ length-append (words_of_part lexicon front) (words_of_part lexicon back),
+              ∙ length-append (numbered_words lexicon first front)
+              (numbered_words lexicon behind back),
         );
-        few = omega (arith, words, one.few, other.few, length_is);
+        few = omega (arith, words, one.few, other.few, length-append front back);
         fewer = omega (arith, marks, words, one.fewer, other.fewer);
       }

@@ -1,5 +1,9 @@
 -- A part of a text, and what is counted and listed of it.
-use Rattle.std.specs.Prelude.{◌≡◌, ℕ, ◌+◌, ◌*◌, ◌≤◌, List, [], ◌∷◌, ◌++◌, All, length, map}
+use Rattle.std.specs.Prelude.{◌≡◌, ℕ, ◌+◌, ◌*◌, ◌≤◌, List, [], ◌∷◌, All, length, map, take, drop}
+use Rattle.std.specs.Prelude.{Option, None, IfSome, slice_index_or}
+use Rattle.std.specs.Borrow.{Bor}
+use Rattle.std.specs.declared.alloc.Global.{Global}
+use Rattle.std.specs.declared.vec.Vec.{Vec}
 use Rattle.std.specs.List.{flat_map, enumerate_from}
 use Rattle.std.specs.Str.{chars}
 use Rattle.std.specs.String.{string_bytes}
@@ -9,6 +13,7 @@ use Rattle.document_report.specs.Given.{listed}
 use Rattle.document_report.specs.Reports.{line_of}
 use Rattle.document_report.specs.Texts.{lent}
 use Rattle.document_report.specs.declared.counting.Part.{Part}
+use Rattle.document_report.specs.declared.sharing.Shares.{Shares}
 use Rattle.document_report.specs.declared.printing.Output.{Output}
 use Rattle.document_report.specs.declared.printing.Report.{Report}
 use Rattle.paragraph_text.specs.declared.limits.TheConstants.{MOST_PARAGRAPHS, MOST_BYTES}
@@ -19,37 +24,56 @@ each_from found number paragraphs =
     flat_map (λ numbered. map (in_paragraph numbered.0) (found numbered.1))
     (enumerate_from number paragraphs)
 
--- the paragraphs of a part, as their characters
-abbrev pub paragraphs_of : Part → List (List ℕ)
-paragraphs_of part = map chars (lent part.paragraphs.now)
+-- paragraphs that are lent, as their characters
+abbrev pub paragraphs_of : List (Bor (List ℕ)) → List (List ℕ)
+paragraphs_of texts = map chars (lent texts)
 
--- the marks and the words of a part, with their numbers in the whole text
-abbrev pub marks_of_part : Lexicon → Part → List LocatedWord
-marks_of_part lexicon part =
-    each_from (λ paragraph. marks_of lexicon (paragraph ∷ [])) part.first (paragraphs_of part)
+-- the marks and the words of paragraphs, the first of which has this number
+abbrev pub numbered_marks : Lexicon → ℕ → List (Bor (List ℕ)) → List LocatedWord
+numbered_marks lexicon first texts =
+    each_from (λ paragraph. marks_of lexicon (paragraph ∷ [])) first (paragraphs_of texts)
 
-abbrev pub words_of_part : Lexicon → Part → List LocatedWord
-words_of_part lexicon part =
-    each_from (λ paragraph. located_words lexicon.affixes.wordchars (paragraph ∷ [])) part.first
-    (paragraphs_of part)
+abbrev pub numbered_words : Lexicon → ℕ → List (Bor (List ℕ)) → List LocatedWord
+numbered_words lexicon first texts =
+    each_from (λ paragraph. located_words lexicon.affixes.wordchars (paragraph ∷ [])) first
+    (paragraphs_of texts)
 
 -- a part is no longer than a document, and none of its paragraphs is too long
 abbrev pub IsLimited : Part → Type 0
 IsLimited part = (part.first + length part.paragraphs.now ≤ MOST_PARAGRAPHS + 1)
     × All (λ paragraph. length paragraph.now ≤ MOST_BYTES) part.paragraphs.now
 
--- the marks of a part are listed, if marks are to be, and its marks and words are counted
-pub record IsCounted (output : Output) (lexicon : Lexicon) (part : Part) (report : Report) : Type
-    0 where
+-- the marks of paragraphs are listed, if marks are to be, and their marks and words are counted
+pub record IsReport
+    (output : Output) (lexicon : Lexicon) (first : ℕ) (texts : List (Bor (List ℕ)))
+    (report : Report) : Type 0 where
   pub text : string_bytes report.text
-      ≡ listed output (flat_map line_of (marks_of_part lexicon part))
-  pub marks : report.marks ≡ length (marks_of_part lexicon part)
-  pub words : report.words ≡ length (words_of_part lexicon part)
-  pub few : report.words ≤ MOST_BYTES * length part.paragraphs.now
+      ≡ listed output (flat_map line_of (numbered_marks lexicon first texts))
+  pub marks : report.marks ≡ length (numbered_marks lexicon first texts)
+  pub words : report.words ≡ length (numbered_words lexicon first texts)
+  pub few : report.words ≤ MOST_BYTES * length texts
   pub fewer : report.marks ≤ report.words
 
--- two parts stand one behind the other, and together they are this part
-pub record AreOf (part front back : Part) : Type 0 where
-  pub paragraphs : part.paragraphs.now ≡ front.paragraphs.now ++ back.paragraphs.now
-  pub begins : front.first ≡ part.first
-  pub follows : back.first ≡ part.first + length front.paragraphs.now
+abbrev pub IsCounted : Output → Lexicon → Part → Report → Type 0
+IsCounted output lexicon part = IsReport output lexicon part.first part.paragraphs.now
+
+-- the paragraphs of the share at this place, of shares of so many paragraphs
+abbrev pub share_at : ℕ → ℕ → List (Bor (List ℕ)) → List (Bor (List ℕ))
+share_at size place texts = take size (drop (size * place) texts)
+
+-- a report on the share at this place
+abbrev pub IsOfShare : Output → Lexicon → Shares → ℕ → Report → Type 0
+IsOfShare output lexicon shares place =
+    IsReport output lexicon (shares.part.first + shares.size * place)
+    (share_at shares.size place shares.part.paragraphs.now)
+
+-- each of these reports is one on the share at its place
+abbrev pub AreOfShares : Output → Lexicon → Shares → Vec (Option Report) Global → Type 0
+AreOfShares output lexicon shares reports = (place : ℕ)
+    → IfSome (slice_index_or reports.items place None) (IsOfShare output lexicon shares place)
+
+-- a report on so many first shares together
+abbrev pub IsOfFront : Output → Lexicon → Shares → ℕ → Report → Type 0
+IsOfFront output lexicon shares count =
+    IsReport output lexicon shares.part.first
+    (take (shares.size * count) shares.part.paragraphs.now)

@@ -1,14 +1,13 @@
-//! Counts the words and the marks of paragraphs, and lists the marks, in one thread or in several.
+//! Counts the words and the marks of paragraphs, and lists the marks.
 
 ghost use Rattle.std.specs.Prelude.{◌≡◌, ◌+◌, ◌<◌, ◌≤◌, ◌^◌, ◌∷◌, [], ◌++◌, IfOk, OnOk, length};
-ghost use Rattle.std.specs.Thread.{IsSync, IsSend};
 ghost use Rattle.std.specs.Arc.{arc_value};
 ghost use Rattle.std.specs.Str.{chars};
 ghost use Rattle.std.specs.String.{string_bytes};
 ghost use Rattle.mark_types.specs.Marks.{marks_of};
 ghost use Rattle.mark_types.specs.Words.{words_of};
 ghost use Rattle.document_report.specs.Given.{listed};
-ghost use Rattle.document_report.specs.Parts.{AreOf, IsCounted, IsLimited};
+ghost use Rattle.document_report.specs.Parts.{IsCounted, IsLimited};
 ghost use Rattle.document_report.specs.Reports.{lines_of, mark_line, paragraph_lines};
 ghost use Rattle.paragraph_text.specs.declared.limits.TheConstants.{MOST_BYTES};
 
@@ -18,11 +17,10 @@ use mark_types::{Asker, Judge, Mark, marks_are_local};
 use paragraph_marks::check_counted;
 use std::alloc::{AllocError, Global};
 use std::sync::Arc;
-use std::thread::{Threads, join};
 use verdict_cache::Cached;
 
 /// How many verdicts a thread remembers.
-const VERDICTS: usize = 4_096;
+pub const VERDICTS: usize = 4_096;
 
 /// Paragraphs that stand one after another in a document, and the number of the first of them.
 #[derive(Clone, Copy)]
@@ -31,114 +29,33 @@ pub struct Part<'a> {
     pub paragraphs: &'a [&'a str],
 }
 
-impl<'a> Part<'a> {
-    /// The part in two, of which the first has so many of so many shares of its bytes, as nearly as
-    /// whole paragraphs have them.
-    fn split(self, shares: u64, of: u64) -> (Part<'a>, Part<'a>)
-        requires some { 0 < of }
-        requires limited { IsLimited self }
-        ensures parts { AreOf self.entry result.0 result.1 }
-        ensures front { IsLimited result.0 }
-        ensures back { IsLimited result.1 }
-    {
-        let (front, back) = self
-            .paragraphs
-            .split_at(share_of(self.paragraphs, shares, of));
-        let front = Part {
-            first: self.first,
-            paragraphs: front,
-        };
-        let back = Part {
-            first: self.first + front.paragraphs.len() as u64,
-            paragraphs: back,
-        };
-        (front, back)
-    }
-}
-
-/// How many first paragraphs have so many of so many shares of all bytes.
-fn share_of(paragraphs: &[&str], shares: u64, of: u64) -> usize
-    requires { 0 < of }
-    ensures { result ≤ length paragraphs.now }
-{
-    let all = size_of(paragraphs);
-    let share = (all / of).saturating_mul(shares);
-    let mut before = 0u64;
-    for (place, paragraph) in paragraphs.iter().enumerate() {
-        let size = line_size(paragraph);
-        if share <= before.saturating_add(size / 2) {
-            return place;
-        }
-        before = before.saturating_add(size);
-    }
-    paragraphs.len()
-}
-
-/// How many bytes paragraphs take as lines.
-fn size_of(paragraphs: &[&str]) -> u64 {
-    paragraphs.iter().fold(
-        0u64,
-        |size, paragraph| size.saturating_add(line_size(paragraph)),
-    )
-}
-
-fn line_size(paragraph: &str) -> u64 {
-    (paragraph.len() as u64).saturating_add(1)
-}
-
-/// Counts a part in so many threads, of which the caller's is one. Each asks the judge through a
-/// memory of its own. Where a thread cannot be started, the caller does its work.
-#[cycle(threads)]
-pub fn count_in_threads<R: Threads + Sync, J: Judge + Drop + Send + Sync>(
-    rt: &R,
+/// Counts a part by the judge alone.
+pub fn count_alone<J: Judge + Drop>(
     alloc: Global,
     judge: &Arc<J>,
-    threads: u64,
     output: Output,
     part: Part<'_>,
 ) -> Result<Report, NoMemory>
     requires { IsLimited part }
     ensures { IfOk result (IsCounted output (J.lexicon (arc_value judge.now)) part.entry) }
 {
-    if threads < 2 {
-        let mut asker = Cached::new(alloc, Arc::try_clone(judge)?, VERDICTS)?;
-        return count(alloc, &mut asker, output, part);
-    }
-    let fewer = threads / 2;
-    let others = threads - fewer;
-    let (front, back) = part.split(fewer, threads);
-    let count_front = move || -> Result<Report, NoMemory>
-        requires { IsSync R.row × IsSync J.row × IsSend J.row × IsLimited front }
-        ensures { IfOk result
-            (IsCounted output (J.lexicon (arc_value judge.entry.now)) front.entry) }
-    { count_in_threads(rt, alloc, judge, fewer, output, front) };
-    let count_back = move || -> Result<Report, NoMemory>
-        requires { IsSync R.row × IsSync J.row × IsSend J.row × IsLimited back }
-        ensures { IfOk result
-            (IsCounted output (J.lexicon (arc_value judge.entry.now)) back.entry) }
-    { count_in_threads(rt, alloc, judge, others, output, back) };
-    let (earlier, later) = join(rt, count_front, count_back);
-    let mut all = earlier?;
-    all.append(&later?)?;
-    Ok(all)
+    let mut asker = Cached::new(alloc, Arc::try_clone(judge)?, VERDICTS)?;
+    count(alloc, &mut asker, output, part)
 }
 
 /// Counts the words and the marks of a part, and lists the marks, if they are to be listed.
-fn count<K: Asker>(
+pub fn count<K: Asker>(
     alloc: Global,
     asker: &mut K,
     output: Output,
     part: Part<'_>,
 ) -> Result<Report, NoMemory>
     requires { IsLimited part }
-    ensures { IfOk result (IsCounted output (K.lexicon asker.old) part.entry) }
+    ensures counted { IfOk result (IsCounted output (K.lexicon asker.old) part.entry) }
+    ensures same { K.lexicon asker.new ≡ K.lexicon asker.old }
 {
     marks_are_local();
-    let mut report = Report {
-        text: String::new(alloc),
-        marks: 0,
-        words: 0,
-    };
+    let mut report = Report::new(alloc);
     for (place, paragraph) in part.paragraphs.iter().enumerate() {
         report.add(alloc, asker, output, part.first + place as u64, paragraph)?;
     }
@@ -146,6 +63,19 @@ fn count<K: Asker>(
 }
 
 impl Report {
+    /// The report on no paragraphs.
+    pub fn new(alloc: Global) -> Report
+        ensures text { string_bytes result.text ≡ [] }
+        ensures marks { result.marks ≡ 0 }
+        ensures words { result.words ≡ 0 }
+    {
+        Report {
+            text: String::new(alloc),
+            marks: 0,
+            words: 0,
+        }
+    }
+
     /// Adds the marks and the words of the paragraph with this number.
     fn add<K: Asker>(
         &mut self,
@@ -179,7 +109,7 @@ impl Report {
     }
 
     /// Adds what is counted and listed of paragraphs that stand behind these.
-    fn append(&mut self, later: &Report) -> Result<(), NoMemory>
+    pub fn append(&mut self, later: &Report) -> Result<(), NoMemory>
         requires room { self.old.words + later.now.words < 2 ^ 64 }
         requires fewer { self.old.marks ≤ self.old.words }
         requires later_fewer { later.now.marks ≤ later.now.words }

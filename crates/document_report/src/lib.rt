@@ -14,6 +14,7 @@ mod counting;
 mod fault;
 mod paragraphs;
 mod printing;
+mod sharing;
 
 pub use fault::DocumentFault;
 use mark_types::Judge;

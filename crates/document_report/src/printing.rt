@@ -12,7 +12,8 @@ ghost use Rattle.document_report.specs.Reports.{summary_lines};
 ghost use Rattle.document_report.specs.Texts.{lent};
 ghost use Rattle.paragraph_text.specs.declared.limits.TheConstants.{MOST_PARAGRAPHS, MOST_BYTES};
 
-use crate::counting::{Part, count_in_threads};
+use crate::counting::Part;
+use crate::sharing::count_in_threads;
 use lists::NoMemory;
 use mark_types::{Judge, marks_are_local};
 use std::alloc::{AllocError, Global};

@@ -7,8 +7,8 @@ use Rattle.document_report.proofs.ReportLemmas.{lines_from, lines-each, listed-n
 use Rattle.document_report.proofs.ReportLemmas.{marks-each, words_from, words-each}
 use Rattle.document_report.proofs.counting.count.Goals as goal
 
-pub returns : goal.returns
-returns g c =
+pub returns-clause-counted : goal.returns-clause-counted
+returns-clause-counted g c =
     let lexicon = g.K.Asker.lexicon c.args.asker.now in
     let output = c.args.output in
     let texts = c.args.part.paragraphs.now in

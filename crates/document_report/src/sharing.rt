@@ -1,0 +1,203 @@
+//! Counts the paragraphs of a part in several threads. The part is cut into shares, and each thread
+//! takes the first share that none has taken, until all are taken.
+
+ghost use Rattle.std.specs.Prelude.{◌≡◌, ◌+◌, ◌*◌, ◌<◌, ◌≤◌, All, IfOk, OnOk, length};
+ghost use Rattle.std.specs.Thread.{IsSync, IsSend};
+ghost use Rattle.std.specs.Arc.{arc_value};
+ghost use Rattle.document_report.specs.Parts.{AreOfShares, IsCounted, IsLimited, IsOfFront};
+ghost use Rattle.document_report.specs.Parts.{share_at};
+
+use crate::counting::{Part, VERDICTS, count, count_alone};
+use crate::printing::{Output, Report};
+use lists::NoMemory;
+use mark_types::Judge;
+use std::alloc::{AllocError, Global};
+use std::sync::Arc;
+use std::sync::atomic::{AtomicUsize, Ordering};
+use std::thread::{Threads, map_indices};
+use verdict_cache::Cached;
+
+/// How many shares there are for each thread at least, if there are so many paragraphs.
+const SHARES: u64 = 16;
+
+/// How many paragraphs a share has at most.
+const MOST_SHARED: u64 = 16;
+
+/// A part in shares of so many paragraphs, of which the last may have fewer.
+#[derive(Clone, Copy)]
+pub struct Shares<'a> {
+    pub part: Part<'a>,
+    pub size: usize,
+}
+
+/// What a thread gives: for each place the report on the share there, if the thread took it.
+type Taken = Result<Vec<Option<Report>>, NoMemory>;
+
+/// Counts a part in so many threads, of which the caller's is one. Each asks the judge through a
+/// memory of its own. Where a thread cannot be started, the caller does its work.
+pub fn count_in_threads<R: Threads + Sync, J: Judge + Drop + Send + Sync>(
+    rt: &R,
+    alloc: Global,
+    judge: &Arc<J>,
+    threads: u64,
+    output: Output,
+    part: Part<'_>,
+) -> Result<Report, NoMemory>
+    requires { IsLimited part }
+    ensures { IfOk result (IsCounted output (J.lexicon (arc_value judge.now)) part.entry) }
+{
+    if threads < 2 {
+        return count_alone(alloc, judge, output, part);
+    }
+    let shares = Shares {
+        part,
+        size: share_size(part.paragraphs.len(), threads),
+    };
+    let taken = take_in_threads(rt, alloc, judge, threads, output, &shares)?;
+    add_shares(alloc, judge, output, &shares, &taken)
+}
+
+/// How many paragraphs a share has, where so many are for so many threads.
+fn share_size(paragraphs: usize, threads: u64) -> usize
+    requires { 0 < threads }
+    ensures { 0 < result }
+{
+    let shares = threads.saturating_mul(SHARES);
+    (paragraphs as u64 / shares).clamp(1, MOST_SHARED) as usize
+}
+
+impl<'a> Shares<'a> {
+    /// How many shares there are.
+    fn count(&self) -> usize
+        requires { 0 < self.now.size }
+        ensures inside { (place : _) → place < result
+            → self.now.size * place < length self.now.part.paragraphs.now }
+        ensures all { length self.now.part.paragraphs.now ≤ self.now.size * result }
+    {
+        self.part.paragraphs.len().div_ceil(self.size)
+    }
+
+    /// The share at this place.
+    fn share(&self, place: usize) -> Part<'a>
+        requires limited { IsLimited self.now.part }
+        requires inside { self.now.size * place < length self.now.part.paragraphs.now }
+        ensures first { result.first ≡ self.now.part.first + self.now.size * place }
+        ensures paragraphs { result.paragraphs.now
+            ≡ share_at self.now.size place self.now.part.paragraphs.now }
+        ensures limited { IsLimited result }
+    {
+        let from = self.size * place;
+        let left = &self.part.paragraphs[from..];
+        Part {
+            first: self.part.first + from as u64,
+            paragraphs: &left[..self.size.min(left.len())],
+        }
+    }
+}
+
+/// What so many threads give, or fewer, where there are fewer shares.
+fn take_in_threads<R: Threads + Sync, J: Judge + Drop + Send + Sync>(
+    rt: &R,
+    alloc: Global,
+    judge: &Arc<J>,
+    threads: u64,
+    output: Output,
+    shares: &Shares<'_>,
+) -> Result<Vec<Taken>, AllocError>
+    requires limited { IsLimited shares.now.part }
+    requires some { 0 < shares.now.size }
+    ensures { IfOk result (λ taken. All
+        (λ one. IfOk one (AreOfShares output (J.lexicon (arc_value judge.now)) shares.now))
+        taken.items) }
+{
+    let next = &AtomicUsize::new(0);
+    let take = move |_thread: usize| -> Taken
+        requires { IsSync J.row × IsSend J.row
+            × IsLimited shares.now.part × (0 < shares.now.size) }
+        ensures { IfOk result
+            (AreOfShares output (J.lexicon (arc_value judge.entry.now)) shares.entry.now) }
+    { take_shares(alloc, judge, output, shares, next) };
+    map_indices(rt, alloc, shares.count().min(threads as usize), &take)
+}
+
+/// Takes and counts the next share, until all are taken.
+fn take_shares<J: Judge + Drop>(
+    alloc: Global,
+    judge: &Arc<J>,
+    output: Output,
+    shares: &Shares<'_>,
+    next: &AtomicUsize,
+) -> Taken
+    requires limited { IsLimited shares.now.part }
+    requires some { 0 < shares.now.size }
+    ensures { IfOk result (AreOfShares output (J.lexicon (arc_value judge.now)) shares.now) }
+{
+    let mut asker = Cached::new(alloc, Arc::try_clone(judge)?, VERDICTS)?;
+    let mut reports = Vec::new(alloc);
+    let mut mine = next.fetch_add(1, Ordering::SeqCst);
+    for place in 0..shares.count() {
+        if place != mine {
+            reports.push(None)?;
+            continue;
+        }
+        let report = count(alloc, &mut asker, output, shares.share(place))?;
+        reports.push(Some(report))?;
+        mine = next.fetch_add(1, Ordering::SeqCst);
+    }
+    Ok(reports)
+}
+
+/// The report on all shares, in their order.
+fn add_shares<J: Judge + Drop>(
+    alloc: Global,
+    judge: &Arc<J>,
+    output: Output,
+    shares: &Shares<'_>,
+    taken: &[Taken],
+) -> Result<Report, NoMemory>
+    requires limited { IsLimited shares.now.part }
+    requires some { 0 < shares.now.size }
+    requires taken { All
+        (λ one. IfOk one (AreOfShares output (J.lexicon (arc_value judge.now)) shares.now))
+        taken.now }
+    ensures { IfOk result (IsCounted output (J.lexicon (arc_value judge.now)) shares.now.part) }
+{
+    let mut all = Report::new(alloc);
+    for place in 0..shares.count() {
+        add_share(&mut all, alloc, judge, output, shares, place, taken)?;
+    }
+    Ok(all)
+}
+
+/// Adds what a thread gives of the share at this place. Where none gives it, for want of memory,
+/// the share is counted here.
+fn add_share<J: Judge + Drop>(
+    all: &mut Report,
+    alloc: Global,
+    judge: &Arc<J>,
+    output: Output,
+    shares: &Shares<'_>,
+    place: usize,
+    taken: &[Taken],
+) -> Result<(), NoMemory>
+    requires limited { IsLimited shares.now.part }
+    requires inside { shares.now.size * place < length shares.now.part.paragraphs.now }
+    requires taken { All
+        (λ one. IfOk one (AreOfShares output (J.lexicon (arc_value judge.now)) shares.now))
+        taken.now }
+    requires before { IsOfFront output (J.lexicon (arc_value judge.now)) shares.now place all.old }
+    ensures { OnOk result
+        (IsOfFront output (J.lexicon (arc_value judge.now)) shares.now (place + 1) all.new) }
+{
+    for one in taken {
+        if let Ok(reports) = one {
+            if let Some(Some(report)) = reports.get(place) {
+                all.append(report)?;
+                return Ok(());
+            }
+        }
+    }
+    let report = count_alone(alloc, judge, output, shares.share(place))?;
+    all.append(&report)?;
+    Ok(())
+}
