@@ -15,6 +15,7 @@ bin/affedit-ispell-face
 bin/affedit-lint-dictionary
 bin/affedit-prepare-dictionary
 bin/affedit-without-addresses
+include/affedit.h
 lib/affedit/VERSION
 lib/affedit/affedit
 lib/affedit/docs/CONSOLE.md
@@ -35,6 +36,8 @@ lib/affedit/tools/launcher/explaining.bash
 lib/affedit/tools/launcher/statuses
 lib/affedit/tools/lint-dictionary
 lib/affedit/tools/prepare-dictionary
+lib/libaffedit.a
+lib/pkgconfig/affedit.pc
 share/man/man1/affedit.1
 FILES
 
@@ -92,7 +95,18 @@ SAID
         [ "$(head -n 1 lint)" = 'bad.aff:2: TableShort' ] || { echo "$what: the linter says $(head -n 1 lint)"; failed=1; }
     fi
     rm -f made.aff made.dic
+    if [ -n "$(command -v cc)" ] && [ -n "$(command -v pkg-config)" ]; then
+        # shellcheck disable=SC2046
+        cc example.c $(PKG_CONFIG_PATH=$2/lib/pkgconfig pkg-config --cflags --libs affedit) -o example
+        expect "$what: a program in C" 0 ./example "$sample.aff" "$sample.dic" city citys << 'SAID'
+city: generated
+citys: not generated
+SAID
+    fi
 }
+
+# What docs/LIBRARY.md shows of a program in C.
+awk '/^    #include <affedit.h>/ { inside = 1 } inside && /^[^ ]/ { exit } inside { print substr($0, 5) }' "$top/docs/LIBRARY.md" > "$work/example.c"
 
 "$top/tools/install" "$work/prefix" > "$work/said"
 runs 'what is installed' "$work/prefix" ''

@@ -1,0 +1,174 @@
+//! A dictionary behind a handle.
+
+ghost use Rattle.std.specs.Prelude.{◌≡◌, ◌<◌, ◌^◌, length, IfOk, IfErr, OnErr, OnOk};
+ghost use Rattle.std.specs.Arc.{arc_value};
+ghost use Rattle.std.specs.Str.{chars};
+ghost use Rattle.lists.specs.Answers.{GivesDue};
+ghost use Rattle.spell_types.specs.Yields.{yields};
+ghost use Rattle.paragraph_marks.specs.Paragraphs.{marks_in};
+ghost use Rattle.personal_words.specs.Extended.{extended};
+ghost use Rattle.personal_words.specs.Lists.{added, IsAdded, IsRefused};
+ghost use Rattle.affedit_c.specs.Dictionaries.{IsLoaded, in_force, without_words};
+ghost use Rattle.affedit_c.specs.Faults.{MayCome, list_read};
+
+use crate::faults::Refusal;
+use crate::reading::read_list;
+use crate::remembering::Remembering;
+use lists::{Copied, NoMemory};
+use mark_types::{Asker, Marks};
+use paragraph_marks::check;
+use personal_words::{OwnLineFault, OwnList, extend};
+use spell_types::{Lexicon, chars_of};
+use std::alloc::Global;
+use std::marker::Model;
+use std::sync::Arc;
+use word_verdict::Speller;
+
+/// A dictionary that was opened, and personal words. What is asked goes to the base, extended by
+/// the words if there are any. Handles share the base, and what it was extended to; each remembers
+/// verdicts of its own.
+#[derive(Drop)]
+pub struct Kept {
+    base: Arc<Speller>,
+    own: OwnList,
+    /// The dictionary in force beside its last verdicts, once it was asked.
+    asker: Option<Remembering>,
+}
+
+impl Model for Kept {
+    ghost use Rattle.std.specs.Arc.{arc_value};
+    ghost use Rattle.affedit_c.specs.Dictionaries.{IsKept, Seen};
+
+    ghost Value = { Seen };
+
+    ghost view = { λ inside. record { base = arc_value inside.base; own = inside.own } };
+
+    ghost invariant = { λ inside.
+        IsKept (arc_value inside.base) inside.own inside.asker };
+}
+
+impl Kept {
+    /// A dictionary without personal words.
+    pub fn new(alloc: Global, base: Lexicon) -> Result<Box<Kept>, NoMemory>
+        requires { IsLoaded base }
+        ensures { IfOk result (λ kept. kept.value ≡ without_words base) }
+    {
+        let Lexicon { affixes, entries } = base;
+        let speller = Speller::build(alloc, affixes, entries)?;
+        let kept = Kept {
+            base: Arc::new(alloc, speller)?,
+            own: OwnList::new(alloc),
+            asker: None,
+        };
+        Ok(Box::new(alloc, kept)?)
+    }
+
+    /// An equal value, over the same dictionary in memory.
+    pub fn share(&self, alloc: Global) -> Result<Box<Kept>, NoMemory>
+        ensures { IfOk result (λ kept. kept.value ≡ self.now) }
+    {
+        let kept = Kept {
+            base: Arc::try_clone(&self.base)?,
+            own: self.own.copy(alloc)?,
+            asker: shared(alloc, &self.asker)?,
+        };
+        Ok(Box::new(alloc, kept)?)
+    }
+
+    /// Whether the dictionary in force generates a word.
+    pub fn knows(&mut self, alloc: Global, word: &str) -> Result<bool, NoMemory>
+        ensures answer { IfOk result
+            (λ answer. answer ≡ yields (in_force self.old) (chars word.now)) }
+        ensures same { self.new ≡ self.old }
+    {
+        let characters = chars_of(alloc, word)?;
+        let mut asker = self.take_asker(alloc)?;
+        let answer = asker.verdict(alloc, &characters);
+        self.asker = Some(asker);
+        answer
+    }
+
+    /// The marks of a text by the dictionary in force.
+    pub fn marks(&mut self, alloc: Global, text: &str) -> Result<Marks, NoMemory>
+        requires { length text.now < 2 ^ 32 }
+        ensures marks { IfOk result
+            (λ marks. marks ≡ marks_in (in_force self.old) (chars text.now)) }
+        ensures same { self.new ≡ self.old }
+    {
+        let mut asker = self.take_asker(alloc)?;
+        let marks = check(alloc, &mut asker, text);
+        self.asker = Some(asker);
+        marks
+    }
+
+    /// Adds the item of a line to the personal words, and tells whether it has one.
+    pub fn add(&mut self, alloc: Global, line: &str) -> Result<bool, OwnLineFault>
+        ensures added { IfOk result (λ has.
+            IsAdded (added self.old.base.affixes self.old.own line.now) self.old.own has
+            self.new.own) }
+        ensures refused { IfErr result
+            (IsRefused (added self.old.base.affixes self.old.own line.now)) }
+        ensures base { self.new.base ≡ self.old.base }
+        ensures err { OnErr result (self.new ≡ self.old) }
+    {
+        let affixes = &self.base.stems().lexicon().affixes;
+        let has_item = self.own.add(alloc, affixes, line)?;
+        self.asker = None;
+        Ok(has_item)
+    }
+
+    /// Takes the personal words of a list in place of those that there are.
+    pub fn take_list(&mut self, alloc: Global, bytes: &[u8]) -> Result<(), Refusal>
+        ensures due { GivesDue MayCome (λ _. self.new.own)
+            (list_read bytes.now self.old.base.affixes) result }
+        ensures base { self.new.base ≡ self.old.base }
+        ensures err { OnErr result (self.new ≡ self.old) }
+    {
+        let own = read_list(alloc, &self.base.stems().lexicon().affixes, bytes)?;
+        self.own = own;
+        self.asker = None;
+        Ok(())
+    }
+
+    /// Takes what is asked: the dictionary in force beside its last verdicts.
+    fn take_asker(&mut self, alloc: Global) -> Result<Remembering, NoMemory>
+        ensures asker { IfOk result (λ asker. asker ≡ in_force self.old) }
+        ensures same { self.new ≡ self.old }
+    {
+        match self.asker.take() {
+            Some(asker) => Ok(asker),
+            None => Remembering::new(alloc, self.in_force(alloc)?),
+        }
+    }
+
+    /// The dictionary in force, made anew where there are personal words.
+    #[tactic(auto, unfolding(crate::specs::Dictionaries::in_force))]
+    fn in_force(&self, alloc: Global) -> Result<Arc<Speller>, NoMemory>
+        ensures { IfOk result (λ speller. arc_value speller ≡ in_force self.now) }
+    {
+        if self.own.is_empty() {
+            return Ok(Arc::try_clone(&self.base)?);
+        }
+        extended(alloc, &self.base, &self.own)
+    }
+}
+
+/// The base extended by the personal words, ready to be asked.
+fn extended(alloc: Global, base: &Speller, own: &OwnList) -> Result<Arc<Speller>, NoMemory>
+    requires { IsLoaded base.now }
+    ensures { IfOk result (λ speller. arc_value speller ≡ extended base.now own.now) }
+{
+    let Lexicon { affixes, entries } = extend(alloc, base.stems().lexicon(), own)?;
+    let speller = Speller::build(alloc, affixes, entries)?;
+    Ok(Arc::new(alloc, speller)?)
+}
+
+/// What another handle asks, if there is something.
+fn shared(alloc: Global, asker: &Option<Remembering>) -> Result<Option<Remembering>, NoMemory>
+    ensures { IfOk result (λ other. other ≡ asker.now) }
+{
+    match asker {
+        None => Ok(None),
+        Some(asker) => Ok(Some(asker.share(alloc)?)),
+    }
+}

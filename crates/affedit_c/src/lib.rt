@@ -1,0 +1,112 @@
+//! Affedit for C: a dictionary from the bytes of its files, and what it says of words.
+//!
+//! Each function is declared in `include/affedit.h`, with what it takes, returns and frees.
+#![tactic(auto)]
+
+ghost use Rattle.std.specs.Prelude.{◌≡◌, None};
+ghost use Rattle.affedit_c.specs.Answers.{Says, OpenAnswers, ShareAnswers, WordAnswers};
+ghost use Rattle.affedit_c.specs.Answers.{MarkAnswers, AddAnswers, ListAnswers};
+ghost use Rattle.affedit_c.specs.Faults.{dictionary_read, list_read};
+
+mod answers;
+mod calls;
+mod crossing;
+mod faults;
+mod handle;
+mod held;
+mod kept;
+mod marking;
+mod reading;
+mod remembering;
+
+use faults::Fault;
+use handle::Dictionary;
+use marking::MarkSpan;
+use std::alloc::Global;
+
+/// Opens the dictionary that the bytes of an .aff file and of a .dic file are. Where they have a
+/// fault it is told, and the handle keeps what it had.
+#[unsafe(no_mangle)]
+pub extern "C" fn affedit_open(
+    alloc: Global,
+    aff: &[u8],
+    dic: &[u8],
+    dictionary: &mut Dictionary,
+    fault: &mut Fault,
+) -> u32
+    ensures { Says (OpenAnswers (dictionary_read aff.now dic.now) dictionary.old.held.value
+        dictionary.new.held.value fault.old fault.new) result }
+{
+    calls::open(alloc, aff, dic, dictionary, fault).number()
+}
+
+/// Closes a handle. A closed one stays closed.
+#[unsafe(no_mangle)]
+pub extern "C" fn affedit_close(alloc: Global, dictionary: &mut Dictionary)
+    ensures { dictionary.new.held.value ≡ None }
+{
+    *dictionary = Dictionary::closed(alloc);
+}
+
+/// Lets another handle have what a handle has, as one for another thread.
+#[unsafe(no_mangle)]
+pub extern "C" fn affedit_share(
+    alloc: Global,
+    dictionary: &mut Dictionary,
+    other: &mut Dictionary,
+) -> u32
+    ensures answer { Says (ShareAnswers dictionary.old.held.value other.old.held.value
+        other.new.held.value) result }
+    ensures same { dictionary.new.held.value ≡ dictionary.old.held.value }
+{
+    calls::share(alloc, dictionary, other).number()
+}
+
+/// Whether the dictionary generates a word.
+#[unsafe(no_mangle)]
+pub extern "C" fn affedit_word(alloc: Global, dictionary: &mut Dictionary, word: &[u8]) -> u32
+    ensures answer { Says (WordAnswers dictionary.old.held.value word.now) result }
+    ensures same { dictionary.new.held.value ≡ dictionary.old.held.value }
+{
+    calls::ask(alloc, dictionary, word).number()
+}
+
+/// Gives the marks of a text, as many as there is room for, and how many there are in all.
+#[unsafe(no_mangle)]
+pub extern "C" fn affedit_marks(
+    alloc: Global,
+    dictionary: &mut Dictionary,
+    text: &[u8],
+    marks: &mut [MarkSpan],
+    count: &mut usize,
+) -> u32
+    ensures answer { Says (MarkAnswers dictionary.old.held.value text.now marks.old marks.new
+        count.old count.new) result }
+    ensures same { dictionary.new.held.value ≡ dictionary.old.held.value }
+{
+    calls::mark(alloc, dictionary, text, marks, count).number()
+}
+
+/// Adds the item of a line to the personal words of a handle.
+#[unsafe(no_mangle)]
+pub extern "C" fn affedit_add(alloc: Global, dictionary: &mut Dictionary, line: &[u8]) -> u32
+    ensures { Says (AddAnswers dictionary.old.held.value line.now dictionary.new.held.value)
+        result }
+{
+    calls::add(alloc, dictionary, line).number()
+}
+
+/// Takes the personal words that the bytes of a list are in place of those of a handle. Where they
+/// have a fault it is told, and the words stay.
+#[unsafe(no_mangle)]
+pub extern "C" fn affedit_list(
+    alloc: Global,
+    dictionary: &mut Dictionary,
+    list: &[u8],
+    fault: &mut Fault,
+) -> u32
+    ensures { Says (ListAnswers (list_read list.now) dictionary.old.held.value
+        dictionary.new.held.value fault.old fault.new) result }
+{
+    calls::take_list(alloc, dictionary, list, fault).number()
+}

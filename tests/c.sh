@@ -1,0 +1,132 @@
+#!/usr/bin/env bash
+# Whether a program in C is answered as it has to be by the library that tools/library builds: 102,000 words of three made languages, of which is known
+# which are generated; the marks of the same words, with a personal list, beside those of `check`; each cause of a fault; bytes of all kinds as words,
+# texts and files; handles; 8 threads with a handle each; and each allocation refused in turn. The program is built with the sanitizers of addresses and
+# of undefined behaviour, and run once more by valgrind, where they are installed. Prints what differs; the status is 0 where nothing does.
+set -euo pipefail
+top=$(cd "$(dirname "$0")/.." && pwd)
+if [ -z "$(command -v cc)" ]; then
+    echo 'the library for C was not tried, since there is no C compiler' >&2
+    exit 0
+fi
+work=$(mktemp -d -p /tmp)
+trap 'rm -rf "$work"' EXIT
+failed=0
+# Any run builds what is missing; that of `make` reads no file.
+"$top/affedit" make 1 1 > /dev/null || [ $? -eq 1 ]
+program=$top/out/affedit
+library=$("$top/tools/library")
+cd "$work"
+
+# Allocations go through the test's own functions, which may refuse one.
+build() {
+    cc -std=c11 -D_GNU_SOURCE -O1 -g -Wall -Wextra -Werror "${@:2}" -I"$top/include" "$top/tests/c/calls.c" "$library" \
+        -Wl,--wrap=malloc -Wl,--wrap=realloc -pthread -o "$1"
+}
+build plain
+sanitizers=(-fsanitize=address,undefined -fno-sanitize-recover=undefined)
+if echo 'int main(void) { return 0; }' | cc "${sanitizers[@]}" -x c - -o empty 2> /dev/null && ./empty; then
+    build calls "${sanitizers[@]}"
+else
+    echo 'the library for C was tried without sanitizers, which this compiler lacks' >&2
+    cp plain calls
+fi
+# Names that C++ keeps, and headers that a header needs.
+if [ -n "$(command -v c++)" ]; then
+    c++ -Wall -Wextra -Werror -fsyntax-only -x c++ "$top/include/affedit.h"
+fi
+cc -std=c99 -Wall -Wextra -Wpedantic -Werror -fsyntax-only -x c "$top/include/affedit.h"
+
+# same WHAT WANTED GOT: the files are the same.
+same() { cmp "$2" "$3" || { echo "$1 differs"; failed=1; }; }
+
+# runs WHAT COMMAND..: it ends with 0, and what it says is told where it does not.
+runs() { "${@:2}" > said 2>&1 || { echo "$1: status $?"; tail -n 20 said; failed=1; }; }
+
+python3 "$top/tests/c/languages.py" . 34000
+for name in affixes compounds alphabet; do
+    ./calls words $name.aff $name.dic $name.words > got || { echo "$name: status $?"; failed=1; }
+    same "$name: the answers" $name.want got
+    # `check` takes 20,000 lines.
+    head -n 20000 $name.words | paste -sd '  ,\n' > $name.text
+    "$program" check $name.aff $name.dic $name.text > said || true
+    sed '$d' said > wanted
+    ./calls check $name.aff $name.dic $name.text > got || { echo "$name: status $?"; failed=1; }
+    same "$name: the marks" wanted got
+    "$program" check $name.aff $name.dic $name.text --own $name.own > said || true
+    sed '$d' said > wanted
+    ./calls own $name.aff $name.dic $name.own $name.text > got || { echo "$name: status $?"; failed=1; }
+    same "$name: the marks with a list" wanted got
+done
+./calls threads affixes.aff affixes.dic affixes.own affixes.text > said || { echo "threads: status $?"; failed=1; }
+awk '/^-- the threads/ { behind = 1; next } { print > (behind ? "got" : "wanted") }' said
+same 'the threads' wanted got
+runs 'the handles' ./calls handles
+runs 'the bytes' ./calls bytes affixes.aff affixes.dic
+for name in affixes compounds alphabet; do
+    head -n 30 $name.dic > few.dic
+    head -n 40 $name.words > few.words
+    runs "$name: memory" ./calls memory $name.aff few.dic $name.own few.words
+done
+
+# Each cause of a fault, and where it is: the lines of the .aff file, of the .dic file and of a personal list, with bars between lines.
+fault() {
+    printf '%b' "${1//|/\\n}" > f.aff
+    printf '%b' "${2//|/\\n}" > f.dic
+    printf '%b' "${3//|/\\n}" > f.own
+    : > f.text
+    fault_of_files "$4"
+}
+fault_of_files() {
+    "$program" check f.aff f.dic f.text --own f.own > wanted || true
+    ./calls own f.aff f.dic f.own f.text > got || true
+    if ! cmp -s wanted got || ! grep -qx "$1" got; then
+        echo "the fault \`$1\`: \`$(cat got)\`, and by the program \`$(cat wanted)\`"
+        failed=1
+    fi
+}
+fault 'SET UTF-8|\xff|' '0|' '' 'aff 2 NotUtf8'
+fault 'SET ISO8859-1|' '0|' '' 'aff 1 OtherEncoding'
+fault 'SET UTF-8|COMPLEXPREFIXES|' '0|' '' 'aff 2 LeftOut'
+fault 'SET UTF-8|NEEDAFFIX|' '0|' '' 'aff 2 MissingField'
+fault 'SET UTF-8|KEEPCASE a|KEEPCASE b|' '0|' '' 'aff 3 Twice'
+fault 'SET UTF-8|COMPOUNDMIN x|' '0|' '' 'aff 2 BadNumber'
+fault 'SET UTF-8|REP 65001|' '0|' '' 'aff 2 TooMany'
+fault 'SET UTF-8|REP 2|REP a b|' '0|' '' 'aff 2 TableShort'
+fault 'SET UTF-8|FLAG other|' '0|' '' 'aff 2 OtherFlag'
+fault 'SET UTF-8|SFX A X 0|' '0|' '' 'aff 2 BadCross'
+fault 'SET UTF-8|FLAG num|NEEDAFFIX x|' '0|' '' 'aff 3 BadFlag'
+fault 'SET UTF-8|AF 1|AF a|SFX A Y 1|SFX A 0 s/7 .|' '0|' '' 'aff 5 BadAlias'
+fault 'SET UTF-8|SFX A Y 1|SFX A 0 s [a|' '0|' '' 'aff 3 BadCondition'
+fault 'SET UTF-8|COMPOUNDRULE 1|COMPOUNDRULE *a|' '0|' '' 'aff 3 BadPattern'
+fault 'SET UTF-8|' '1|\xc3|' '' 'dic 2 NotUtf8'
+fault 'SET UTF-8|' 'word|' '' 'dic 1 BadCount'
+fault 'SET UTF-8|IGNORE a|' '1|b|a|' '' 'dic 3 EmptyWord'
+fault 'SET UTF-8|FLAG num|' '1|b/x|' '' 'dic 2 BadFlag'
+fault 'SET UTF-8|AF 1|AF a|' '1|b/2|' '' 'dic 2 BadAlias'
+fault 'SET UTF-8|' '1|b|' 'a|\xe4|' 'own 2 NotUtf8'
+fault 'SET UTF-8|' '1|b|' 'a||*|' 'own 3 EmptyWord'
+seq 10001 > f.own
+fault_of_files 'own 10001 TooMany'
+: > f.own
+seq 0 1000001 > f.dic
+fault_of_files 'dic 1000002 TooMany'
+for file in aff dic own; do
+    printf 'SET UTF-8\n' > f.aff
+    printf '0\n' > f.dic
+    : > f.own
+    head -c 16777217 /dev/zero | tr '\0' '\n' >> f.$file
+    ./calls own f.aff f.dic f.own f.text > got || true
+    [ "$(cat got)" = 'limit 16777216' ] || { echo "a large .$file file: $(cat got)"; failed=1; }
+done
+
+if [ -z "$(command -v valgrind)" ]; then
+    echo 'the library for C was not run by valgrind, which is not installed' >&2
+    exit "$failed"
+fi
+watched=(valgrind -q --error-exitcode=9 --leak-check=full --show-leak-kinds=all --errors-for-leak-kinds=all ./plain)
+head -n 40 alphabet.text > few.text
+runs 'valgrind: the handles' "${watched[@]}" handles
+runs 'valgrind: threads' "${watched[@]}" threads alphabet.aff alphabet.dic alphabet.own few.text
+runs 'valgrind: memory' "${watched[@]}" memory alphabet.aff few.dic alphabet.own few.words
+exit "$failed"
