@@ -1,0 +1,241 @@
+/*
+ * A provider for Enchant 2 that asks Affedit's library. A dictionary TAG is a pair of files, TAG.aff and TAG.dic, in the first folder that has
+ * both: the one that AFFEDIT_DICTIONARIES names, the folder `affedit` beside the user's settings of Enchant, and /usr/share/hunspell. It suggests
+ * nothing. Words of the user's are Enchant's own matter, except those of a session, which are added here too: so their capitals are known, and
+ * compounds that the dictionary makes of them.
+ *
+ * Nothing here is proved. What affedit.h asks of its callers holds where one thread at a time uses a dictionary, which Enchant asks too.
+ */
+#include <affedit.h>
+#include <enchant-provider.h>
+#include <glib.h>
+#include <gmodule.h>
+#include <string.h>
+
+static const char SYSTEM_FOLDER[] = "/usr/share/hunspell";
+
+/* ---- where dictionaries are */
+
+/* The folders, as strings of the caller's. */
+static GPtrArray *folders(void) {
+    GPtrArray *all = g_ptr_array_new_with_free_func(g_free);
+    const char *named = g_getenv("AFFEDIT_DICTIONARIES");
+    char *settings = enchant_get_user_config_dir();
+    if (named && *named) g_ptr_array_add(all, g_strdup(named));
+    if (settings) g_ptr_array_add(all, g_build_filename(settings, "affedit", NULL));
+    g_ptr_array_add(all, g_strdup(SYSTEM_FOLDER));
+    g_free(settings);
+    return all;
+}
+
+/* A file of a folder, FOLDER/TAG.END, if there is one; else NULL. */
+static char *file_of(const char *folder, const char *tag, const char *end) {
+    char *base = g_strconcat(tag, end, NULL), *name = g_build_filename(folder, base, NULL);
+    g_free(base);
+    if (g_file_test(name, G_FILE_TEST_IS_REGULAR)) return name;
+    g_free(name);
+    return NULL;
+}
+
+/* The names of both files of a dictionary, as strings of the caller's, and whether there are such files. */
+static bool find(const char *tag, char **aff, char **dic) {
+    bool is_found = false;
+    *aff = *dic = NULL;
+    /* A tag names no other folder. */
+    if (strchr(tag, G_DIR_SEPARATOR)) return false;
+    GPtrArray *all = folders();
+    for (guint i = 0; i < all->len && !is_found; i++) {
+        *aff = file_of(all->pdata[i], tag, ".aff");
+        *dic = file_of(all->pdata[i], tag, ".dic");
+        is_found = *aff && *dic;
+        if (!is_found) {
+            g_free(*aff);
+            g_free(*dic);
+            *aff = *dic = NULL;
+        }
+    }
+    g_ptr_array_free(all, TRUE);
+    return is_found;
+}
+
+/* ---- what is wrong with a file */
+
+static const char *const AFF_CAUSES[] = {
+    [AFFEDIT_AFF_NOT_UTF8] = "the line is not UTF-8",
+    [AFFEDIT_AFF_OTHER_ENCODING] = "the file is in another encoding than UTF-8",
+    [AFFEDIT_AFF_LEFT_OUT] = "the dictionary needs an option that is not built",
+    [AFFEDIT_AFF_MISSING_FIELD] = "the line lacks a field that its option needs",
+    [AFFEDIT_AFF_TWICE] = "it is said again, or is past the rows of its table",
+    [AFFEDIT_AFF_BAD_NUMBER] = "no number, too high a number, or no header of its class above",
+    [AFFEDIT_AFF_TOO_MANY] = "more rows or rules are announced than are allowed",
+    [AFFEDIT_AFF_TABLE_SHORT] = "the table announces more rows than it has",
+    [AFFEDIT_AFF_OTHER_FLAG] = "there is no such type of flags",
+    [AFFEDIT_AFF_BAD_CROSS] = "neither Y nor N",
+    [AFFEDIT_AFF_BAD_FLAG] = "no flag, or no list of flags, of the type that FLAG names",
+    [AFFEDIT_AFF_BAD_ALIAS] = "not the number of a row of AF",
+    [AFFEDIT_AFF_BAD_CONDITION] = "a bracket of the condition is not closed",
+    [AFFEDIT_AFF_BAD_PATTERN] = "the compound rule is not a list of flags with * or ?",
+};
+
+static const char *const DIC_CAUSES[] = {
+    [AFFEDIT_DIC_NOT_UTF8] = "the line is not UTF-8",
+    [AFFEDIT_DIC_BAD_COUNT] = "the first line does not begin with the number of entries",
+    [AFFEDIT_DIC_EMPTY_WORD] = "the entry has no word",
+    [AFFEDIT_DIC_BAD_FLAG] = "no list of flags of the type that FLAG names",
+    [AFFEDIT_DIC_BAD_ALIAS] = "not the number of a row of AF",
+    [AFFEDIT_DIC_TOO_MANY] = "there are more than 1,000,000 entries",
+};
+
+/* Takes a message, and frees it. */
+static void tell(EnchantProvider *provider, char *message) {
+    enchant_provider_set_error(provider, message);
+    g_free(message);
+}
+
+static void tell_fault(EnchantProvider *provider, const char *aff, const char *dic, affedit_fault fault) {
+    bool is_aff = fault.file == AFFEDIT_AFF_FILE;
+    const char *file = is_aff ? aff : dic;
+    if (fault.cause == 0)
+        tell(provider, g_strdup_printf("%s: the file has more than 16,777,216 bytes", file));
+    else
+        tell(provider, g_strdup_printf("%s:%" G_GUINT64_FORMAT ": %s", file, fault.line, (is_aff ? AFF_CAUSES : DIC_CAUSES)[fault.cause]));
+}
+
+/* The bytes of a file, which are the caller's, or NULL, which is told. */
+static char *read_file(EnchantProvider *provider, const char *name, gsize *length) {
+    char *bytes = NULL;
+    GError *error = NULL;
+    if (g_file_get_contents(name, &bytes, length, &error)) return bytes;
+    tell(provider, g_strdup_printf("%s: %s", name, error->message));
+    g_error_free(error);
+    return NULL;
+}
+
+/* ---- a dictionary */
+
+/* 0 for a word that the dictionary generates, and 1 for another one; below 0 where it can't be said. */
+static int check(EnchantDict *dict, const char *word, size_t length) {
+    switch (affedit_word(dict->user_data, (const uint8_t *)word, length)) {
+    case AFFEDIT_KNOWN:
+        return 0;
+    case AFFEDIT_UNKNOWN:
+    case AFFEDIT_NOT_UTF8:
+        return 1;
+    default:
+        enchant_dict_set_error(dict, "there is too little memory");
+        return -1;
+    }
+}
+
+/* Whether a line of a personal list says just this word: it has no sign of such lists, blank or control character. */
+static bool is_plain(const char *word, size_t length) {
+    for (size_t i = 0; i < length; i++)
+        if ((unsigned char)word[i] <= ' ' || word[i] == 127 || strchr("*/\\", word[i])) return false;
+    return true;
+}
+
+/* Enchant keeps the words of a session too, and asks them first. So nothing is lost where one can't be added here. */
+static void add_to_session(EnchantDict *dict, const char *word, size_t length) {
+    if (is_plain(word, length)) affedit_add(dict->user_data, (const uint8_t *)word, length);
+}
+
+static EnchantDict *request_dict(EnchantProvider *provider, const char *tag) {
+    EnchantDict *dict = NULL;
+    char *aff, *dic, *aff_bytes = NULL, *dic_bytes = NULL;
+    gsize aff_length, dic_length;
+    if (!find(tag, &aff, &dic)) return NULL;
+    aff_bytes = read_file(provider, aff, &aff_length);
+    if (aff_bytes) dic_bytes = read_file(provider, dic, &dic_length);
+    if (dic_bytes) {
+        affedit_dictionary dictionary = AFFEDIT_CLOSED_HANDLE;
+        affedit_fault fault;
+        switch (affedit_open((uint8_t *)aff_bytes, aff_length, (uint8_t *)dic_bytes, dic_length, &dictionary, &fault)) {
+        case AFFEDIT_DONE:
+            dict = g_new0(EnchantDict, 1);
+            dict->user_data = g_memdup2(&dictionary, sizeof dictionary);
+            dict->check = check;
+            dict->add_to_session = add_to_session;
+            break;
+        case AFFEDIT_FAULTY:
+            tell_fault(provider, aff, dic, fault);
+            break;
+        default:
+            tell(provider, g_strdup_printf("%s: there is too little memory", dic));
+        }
+    }
+    g_free(aff);
+    g_free(dic);
+    g_free(aff_bytes);
+    g_free(dic_bytes);
+    return dict;
+}
+
+static void dispose_dict(EnchantProvider *provider, EnchantDict *dict) {
+    (void)provider;
+    affedit_close(dict->user_data);
+    g_free(dict->user_data);
+    g_free(dict);
+}
+
+/* ---- the provider */
+
+static int dictionary_exists(EnchantProvider *provider, const char *tag) {
+    (void)provider;
+    char *aff, *dic;
+    bool is_found = find(tag, &aff, &dic);
+    g_free(aff);
+    g_free(dic);
+    return is_found;
+}
+
+/* The tags of all pairs, each once, in a list that ends with NULL and that Enchant frees. */
+static char **list_dicts(EnchantProvider *provider, size_t *count) {
+    GHashTable *tags = g_hash_table_new(g_str_hash, g_str_equal);
+    GPtrArray *all = folders(), *list = g_ptr_array_new();
+    for (guint i = 0; i < all->len; i++) {
+        GDir *folder = g_dir_open(all->pdata[i], 0, NULL);
+        const char *name;
+        while (folder && (name = g_dir_read_name(folder))) {
+            if (!g_str_has_suffix(name, ".aff")) continue;
+            char *tag = g_strndup(name, strlen(name) - strlen(".aff"));
+            if (*tag && !g_hash_table_contains(tags, tag) && dictionary_exists(provider, tag)) {
+                g_hash_table_add(tags, tag);
+                g_ptr_array_add(list, tag);
+            } else
+                g_free(tag);
+        }
+        if (folder) g_dir_close(folder);
+    }
+    *count = list->len;
+    g_ptr_array_add(list, NULL);
+    g_ptr_array_free(all, TRUE);
+    g_hash_table_destroy(tags);
+    return (char **)g_ptr_array_free(list, FALSE);
+}
+
+static const char *identify(EnchantProvider *provider) {
+    (void)provider;
+    return "affedit";
+}
+
+static const char *describe(EnchantProvider *provider) {
+    (void)provider;
+    return "Affedit Provider";
+}
+
+static void dispose(EnchantProvider *provider) { g_free(provider); }
+
+/* What Enchant calls as it loads the module. */
+G_MODULE_EXPORT EnchantProvider *init_enchant_provider(void);
+
+EnchantProvider *init_enchant_provider(void) {
+    EnchantProvider *provider = g_new0(EnchantProvider, 1);
+    provider->dispose = dispose;
+    provider->request_dict = request_dict;
+    provider->dispose_dict = dispose_dict;
+    provider->dictionary_exists = dictionary_exists;
+    provider->identify = identify;
+    provider->describe = describe;
+    provider->list_dicts = list_dicts;
+    return provider;
+}
