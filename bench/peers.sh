@@ -1,18 +1,19 @@
 #!/usr/bin/env bash
-# Times `check`, nuspell's library and hunspell's on the same words, by a list of a hundred words and by dictionaries of
-# Debian's packages, and prints a row of a table for each. A second table has the instructions that callgrind counts, which do not
-# depend on what else runs: of the load, and for each of the first 30,000 words, the program in lines of twenty. The words are those of 2 MB of running text in the dictionary's
-# language, cut by this script (letters, with apostrophes between them). The libraries judge them one after another; the
-# program reads them in lines of twenty, and in lines of two hundred too. Seconds are the processor's, the least of three
-# runs; a word is the time of all words, less that of no word, the load. The memory is the most that a run on the words used,
-# and a megabyte 1024 kB. What is refused are words that occur. Packages are fetched and unpacked, not installed;
-# libhunspell-dev, libnuspell-dev, g++ and valgrind are asked for.
+# Times `check`, the library for C, nuspell's library and hunspell's on the same words, by a list of a hundred words and by dictionaries of Debian's
+# packages, and prints a row of a table for each, or for those that are named: bench/peers.sh [NAME..], as list or en_US. A second table has the
+# instructions that callgrind counts, which do not depend on what else runs: of the load, and for each of the first 30,000 words, the program and
+# the library for C in lines of twenty. The words are those of 2 MB of running text in the dictionary's language, cut by this script (letters, with
+# apostrophes between them). The libraries judge them one after another; the program reads them in lines of twenty, and in lines of two hundred too,
+# and so does the library for C. Seconds are the processor's, the least of three runs; a word is the time of all words, less that of no word, the
+# load. The memory is the most that a run on the words used, and a megabyte 1024 kB. What is refused are words that occur. Packages are fetched and
+# unpacked, not installed; libhunspell-dev, libnuspell-dev, g++ and valgrind are asked for.
 set -euo pipefail
 top=$(cd "$(dirname "$0")/.." && pwd)
 work=$(mktemp -d)
 trap 'rm -rf "$work"' EXIT
 cd "$work"
 export LC_ALL=C.UTF-8
+named=" $* "
 
 # A program `peer AFF DIC WORDS` that prints how many of the words, one a line, a library refuses.
 build_peer() {
@@ -37,6 +38,41 @@ build_peer hunspell 'Hunspell dictionary(names[1], names[2]);'
 build_peer nuspell 'std::ifstream aff(names[1]), dic(names[2]);
     nuspell::Dictionary dictionary;
     dictionary.load_aff_dic(aff, dic);'
+
+# The same by the library for C: `library AFF DIC WORDS`, a call for each word, and `library text AFF DIC TEXT`, one for each line.
+cat > library.cc << 'CODE'
+#include <affedit.h>
+#include <fstream>
+#include <iostream>
+#include <iterator>
+static std::string all(const char *name) {
+    std::ifstream file(name);
+    return std::string(std::istreambuf_iterator<char>(file), {});
+}
+static const uint8_t *bytes(const std::string &text) { return reinterpret_cast<const uint8_t *>(text.data()); }
+int main(int count, char **names) {
+    bool is_text = count == 5;
+    names += is_text;
+    affedit_dictionary dictionary = AFFEDIT_CLOSED_HANDLE;
+    affedit_fault fault;
+    {
+        std::string aff = all(names[1]), dic = all(names[2]);
+        if (affedit_open(bytes(aff), aff.size(), bytes(dic), dic.size(), &dictionary, &fault) != AFFEDIT_DONE) return 1;
+    }
+    std::ifstream lines(names[3]);
+    std::string line;
+    size_t refused = 0, marks = 0;
+    affedit_mark first;
+    while (std::getline(lines, line))
+        if (!is_text)
+            refused += affedit_word(&dictionary, bytes(line), line.size()) != AFFEDIT_KNOWN;
+        else if (affedit_marks(&dictionary, bytes(line), line.size(), &first, 1, &marks) == AFFEDIT_DONE)
+            refused += marks;
+    std::cout << refused << " refused\n";
+    affedit_close(&dictionary);
+}
+CODE
+g++ -std=c++17 -O2 -I"$top/include" -o library library.cc "$("$top/tools/library")"
 
 # The package in a folder of its name.
 unpack() {
@@ -97,8 +133,8 @@ row() {
         echo "$name: check says $said" >&2
         return
     fi
-    echo "| ${name##*/} | $count |$(cells "$program" check "$name.aff" "$name.dic")$(cells ./nuspell "$name.aff" "$name.dic")$(cells ./hunspell "$name.aff" "$name.dic")"
-    echo "| ${name##*/} |$(counted "$program" check "$name.aff" "$name.dic")$(counted ./nuspell "$name.aff" "$name.dic")$(counted ./hunspell "$name.aff" "$name.dic")" >> counts
+    echo "| ${name##*/} | $count |$(cells "$program" check "$name.aff" "$name.dic")$(cells ./library "$name.aff" "$name.dic")$(cells ./library text "$name.aff" "$name.dic")$(cells ./nuspell "$name.aff" "$name.dic")$(cells ./hunspell "$name.aff" "$name.dic")"
+    echo "| ${name##*/} |$(counted "$program" check "$name.aff" "$name.dic")$(counted ./library "$name.aff" "$name.dic")$(counted ./library text "$name.aff" "$name.dic")$(counted ./nuspell "$name.aff" "$name.dic")$(counted ./hunspell "$name.aff" "$name.dic")" >> counts
 }
 
 # Both files in UTF-8, where they are in another encoding.
@@ -123,16 +159,18 @@ words_of() {
 printf '0\n' > zero.dic
 "$top/affedit" check /dev/null zero.dic /dev/null > /dev/null
 program=$top/out/affedit
-echo '| dictionary | words | load | a word in twenties | in two hundreds | memory | refused | nuspell: load | a word | memory | refused | hunspell: load | a word | memory | refused |'
-echo '|---|---|---|---|---|---|---|---|---|---|---|---|---|---|---|'
+echo '| dictionary | words | load | a word in twenties | in two hundreds | memory | refused | C: load | a word | memory | refused | C, lines: load | a word in twenties | in two hundreds | memory | refused | nuspell: load | a word | memory | refused | hunspell: load | a word | memory | refused |'
+echo '|---|---|---|---|---|---|---|---|---|---|---|---|---|---|---|---|---|---|---|---|---|---|---|---|'
 
 # A word of three syllables for a number, as babebi for 0; every tenth word is no word of the list.
 word='function word(i) { return substr("bdfgklmnrt", i % 10 + 1, 1) "a" substr("bdfgklmnrt", int(i / 10) % 10 + 1, 1) "e" substr("bdfgklmnrt", int(i / 100) % 10 + 1, 1) "i" }'
 printf 'SET UTF-8\n' > list.aff
 awk "$word"' BEGIN { print 100; for (i = 0; i < 100; i++) print word(i) }' > list.dic
 awk "$word"' BEGIN { for (l = 0; l < 300000; l++) print word((l * 7) % 100 + (l % 10 == 9 ? 100 : 0)) }' > words
-row list
+is_wanted() { [ "$named" = '  ' ] || [[ $named == *" $1 "* ]]; }
+! is_wanted list || row list
 while read -r package name manual; do
+    is_wanted "$name" || continue
     unpack "$package"
     unpack "$manual"
     convert "$package/usr/share/hunspell/$name"
@@ -152,6 +190,6 @@ hunspell-pl pl_PL manpages-pl
 hunspell-cs cs_CZ manpages-cs
 PAIRS
 echo
-echo '| dictionary | load | a word | nuspell: load | a word | hunspell: load | a word |'
-echo '|---|---|---|---|---|---|---|'
+echo '| dictionary | load | a word | C: load | a word | C, lines: load | a word | nuspell: load | a word | hunspell: load | a word |'
+echo '|---|---|---|---|---|---|---|---|---|---|---|'
 cat counts
