@@ -5,13 +5,14 @@
 # - `edit` in three dialogues: edits with a paragraph that is stopped and asked for, and marks that are shown; a dictionary that is loaded,
 #   and another one that is refused; a personal list, to which words are added. And in one with two workers, each of its looks behind a `settle`.
 # - `team` with two and with three sessions, without workers and with two; `pipe`, `forms` and `make`.
-# - A test of desks, which says itself whether it passes.
+# - Tests of desks, which say themselves whether they pass: events that find no memory; and `Board::next`, `Desk::publish`, `Desk::claim` and
+#   `settle`, behind each of which the board of before is shown where it finds none, and which pass when they are called again.
 # Then the same with each start of a thread in place of each request for memory: such a run has to end as one in which none fails.
 # With a number K as its word, it tries each K-th request alone. Four runs go at once.
 # Each run has to end within a minute, as the run without a failing request or with status 7 and `memory`: alone, or behind whole first
 # replies of a dialogue. Where threads may change what is printed, tests/team_history.py decides whether one history explains it.
 # Prints a row for each: how many requests failed, and what the runs ended with. Ends with status 1 if one ended otherwise, and with 2 where
-# the test of desks is not built. Needs gcc and Python 3.
+# a test of desks is not built. Needs gcc and Python 3.
 set -euo pipefail
 top=$(cd "$(dirname "$0")/.." && pwd)
 work=$(mktemp -d)
@@ -389,19 +390,39 @@ PYTHON
 wrong=0
 python3 "$work/runs.py" "$top" "$work" "$program" "${1:-1}" || wrong=1
 
-# The test of a desk with little memory, which passes where an event that finds none is not seen, and each other one is.
-tests=$top/crates/desk_tests/out/desk_tests_tests
-[ -x "$tests" ] || { echo "run rt ci first: $tests is not built" >&2; exit 2; }
-for which in $(seq 1 100000); do
-    status=0
-    FAIL_ALLOCATION=$which LD_PRELOAD=$work/fail.so timeout 60 "$tests" tests::memory::an_event_without_memory_is_not_seen > /dev/null 2> "$work/told" || status=$?
-    if ! grep -q failed "$work/told"; then
-        echo "a desk: $((which - 1)) allocations failed in turn"
-        break
-    fi
-    if [ "$status" != 0 ]; then
-        echo "a desk: the test fails where allocation $which does"
-        wrong=1
-    fi
-done
+# Tests of desks, each of which passes whichever request fails. refuse CRATE TEST: makes each request of a test fail in turn, and tells in
+# `refused` how many there are.
+refuse() {
+    local tests=$top/crates/$1/out/${1}_tests which status
+    [ -x "$tests" ] || { echo "run rt ci first: $tests is not built" >&2; exit 2; }
+    for which in $(seq 1 100000); do
+        status=0
+        FAIL_ALLOCATION=$which LD_PRELOAD=$work/fail.so timeout 60 "$tests" "tests::memory::$2" > /dev/null 2> "$work/told" || status=$?
+        grep -q failed "$work/told" || break
+        if [ "$status" != 0 ]; then
+            echo "$2: the test fails where request $which does"
+            wrong=1
+        fi
+    done
+    [ "$status" = 0 ] || { echo "$2: the test fails where no request does"; wrong=1; }
+    refused=$((which - 1))
+}
+
+# An event that finds no memory is not seen by another eye, and each other one is.
+refuse desk_tests an_event_without_memory_is_not_seen
+printf '\n| test of desks | requests that failed in turn | of these in the calls |\n|---|---|---|\n| `an_event_without_memory_is_not_seen` | %s | |\n' "$refused"
+# Behind a call that finds no memory both eyes see the board of before, and the same call passes then. Another test takes all memory that is
+# taken before the calls, and makes none: what is left are the requests within the calls.
+while read -r before test; do
+    refuse worker_tests "$before"
+    outside=$refused
+    refuse worker_tests "$test"
+    echo "| \`$test\` | $refused | $((refused - outside)) |"
+    [ "$refused" -gt "$outside" ] || { echo "$test: no request is made in its calls"; wrong=1; }
+done << 'TESTS'
+boards_stand_before_events a_next_without_memory_leaves_the_board
+boards_stand_before_events a_publish_without_memory_shows_the_board_of_before
+a_board_stands_before_a_check a_claim_without_memory_shows_the_board_of_before
+a_board_stands_before_a_check a_settle_without_memory_shows_the_board_of_before
+TESTS
 exit "$wrong"
