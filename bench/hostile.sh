@@ -1,10 +1,10 @@
 #!/usr/bin/env bash
-# Makes the worst dictionaries and words that we know of by the rules of hunspell(5), in a folder of its own: words of one hash, homonyms, flags in
-# falling order, rules that leave many stems, patterns and replacements of joints, rows of REP, BREAK and ICONV, compound rules, pairs of sharp s in
-# capitals, compounds of short parts, and words of the most characters. Each is checked by `check` as one text. Then `edit` is asked of its words one by
-# one, and the processor time of each is read from Linux. Prints a row for each: the bytes of its two files, the seconds of the processor for the load
-# and for the slowest word, a star where that is more than 10 milliseconds, and the most memory. With the word `small` the dictionaries are small ones. Other
-# words name rows: those are run in which one of them stands.
+# Makes the worst dictionaries and words that we know of by the rules of hunspell(5), in a folder of its own: words of one hash, homonyms, flags and
+# classes in falling order, aliases of many flags that many rules carry, rules that leave many stems, patterns and replacements of joints, rows of
+# REP, BREAK and ICONV, compound rules, pairs of sharp s in capitals, compounds of short parts, and words of the most characters. Each is checked by
+# `check` as one text. Then `edit` is asked of its words one by one, and the processor time of each is read from Linux. Prints a row for each: the
+# bytes of its two files, the seconds of the processor for the load and for the slowest word, a star where that is more than 10 milliseconds, and the
+# most memory. With the word `small` the dictionaries are small ones. Other words name rows: those are run in which one of them stands.
 # Ends with status 1 where a run takes longer than 60 seconds of the processor, or ends otherwise than with 0 or 1 and a last line `M of W`; other cases go on.
 # Needs Python 3.
 set -euo pipefail
@@ -107,6 +107,21 @@ def falling_flags(count):
         lines = [f'w{number}/' + ','.join(map(str, [*flags[number:], *flags[:number]])) for number in range(count)]
         return ['FLAG num', 'NEEDAFFIX 1'], lines, ['w0', 'w1x', 'W0']
     return made
+
+
+def aliased_rules(count):
+    """Suffix rules that carry one alias of many flags each, or several in turn."""
+    def made():
+        flags = size(65_000, 5_000)
+        aliases = [','.join(map(str, range(first, flags + 1))) for first in range(1, count + 1)]
+        rows = [f'0 s/{number % count + 1} .' for number in range(size(2_000, 200))]
+        return ['FLAG num', f'AF {count}', *(f'AF {alias}' for alias in aliases), *rules('SFX', '1', rows)], ['foo'], ['foo', 'foos', 'food']
+    return made
+
+
+def falling_classes():
+    classes = [line for flag in range(size(65_000, 2_000), 0, -1) for line in rules('SFX', flag, ['0 s .'])]
+    return ['FLAG num', *classes], ['foo/1'], ['foo', 'foos', 'food']
 
 
 def one_stem_by_many_rules():
@@ -223,6 +238,9 @@ CASES = {
     f'{size(100_000, 2_000):,} homonyms as parts of compounds': homonyms_in_compounds,
     f'an entry with {size(65_000, 5_000):,} flags in falling order': falling_flags(1),
     f'20 entries with {size(65_000, 5_000):,} flags, each in another falling order': falling_flags(20),
+    f'{size(2_000, 200):,} suffixes that carry one alias of {size(65_000, 5_000):,} flags': aliased_rules(1),
+    f'{size(2_000, 200):,} suffixes that carry two such aliases in turn': aliased_rules(2),
+    f'{size(65_000, 2_000):,} classes in falling order of their flags': falling_classes,
     f'{size(100_000, 2_000):,} suffixes that add one text and strip off others': one_stem_by_many_rules,
     f'{size(3_000, 100):,} suffixes that add nothing behind {size(3_000, 100):,} that add nothing': rules_behind_rules,
     f'{size(3_000, 100):,} prefixes and {size(3_000, 100):,} suffixes that add nothing': prefixes_and_suffixes,
