@@ -397,7 +397,8 @@ refuse() {
     [ -x "$tests" ] || { echo "run rt ci first: $tests is not built" >&2; exit 2; }
     for which in $(seq 1 100000); do
         status=0
-        FAIL_ALLOCATION=$which LD_PRELOAD=$work/fail.so timeout 60 "$tests" "tests::memory::$2" > /dev/null 2> "$work/told" || status=$?
+        # `timeout` makes requests of its own, which are not to fail.
+        timeout 60 env FAIL_ALLOCATION="$which" LD_PRELOAD="$work/fail.so" "$tests" "tests::memory::$2" > /dev/null 2> "$work/told" || status=$?
         grep -q failed "$work/told" || break
         if [ "$status" != 0 ]; then
             echo "$2: the test fails where request $which does"
