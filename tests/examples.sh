@@ -164,7 +164,7 @@ $work/words:2: EmptyWord
 TOLD
 
 # The block of docs/LIBRARY.md behind the example's name, and what the example prints.
-awk '/^`examples\/two-writers`/ { found = 1 } found && /^    / { print substr($0, 5) }' docs/LIBRARY.md > "$work/block"
+awk '/^# / { found = 0 } /^`examples\/two-writers`/ { found = 1 } found && /^    / { print substr($0, 5) }' docs/LIBRARY.md > "$work/block"
 [ -s "$work/block" ] || { echo 'docs/LIBRARY.md has no block behind the example'; failed=1; }
 expect 'two writers' 0 examples/two-writers < "$work/block"
 
