@@ -26,7 +26,9 @@ def fault_of_pair(aff, dic):
 
 
 def fault_of_named(aff, dic):
-    """How a pair ends the run that is loaded: not by a fault in a line."""
+    """How a pair ends the run that is loaded: not by a fault in a line. No file is there of a name that `spoilt` makes up."""
+    if aff.startswith(b'pair'):
+        return ENDS[b'no Missing']
     if aff in files.BAD_FILES or aff in files.BAD_AFF:
         return fault_of_file(aff, {})
     return fault_of_file(dic, {})
