@@ -104,8 +104,8 @@ def homonyms_in_compounds():
 def falling_flags(count):
     def made():
         flags = range(size(65_000, 5_000), 0, -1)
-        lines = [f'w{number}/' + ','.join(map(str, [*flags[number:], *flags[:number]])) for number in range(count)]
-        return ['FLAG num', 'NEEDAFFIX 1'], lines, ['w0', 'w1x', 'W0']
+        lines = [f'word{number}/' + ','.join(map(str, [*flags[number:], *flags[:number]])) for number in range(count)]
+        return ['FLAG num', 'NEEDAFFIX 1'], lines, ['word0', 'word1x', 'Word0']
     return made
 
 
