@@ -19,7 +19,7 @@ use text_lines::decimal;
 mod first;
 mod slashes;
 
-pub use slashes::push_before_slash;
+pub use slashes::{push_before_slash, split_plain};
 pub use spell_types::has;
 
 /// Why a text is no flag field.

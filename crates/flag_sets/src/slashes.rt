@@ -29,6 +29,19 @@ pub fn push_before_slash<'a>(
     Ok(behind)
 }
 
+/// The text up to its first slash and the text behind that slash, if there is one, where both stand
+/// in the text as they are. There is no answer where a backslash precedes that slash.
+pub fn split_plain(text: &str) -> Option<(&str, Option<&str>)>
+    ensures word { IfSome result (λ parts. chars parts.0.now ≡ chars (before_slash text.now)) }
+    ensures behind { IfSome result (λ parts. option_copied parts.1 ≡ behind_slash text.now) }
+{
+    let (plain, rest) = plain_front(text);
+    match next_before_slash(rest) {
+        Some(_) => None,
+        None => Some((plain, rest.strip_prefix('/'))),
+    }
+}
+
 /// The word with the characters before that slash, and the text behind it.
 fn with_text_before_slash<'a>(
     alloc: Global,
