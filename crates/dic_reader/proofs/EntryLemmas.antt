@@ -1,20 +1,30 @@
 -- The word, the flags and the faults of an entry.
 use Rattle.std.proofs.Common.{◌≡◌, ◌≢◌, ℕ, ◌==◌, Bool, true, false, cond, List, [], ◌∷◌, ◌++◌}
-use Rattle.std.proofs.Common.{length, map, Option, Some, None, Err, Bor, unwrap_or, refl, sym, ap}
+use Rattle.std.proofs.Common.{◌<◌, length, map, Option, Some, None, Result, Ok, Err, Bor, unwrap_or}
+use Rattle.std.proofs.Common.{refl, sym, ap}
 use Rattle.std.proofs.Common.{◌∙◌, subst, append_assoc, lit<, arith}
 use Rattle.std.specs.List.{AllByRecursion}
 use Rattle.std.specs.Option.{option_copied}
 use Rattle.std.specs.Str.{chars, IsUtf8}
 use Rattle.std.proofs.lemmas.Bool.{ne_eqb}
 use Rattle.std.proofs.lemmas.Bool.Decides.{Decides-eqb}
+use Rattle.std.proofs.lemmas.Str.{chars-nil, encodes-chars}
+use lib.Utf8.{encodes}
 use Rattle.std.proofs.lemmas.Str.{chars-append, IsUtf8-encode, encode_ascii}
 use Rattle.spell_types.specs.declared.Affixes.{Affixes}
 use Rattle.spell_types.specs.Conversions.{without_ignored}
 use Rattle.flag_sets.specs.Slashes.{before_slash, behind_slash}
 use Rattle.dic_reader.specs.declared.faults.DicWhy.{DicWhy}
-use Rattle.dic_reader.specs.declared.faults.DicWhy.TheVariants.{EmptyWord}
+use Rattle.dic_reader.specs.declared.faults.DicWhy.TheVariants.{EmptyWord, BadFlag, BadAlias}
+use Rattle.flag_sets.specs.declared.FlagFault.TheVariants.{BadAlias as NoAlias, BadFlag as NoFlag}
+use Rattle.flag_sets.specs.declared.FlagFault.TheVariants.{NoMemory as Wanting}
 use Rattle.dic_reader.specs.Entries.{Listed, entry_at, flag_text, whole_word, word_of, flags_of}
 use Rattle.dic_reader.specs.Faults.{Fault, cause_number, least_of, word_faults, flag_whys}
+use Rattle.dic_reader.specs.Faults.{or_none, told_at, IsTold}
+use Rattle.flag_sets.specs.declared.FlagFault.{FlagFault}
+use Rattle.flag_sets.specs.FlagTexts.{flag_field}
+use Rattle.spell_types.specs.declared.Entry.{Entry}
+use Rattle.spell_types.specs.declared.flags.Flag.{Flag}
 use Rattle.dic_reader.specs.Faults.{flag_faults, entry_faults, entry_said, entry_read}
 use Rattle.dic_reader.proofs.FaultLemmas.{flags-behind-word}
 use Rattle.line_faults.specs.Faults.{fault_at, unless_fault}
@@ -139,3 +149,66 @@ no-word affixes number text word is empty =
     ∙ ap (λ o. unless_fault o (entry_said affixes (entry_at number text)))
     (none-before-stays cause_number fault flags
     (flags-behind-word number (flags_of affixes text)))
+
+-- ---- whether a word has characters
+pub no-characters : (bytes : List ℕ) → true ≡ (length bytes == 0)
+    → (length (chars bytes) == 0) ≡ true
+no-characters [] is = ap (λ cs. length cs == 0) chars-nil
+no-characters (b ∷ bytes) is = absurd (omega (arith, (Decides-eqb _ _).0 (sym is)))
+
+pub some-characters : (bytes : List ℕ) → IsUtf8 bytes → (length bytes == 0) ≡ false
+    → 0 < length (chars bytes)
+some-characters bytes utf8 isnt = go bytes (chars bytes) (encodes-chars bytes utf8) isnt
+  where
+    go : (text cs : List ℕ) → encodes cs ≡ text → (length text == 0) ≡ false → 0 < length cs
+    go [] [] is none = absurd (cc)
+    go (b ∷ text) [] is none = absurd (cc)
+    go text (c ∷ cs) is some = omega arith
+
+-- an entry with a word and right flags
+pub read-well : (affixes : Affixes) (number : ℕ) (text : List ℕ) (made : Entry)
+    → made.word ≡ word_of affixes text → 0 < length made.word
+    → flag_field affixes.kind affixes.aliases (flag_text text) ≡ Ok made.flags
+    → entry_read affixes (entry_at number text) ≡ Ok made
+read-well affixes number text made word some field =
+    let whole = word_of affixes text in
+    let full : (length whole == 0) ≡ false =
+    ne_eqb (length whole) 0 (λ none. omega (arith, some, ap length word, none)) in
+    let faults : Result (List Flag) FlagFault → List Fault =
+    λ found. map (fault_at number) (flag_whys found) in
+    ap (λ b. unless_fault
+    (least_of (cond b (fault_at number EmptyWord ∷ []) [] ++ faults (flags_of affixes text)))
+    (record { word = whole; flags = or_none (flags_of affixes text) })) full
+    ∙ ap (λ found. unless_fault (least_of (faults found))
+    (record { word = whole; flags = or_none found })) field
+    ∙ ap (λ w. Ok (record { word = w; flags = made.flags })) (sym word)
+
+-- an entry with a word and wrong flags
+pub read-ill : (affixes : Affixes) (number : ℕ) (text word : List ℕ) (fault : FlagFault)
+    (why : DicWhy) → word ≡ word_of affixes text → 0 < length word
+    → flag_field affixes.kind affixes.aliases (flag_text text) ≡ Err fault
+    → flag_whys (Err fault) ≡ why ∷ []
+    → entry_read affixes (entry_at number text) ≡ Err (fault_at number why)
+read-ill affixes number text word fault why is some field whys =
+    let whole = word_of affixes text in
+    let full : (length whole == 0) ≡ false =
+    ne_eqb (length whole) 0 (λ none. omega (arith, some, ap length is, none)) in
+    let faults : Result (List Flag) FlagFault → List Fault =
+    λ found. map (fault_at number) (flag_whys found) in
+    ap (λ b. unless_fault
+    (least_of (cond b (fault_at number EmptyWord ∷ []) [] ++ faults (flags_of affixes text)))
+    (record { word = whole; flags = or_none (flags_of affixes text) })) full
+    ∙ ap (λ found. unless_fault (least_of (faults found))
+    (record { word = whole; flags = or_none found })) field
+    ∙ ap (λ ws. unless_fault (least_of (map (fault_at number) ws))
+    (record { word = whole; flags = [] })) whys
+
+pub told-ill : (affixes : Affixes) (number : ℕ) (text word : List ℕ) (fault : FlagFault)
+    → word ≡ word_of affixes text → 0 < length word
+    → (fault ≢ Wanting → flag_field affixes.kind affixes.aliases (flag_text text) ≡ Err fault)
+    → IsTold (entry_read affixes (entry_at number text)) (told_at number fault)
+told-ill affixes number text word Wanting is some field = tt
+told-ill affixes number text word NoFlag is some field =
+    read-ill affixes number text word NoFlag BadFlag is some (field (λ same. cc)) refl
+told-ill affixes number text word NoAlias is some field =
+    read-ill affixes number text word NoAlias BadAlias is some (field (λ same. cc)) refl

@@ -11,7 +11,8 @@ use Rattle.spell_types.specs.declared.Affixes.{Affixes}
 use Rattle.spell_types.specs.declared.Entry.{Entry}
 use Rattle.spell_types.specs.declared.flags.Flag.{Flag}
 use Rattle.flag_sets.specs.declared.FlagFault.{FlagFault}
-use Rattle.flag_sets.specs.declared.FlagFault.TheVariants.{BadAlias as NoAlias}
+use Rattle.flag_sets.specs.declared.FlagFault.TheVariants.{BadAlias as NoAlias, BadFlag as NoFlag}
+use Rattle.flag_sets.specs.declared.FlagFault.TheVariants.{NoMemory as Wanting}
 use Rattle.dic_reader.specs.declared.faults.DicFault.{DicFault}
 use Rattle.dic_reader.specs.declared.faults.DicFault.TheVariants.{At, NoMemory}
 use Rattle.dic_reader.specs.declared.faults.DicWhy.{DicWhy}
@@ -121,7 +122,8 @@ DicBad affixes bytes pass fault = IsFault (dic_passes affixes bytes) pass fault
 
 -- ---- what is read
 
-abbrev or_none : Result (List Flag) FlagFault → List Flag
+-- the flags of an entry, if they are right
+abbrev pub or_none : Result (List Flag) FlagFault → List Flag
 or_none (Ok set) = set
 or_none (Err _) = []
 
@@ -178,3 +180,9 @@ IsTold read NoMemory = Unit {0}
 abbrev pub IsRead : {A : Type 0} → Result A Fault → Result A DicFault → Type 0
 IsRead read (Ok made) = read ≡ Ok made
 IsRead read (Err fault) = IsTold read fault
+
+-- what is told of a fault of flags
+abbrev pub told_at : ℕ → FlagFault → DicFault
+told_at number NoAlias = At number BadAlias
+told_at number NoFlag = At number BadFlag
+told_at number Wanting = NoMemory

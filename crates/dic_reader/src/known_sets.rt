@@ -1,51 +1,76 @@
-//! The flag sets of texts that were read before.
+//! The flag texts of the entries that were read before.
 
-ghost use Rattle.std.specs.Prelude.{◌≡◌, ◌≢◌, Ok, Err, OnOk, IfOk, IfErr};
+ghost use Rattle.std.specs.Prelude.{◌≡◌, ◌≢◌, ◌++◌, ◌∷◌, [], ℕ, List, OnOk, IfOk, IfErr, Err};
 ghost use Rattle.spell_types.specs.declared.Affixes.{Affixes};
-ghost use Rattle.spell_types.specs.Flags.{AreOrdinary};
-ghost use Rattle.spell_types.specs.Sanity.{HasOrdinaryFlags};
+ghost use Rattle.spell_types.specs.declared.Entry.{Entry};
 ghost use Rattle.flag_sets.specs.FlagTexts.{flag_field};
-ghost use Rattle.dic_reader.specs.KnownSets.{AreKnown, IsSetOf};
+ghost use Rattle.dic_reader.specs.KnownSets.{AreKnown, AreFlagsOf, IsPlaced, entry_of_found};
 
+use crate::words::Word;
 use flag_sets::{FlagFault, read_flags};
 use indexmap::IndexMap;
-use lists::{Copied, NoMemory};
-use spell_types::{Affixes, FlagSet, alias_sets};
+use lists::NoMemory;
+use spell_types::{Affixes, Entries, FlagSet, alias_sets};
 use std::alloc::Global;
 
-/// The sets of the flag texts that were read so far.
-pub(crate) type KnownSets<'a> = IndexMap<&'a str, FlagSet>;
+/// At each flag text that was read, the place of an entry that has its flags.
+pub(crate) type KnownSets<'a> = IndexMap<&'a str, usize>;
 
-/// The set of a flag text. It is read once, and shared by all that ask for it.
-pub(crate) fn shared_flags<'a>(
+/// The flags of an entry.
+#[derive(Drop)]
+pub(crate) enum Flags<'a> {
+    /// Those of the entry with this place.
+    Like(usize),
+    /// The set of this text, which no entry before has.
+    New(&'a str, FlagSet),
+}
+
+/// An entry that was read.
+#[derive(Drop)]
+pub(crate) struct Found<'a> {
+    pub(crate) word: Word<'a>,
+    pub(crate) flags: Flags<'a>,
+}
+
+/// The flags that a text lists or names. A text that an entry before has is not read once more.
+pub(crate) fn flags_of<'a>(
     alloc: Global,
     affixes: &Affixes,
-    known: &mut KnownSets<'a>,
+    known: &KnownSets<'a>,
     text: &'a str,
-) -> Result<FlagSet, FlagFault>
-    requires { AreKnown affixes.now known.old }
-    ensures set { IfOk result
-        (λ set. flag_field affixes.now.kind affixes.now.aliases text.now ≡ Ok set) }
+) -> Result<Flags<'a>, FlagFault>
+    ensures set { (entries : List Entry) → AreKnown affixes.now entries known.now
+        → IfOk result (AreFlagsOf affixes.now entries text.now) }
     ensures fault { IfErr result
         (λ fault. fault ≢ FlagFault.NoMemory
         → flag_field affixes.now.kind affixes.now.aliases text.now ≡ Err fault) }
-    ensures ordinary { HasOrdinaryFlags affixes.now → IfOk result AreOrdinary }
-    ensures known { OnOk result (AreKnown affixes.now known.new) }
 {
-    if let Some(set) = known.get(text) {
-        return Ok(set.copy(alloc)?);
+    if let Some(place) = known.get(text) {
+        return Ok(Flags::Like(*place));
     }
     let set = read_flags(alloc, affixes.kind, alias_sets(&affixes.aliases), text)?;
-    keep(known, text, set.copy(alloc)?)?;
-    Ok(set)
+    Ok(Flags::New(text, set))
 }
 
-/// Keeps the set of a text.
-fn keep<'a>(known: &mut KnownSets<'a>, text: &'a str, set: FlagSet) -> Result<(), NoMemory>
-    ensures { OnOk result
-        ((affixes : Affixes) → IsSetOf affixes text.now set → AreKnown affixes known.old
-        → AreKnown affixes known.new) }
+/// Adds an entry behind those that were read.
+pub(crate) fn add<'a>(
+    entries: &mut Entries,
+    known: &mut KnownSets<'a>,
+    found: Found<'a>,
+) -> Result<(), NoMemory>
+    requires { IsPlaced entries.old found.flags }
+    ensures added { OnOk result
+        (entries.new ≡ entries.old ++ entry_of_found entries.old found.entry ∷ []) }
+    ensures known { (affixes : Affixes) (text : List ℕ) → AreKnown affixes entries.old known.old
+        → AreFlagsOf affixes entries.old text found.entry.flags
+        → OnOk result (AreKnown affixes entries.new known.new) }
 {
-    known.insert(text, set)?;
-    Ok(())
+    let Found { word, flags } = found;
+    match flags {
+        Flags::Like(place) => entries.push_like(word.as_str(), place),
+        Flags::New(text, set) => {
+            known.insert(text, entries.len())?;
+            entries.push(word.as_str(), set)
+        }
+    }
 }

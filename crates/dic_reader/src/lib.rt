@@ -19,9 +19,9 @@ ghost use Rattle.dic_reader.specs.Faults.{entries_read, lines_read, dic_read, Di
 ghost use Rattle.dic_reader.specs.Faults.{IsRead, DicReads, DicRefuses};
 
 use crate::cutting::{entry_of, is_count, is_passed_over};
-use crate::known_sets::KnownSets;
+use crate::known_sets::{KnownSets, add};
 use crate::words::read_entry;
-use spell_types::{Affixes, Entries, Entry};
+use spell_types::{Affixes, Entries};
 use std::alloc::Global;
 use text_lines::found::Line;
 use text_lines::{line_text, lines};
@@ -129,15 +129,14 @@ fn read_entries(
         if is_passed_over(text) {
             continue;
         }
-        let entry = read_entry(alloc, affixes, &mut known, line.number, entry_of(text))?;
-        let Entry { word, flags } = entry;
+        let found = read_entry(alloc, affixes, &known, line.number, entry_of(text))?;
         if entries.len() == limit {
             return Err(DicFault::At {
                 line: line.number,
                 why: DicWhy::TooMany,
             });
         }
-        entries.push(&word, flags)?;
+        add(&mut entries, &mut known, found)?;
     }
     Ok(entries)
 }

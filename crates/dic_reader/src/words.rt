@@ -1,62 +1,116 @@
 //! The word and the flags of an entry.
 
-ghost use Rattle.std.specs.Prelude.{◌≡◌, ◌++◌, ◌<◌, length, OnOk, IfOk};
+ghost use Rattle.std.specs.Prelude.{◌≡◌, ◌++◌, ◌<◌, List, length, Ok, OnOk, IfOk, IfErr, IfSome};
+ghost use Rattle.std.specs.Str.{chars};
+ghost use Rattle.spell_types.specs.declared.Entry.{Entry};
 ghost use Rattle.spell_types.specs.Conversions.{without_ignored};
-ghost use Rattle.spell_types.specs.Flags.{AreOrdinary};
-ghost use Rattle.spell_types.specs.Sanity.{HasOrdinaryFlags};
 ghost use Rattle.dic_reader.specs.Entries.{entry_at, flag_text, whole_word};
-ghost use Rattle.dic_reader.specs.Faults.{entry_read, IsRead};
-ghost use Rattle.dic_reader.specs.KnownSets.{AreKnown};
+ghost use Rattle.dic_reader.specs.Faults.{entry_read, told_at, IsTold};
+ghost use Rattle.dic_reader.specs.KnownSets.{AreKnown, AreFlagsOf, entry_of_found, bytes_of};
 
 use crate::faults::{DicFault, DicWhy};
-use crate::known_sets::{KnownSets, shared_flags};
+use crate::known_sets::{Found, KnownSets, flags_of};
 use conversions::drop_ignored;
-use flag_sets::{FlagFault, push_before_slash};
+use flag_sets::{FlagFault, push_before_slash, split_plain};
 use lists::{Items, NoMemory};
-use spell_types::{Affixes, Chars, Entry};
+use spell_types::{Affixes, Chars, text_of};
 use std::alloc::Global;
 
+/// The word of an entry.
+#[derive(Drop)]
+pub(crate) enum Word<'a> {
+    /// It stands in its line as it is, as nearly all do.
+    Written(&'a str),
+    /// It is the line's with escaped slashes, or without the characters to ignore.
+    Made(String),
+}
+
+impl<'a> Word<'a> {
+    pub(crate) fn as_str(&self) -> &str
+        ensures { result.now ≡ bytes_of self.now }
+    {
+        match self {
+            Word::Written(word) => word,
+            Word::Made(word) => word.as_str(),
+        }
+    }
+}
+
 /// The entry with this text, of the line with this number. Its word is without the characters to
-/// ignore, and its flags are shared with the entries before it.
+/// ignore, and its flags are those of an entry before it where that has the same flag text.
 pub(crate) fn read_entry<'a>(
     alloc: Global,
     affixes: &Affixes,
-    known: &mut KnownSets<'a>,
+    known: &KnownSets<'a>,
     number: u64,
     text: &'a str,
-) -> Result<Entry, DicFault>
-    requires { AreKnown affixes.now known.old }
-    ensures read { IsRead (entry_read affixes.now (entry_at number text.now)) result }
-    ensures word { IfOk result (λ made. 0 < length made.word) }
-    ensures ordinary { HasOrdinaryFlags affixes.now → IfOk result (λ made. AreOrdinary made.flags) }
-    ensures known { OnOk result (AreKnown affixes.now known.new) }
+) -> Result<Found<'a>, DicFault>
+    ensures read { (entries : List Entry) → AreKnown affixes.now entries known.now
+        → IfOk result (λ found. entry_read affixes.now (entry_at number text.now)
+        ≡ Ok (entry_of_found entries found)) }
+    ensures fault { IfErr result (IsTold (entry_read affixes.now (entry_at number text.now))) }
+    ensures word { IfOk result (λ found. 0 < length (chars (bytes_of found.word))) }
+    ensures flags { (entries : List Entry) → AreKnown affixes.now entries known.now
+        → IfOk result (λ found. AreFlagsOf affixes.now entries (flag_text text.now) found.flags) }
 {
-    let mut whole = Items::new(alloc);
-    let flags = push_word(alloc, &mut whole, text)?;
-    let word = without_ignored(alloc, &affixes.ignore, whole)?;
-    if word.is_empty() {
+    let (word, flag_text) = read_word(alloc, &affixes.ignore, text)?;
+    if word.as_str().is_empty() {
         return Err(DicFault::At {
             line: number,
             why: DicWhy::EmptyWord,
         });
     }
-    let why = match shared_flags(alloc, affixes, known, flags) {
-        Ok(flags) => return Ok(Entry { word, flags }),
-        Err(FlagFault::BadFlag) => DicWhy::BadFlag,
-        Err(FlagFault::BadAlias) => DicWhy::BadAlias,
-        Err(FlagFault::NoMemory) => return Err(DicFault::NoMemory),
-    };
-    Err(DicFault::At { line: number, why })
+    match flags_of(alloc, affixes, known, flag_text) {
+        Ok(flags) => Ok(Found { word, flags }),
+        Err(fault) => Err(told_at(number, fault)),
+    }
 }
 
-/// The word without the characters to ignore. Where there are none to ignore it is not copied.
-fn without_ignored(alloc: Global, ignore: &[char], word: Chars) -> Result<Chars, NoMemory>
-    ensures { IfOk result (λ kept. kept ≡ without_ignored ignore.now word) }
+/// What is told of a fault of flags in the line with this number.
+fn told_at(number: u64, fault: FlagFault) -> DicFault
+    ensures { result ≡ told_at number fault }
+{
+    let why = match fault {
+        FlagFault::BadFlag => DicWhy::BadFlag,
+        FlagFault::BadAlias => DicWhy::BadAlias,
+        FlagFault::NoMemory => return DicFault::NoMemory,
+    };
+    DicFault::At { line: number, why }
+}
+
+/// The word of an entry, without the characters to ignore, and the text of its flags. A word that
+/// stands in the entry as it is, is not copied.
+fn read_word<'a>(
+    alloc: Global,
+    ignore: &[char],
+    entry: &'a str,
+) -> Result<(Word<'a>, &'a str), NoMemory>
+    ensures word { IfOk result (λ parts.
+        chars (bytes_of parts.0) ≡ without_ignored ignore.now (whole_word entry.now)) }
+    ensures flags { IfOk result (λ parts. parts.1.now ≡ flag_text entry.now) }
 {
     if ignore.is_empty() {
-        return Ok(word);
+        if let Some((word, flags)) = written_word(entry) {
+            return Ok((Word::Written(word), flags));
+        }
     }
-    drop_ignored(alloc, ignore, &word)
+    let mut whole = Items::new(alloc);
+    let flags = push_word(alloc, &mut whole, entry)?;
+    let word = drop_ignored(alloc, ignore, &whole)?;
+    Ok((Word::Made(text_of(alloc, &word)?), flags))
+}
+
+/// The word of an entry and the text of its flags, where both stand in it as they are. There is no
+/// answer where the entry begins with a slash or a backslash precedes its first one.
+fn written_word(entry: &str) -> Option<(&str, &str)>
+    ensures word { IfSome result (λ parts. chars parts.0.now ≡ whole_word entry.now) }
+    ensures flags { IfSome result (λ parts. parts.1.now ≡ flag_text entry.now) }
+{
+    if entry.starts_with('/') {
+        return None;
+    }
+    let (word, flags) = split_plain(entry)?;
+    Some((word, flags.unwrap_or("")))
 }
 
 /// Adds the characters of an entry's word, and gives the text of its flags. A slash at the front of

@@ -8,7 +8,8 @@ ghost use Rattle.spell_types.specs.Flags.{has};
 ghost use Rattle.spell_types.specs.Licences.{is_barred};
 ghost use Rattle.personal_words.specs.declared.items.OwnItem.{OwnItem};
 ghost use Rattle.spell_types.specs.Sanity.{IsSane, HasOrdinaryFlags, HaveOrdinaryFlags};
-ghost use Rattle.personal_words.specs.Extended.{extended, entry_of_item, forbidding, with_forbidden};
+ghost use Rattle.personal_words.specs.Extended.{extended, entry_of_item, forbidding};
+ghost use Rattle.personal_words.specs.Extended.{with_forbidden};
 ghost use Rattle.personal_words.specs.Models.{HasModel, AreLike, flags_kept};
 
 use crate::copies::copied_affixes;
@@ -16,7 +17,7 @@ use crate::items::OwnItem;
 use crate::list::OwnList;
 use crate::models::{Models, models_of};
 use lists::{Copied, Items, NoMemory};
-use spell_types::{Affixes, Chars, Entries, Entry, Flag, FlagSet, Lexicon};
+use spell_types::{Affixes, Chars, Entries, Entry, Flag, FlagSet, Lexicon, text_of};
 use std::alloc::Global;
 
 /// A flag that no file can give.
@@ -62,7 +63,7 @@ pub fn extend_with(alloc: Global, lexicon: Lexicon, own: &OwnList) -> Result<Lex
     let Lexicon { affixes, entries } = lexicon;
     Ok(Lexicon {
         affixes: with_forbidden(affixes, flag),
-        entries: joined(entries, more)?,
+        entries: joined(alloc, entries, more)?,
     })
 }
 
@@ -76,13 +77,13 @@ fn with_forbidden(affixes: Affixes, flag: Flag) -> Affixes
 }
 
 /// Entries, and these behind them.
-fn joined(entries: Entries, more: Vec<Entry>) -> Result<Entries, NoMemory>
+fn joined(alloc: Global, entries: Entries, more: Vec<Entry>) -> Result<Entries, NoMemory>
     ensures { IfOk result (λ made. made ≡ entries ++ more.items) }
 {
     let mut joined = entries;
     for entry in more {
         let Entry { word, flags } = entry;
-        joined.push(&word, flags)?;
+        joined.push(text_of(alloc, &word)?.as_str(), flags)?;
     }
     Ok(joined)
 }

@@ -1,13 +1,12 @@
 -- Texts beside characters.
-use Rattle.std.proofs.Common.{◌≡◌, ◌∙◌, refl, sym, ap, subst, ℕ, ◌+◌, ◌<◌, false, ◌==◌, ne_eqb}
-use Rattle.std.proofs.Common.{List, [], ◌∷◌, ◌++◌, length, take, drop, get_or, arith}
-use Rattle.std.proofs.Common.{length-append, append_assoc}
+use Rattle.std.proofs.Common.{◌≡◌, ◌∙◌, refl, sym, ap, ℕ, ◌+◌, ◌<◌, false, ◌==◌, ne_eqb}
+use Rattle.std.proofs.Common.{List, [], ◌∷◌, ◌++◌, length, take, get_or, arith}
+use Rattle.std.proofs.Common.{append_assoc}
 use Rattle.std.specs.Char.{encode_utf8}
 use Rattle.std.specs.Str.{IsUtf8, chars, encode_utf8_all}
 use Rattle.std.proofs.lemmas.List.{append-nil, take_more}
-use Rattle.std.proofs.lemmas.Str.{chars-nil, chars_past_char, IsUtf8-past_char, IsUtf8-drop}
-use Rattle.std.proofs.lemmas.Str.{IsCharBoundary-from_take, encodes-append}
-use Rattle.std.proofs.Math.Seq.{take-append_seam, drop-append_seam}
+use Rattle.std.proofs.lemmas.Str.{chars-nil, chars_past_char, IsUtf8-past_char}
+use Rattle.std.proofs.lemmas.Str.{encodes-append}
 use Rattle.spell_types.specs.Cases.{is_same_word}
 
 -- a text without bytes has no characters
@@ -37,20 +36,9 @@ written-more text before now cs i c within is was added =
     ∙ encodes-append (take i cs) (c ∷ [])
     ∙ ap (λ bytes. encode_utf8_all (take i cs) ++ bytes) (append-nil (encode_utf8 c))))
 
-read : (cs : List ℕ) → IsUtf8 (encode_utf8_all cs) → chars (encode_utf8_all cs) ≡ cs
+pub read : (cs : List ℕ) → IsUtf8 (encode_utf8_all cs) → chars (encode_utf8_all cs) ≡ cs
 read [] utf8 = chars-nil
 read (c ∷ cs) utf8 =
     chars_past_char (encode_utf8_all (c ∷ cs)) (encode_utf8_all cs) c utf8 refl
     ∙ ap (λ later. c ∷ later)
     (read cs (IsUtf8-past_char (encode_utf8_all (c ∷ cs)) (encode_utf8_all cs) c utf8 refl))
-
-pub read-back : (text bytes cs : List ℕ) → bytes ≡ text ++ encode_utf8_all cs → IsUtf8 text
-    → IsUtf8 bytes → chars (encode_utf8_all cs) ≡ cs
-read-back text bytes cs is front whole =
-    read cs (subst IsUtf8
-    (ap (drop (length text)) is ∙ drop-append_seam text (encode_utf8_all cs))
-    (IsUtf8-drop bytes (length text) whole
-    (IsCharBoundary-from_take bytes (length text) whole
-    (omega (arith, ap length is, length-append text (encode_utf8_all cs)))
-    (subst IsUtf8
-    (sym (ap (take (length text)) is ∙ take-append_seam text (encode_utf8_all cs))) front))))

@@ -25,6 +25,10 @@ abbrev pub has : List Flag → Option Flag → Bool
 has flags None = false
 has flags (Some flag) = list_any (λ held. held.0 == flag.0) flags
 
+-- whether the set has one of these flags
+abbrev pub has_flag_of : List Flag → List Flag → Bool
+has_flag_of set flags = list_any (λ flag. has set (Some flag)) flags
+
 -- A flag that a file can give. The highest number of 64 bits is left over, so that a flag of no
 -- file can be made.
 abbrev pub IsOrdinary : Flag → Type 0

@@ -5,7 +5,7 @@ ghost use Rattle.std.specs.Prelude.{slice_get, Some, IsTrue, OnOk, OnErr, IfOk, 
 ghost use Rattle.std.specs.Prelude.{insert};
 ghost use Rattle.std.specs.List.Sorted.{IsPartitionPoint};
 ghost use Rattle.spell_types.specs.declared.flags.Flag.{Flag};
-ghost use Rattle.spell_types.specs.Flags.{IsRising, put, put_all, has};
+ghost use Rattle.spell_types.specs.Flags.{IsRising, put, put_all, has, has_flag_of};
 ghost use Rattle.spell_types.specs.KeptFlags.{kept_flags};
 
 use lists::{Copied, NoMemory};
@@ -164,6 +164,13 @@ pub fn has(set: &FlagSet, flag: Option<Flag>) -> bool
         None => false,
         Some(flag) => search(set.as_slice(), flag).is_ok(),
     }
+}
+
+/// Whether one of these flags is in the set.
+pub fn has_flag_of(flags: &FlagSet, set: &FlagSet) -> bool
+    ensures { result ≡ has_flag_of set.now flags.now }
+{
+    flags.as_slice().iter().any(|flag| has(set, Some(*flag)))
 }
 
 /// The set of some flags rises, and has exactly those flags. `has` tells which flags a set has,

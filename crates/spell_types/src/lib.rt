@@ -24,7 +24,7 @@ pub use breaks::Anchored;
 pub use conversions::{Conversion, Rep};
 pub use derivations::{Derivation, form};
 pub use entries::{Entries, EntryRef};
-pub use flags::{Flag, FlagKind, FlagSet, has, sets_have_their_flags};
+pub use flags::{Flag, FlagKind, FlagSet, has, has_flag_of, sets_have_their_flags};
 pub use joints::{JointPattern, WrittenJoint, joints_are_written};
 pub use licences::{
     Case, alone, alone_in_case, entry_flags, forbidden, has_affix_with, has_entry_with,
@@ -37,7 +37,7 @@ pub use patterns::{Pattern, PatternStep, Times, patterns_match};
 pub use rules::{Condition, Piece, Rule, Side};
 pub use signs::{Options, Signs};
 use std::alloc::Global;
-pub use texts::{chars_of, is_spelled};
+pub use texts::{chars_of, is_spelled, text_of};
 
 /// A text by its characters.
 pub type Chars = Items<char>;

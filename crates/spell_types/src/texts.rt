@@ -2,6 +2,7 @@
 
 ghost use Rattle.std.specs.Prelude.{◌≡◌, IfOk};
 ghost use Rattle.std.specs.Str.{chars};
+ghost use Rattle.std.specs.String.{string_bytes};
 ghost use Rattle.spell_types.specs.Cases.{is_same_word};
 
 use crate::Chars;
@@ -14,6 +15,17 @@ pub fn chars_of(alloc: Global, text: &str) -> Result<Chars, NoMemory>
 {
     let characters: Vec<char> = text.chars().collect(alloc)?;
     Ok(Items::from_vec(characters))
+}
+
+/// The text of characters.
+pub fn text_of(alloc: Global, characters: &[char]) -> Result<String, NoMemory>
+    ensures { IfOk result (λ made. chars (string_bytes made) ≡ characters.now) }
+{
+    let mut text = String::new(alloc);
+    for c in characters {
+        text.push(*c)?;
+    }
+    Ok(text)
 }
 
 /// Whether a text has these characters.

@@ -9,6 +9,6 @@ use Rattle.dic_reader.proofs.read_entries.Given as goal
 abbrev pub invariant-loop-line : goal.invariant-loop-line
 invariant-loop-line l = record {
   read : AreRead l.affixes l.limit (listed l.bytes (take l.line-index l.lines)) l.entries;
-  known : AreKnown l.affixes l.known;
+  known : AreKnown l.affixes l.entries l.known;
   ordinary : HasOrdinaryFlags l.affixes → HaveOrdinaryFlags l.entries;
 }
