@@ -345,13 +345,14 @@ outer-may : (dictionary : IndexedLexicon) → IsReady dictionary → (d : Deriva
 outer-may dictionary ready d place licensed is =
     by (rule_on dictionary.lexicon.affixes.rules Suffix place) refl
   where
-    carries : (rule : Rule) → IsCarrier dictionary.lexicon.affixes.rules rule
+    carries : (rule : Rule) → rule_on dictionary.lexicon.affixes.rules Suffix place ≡ Some rule
+        → IsCarrier dictionary.lexicon.affixes.rules rule
         → has ready.seconds.set (Some rule.flag) ≡ true
-    carries rule by =
-        ready.seconds.carried.flags by.place by.rule rule.flag
+    carries rule on by =
+        ready.seconds.carried.flags by.place place by.rule rule
         (on-rule dictionary.lexicon.affixes.rules Suffix by.place by.rule by.on)
         (rule_on-side dictionary.lexicon.affixes.rules Suffix by.place by.rule by.on)
-        by.carries
+        (on-rule dictionary.lexicon.affixes.rules Suffix place rule on) by.carries
 
     right : is_some (rule_on dictionary.lexicon.affixes.rules Suffix place) ≡ true
     right = ap (is_right dictionary.lexicon.affixes.rules Suffix) (sym is)
@@ -367,7 +368,7 @@ outer-may dictionary ready d place licensed is =
         dictionary.lexicon.affixes.rules place
         ∙ ap (option_map (λ (r : Rule). has ready.seconds.set (Some r.flag)))
         (on-rule dictionary.lexicon.affixes.rules Suffix place rule on))
-        ∙ carries rule
+        ∙ carries rule on
         (carrier dictionary.lexicon d rule licensed
         (ap (affix_on dictionary.lexicon.affixes.rules Suffix) is ∙ on))
 

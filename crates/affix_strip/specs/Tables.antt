@@ -1,5 +1,6 @@
 -- What the tables of a dictionary hold.
-use Rattle.std.specs.Prelude.{◌≡◌, ℕ, Bool, true, false, ◌&&◌, List, map, slice_get, Some}
+use Rattle.std.specs.Prelude.{◌≡◌, ℕ, Bool, true, false, ◌&&◌, List, [], map, slice_get, Some}
+use Rattle.std.specs.Prelude.{if◌then◌else◌}
 use Rattle.std.specs.List.{list_any}
 use Rattle.std.specs.Option.{option_map_or}
 use Rattle.spell_types.specs.declared.Entry.{Entry}
@@ -7,6 +8,7 @@ use Rattle.spell_types.specs.declared.Lexicon.{Lexicon}
 use Rattle.spell_types.specs.declared.flags.Flag.{Flag}
 use Rattle.spell_types.specs.declared.rules.Rule.{Rule}
 use Rattle.spell_types.specs.declared.rules.Side.TheVariants.{Suffix}
+use Rattle.spell_types.specs.Derivations.{is_same_side}
 use Rattle.spell_types.specs.Flags.{has}
 use Rattle.affix_tables.specs.Tables.{IsTableOf}
 use Rattle.affix_strip.specs.Classes.{has_flag_of}
@@ -20,12 +22,18 @@ use Rattle.affix_strip.specs.declared.barring.Barring.TheVariants.{Nowhere, AtEn
 use Rattle.affix_strip.specs.declared.walk.IndexedLexicon.{IndexedLexicon}
 use Rattle.affix_strip.specs.declared.walk.Tables.{Tables}
 
--- the set has each flag that a suffix rule carries
-pub record HasCarried (rules : List Rule) (set : List Flag) : Type 0 where
-  pub flags : (place : ℕ) (rule : Rule) (flag : Flag) → slice_get rules place ≡ Some rule
-      → rule.side ≡ Suffix → has rule.carried (Some flag) ≡ true → has set (Some flag) ≡ true
+-- the flags that the rule carries, if it is a suffix rule
+abbrev pub carried_by_suffix : Rule → List Flag
+carried_by_suffix rule = if is_same_side Suffix rule.side then rule.carried else []
 
--- at the place of each rule whether suffix rules carry its flag
+-- the set has each flag of a class that a suffix rule carries
+pub record HasCarried (rules : List Rule) (set : List Flag) : Type 0 where
+  pub flags : (place own : ℕ) (rule other : Rule) → slice_get rules place ≡ Some rule
+      → rule.side ≡ Suffix → slice_get rules own ≡ Some other
+      → has rule.carried (Some other.flag) ≡ true → has set (Some other.flag) ≡ true
+
+-- at the place of each rule whether it may be a second suffix: where it says no, no suffix rule
+-- carries the rule's flag
 pub record AreSeconds (rules : List Rule) (seconds : List Bool) : Type 0 where
   pub set : List Flag
   pub carried : HasCarried rules set

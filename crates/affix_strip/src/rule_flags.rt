@@ -1,14 +1,19 @@
 //! Flags of affix rules.
 
-ghost use Rattle.std.specs.Prelude.{◌≡◌, Some, map, OnOk, IfOk, if◌then◌else◌};
-ghost use Rattle.spell_types.specs.Derivations.{is_same_side};
-ghost use Rattle.spell_types.specs.Flags.{has, put_all};
+ghost use Rattle.std.specs.Prelude.{◌≡◌, Some, map, IfOk};
+ghost use Rattle.std.specs.List.{flat_map};
+ghost use Rattle.spell_types.specs.Flags.{has};
 ghost use Rattle.affix_strip.specs.Classes.{HasClasses};
-ghost use Rattle.affix_strip.specs.Tables.{HasCarried, AreSeconds};
+ghost use Rattle.affix_strip.specs.Tables.{HasCarried, AreSeconds, carried_by_suffix};
 
 use lists::NoMemory;
 use spell_types::{Flag, FlagSet, Rule, Side, has, sets_have_their_flags};
 use std::alloc::Global;
+
+/// How many flags that rules carry are looked at one by one at most. Rules may share one long alias
+/// (the option AF of hunspell(5)), so that the flags of all rules together are many more than the
+/// file has bytes.
+const MOST_CARRIED: usize = 1 << 22;
 
 /// The flags of all affix classes.
 pub(crate) fn flags_of_classes(alloc: Global, rules: &[Rule]) -> Result<FlagSet, NoMemory>
@@ -26,8 +31,8 @@ fn listed_flags(alloc: Global, rules: &[Rule]) -> Result<Vec<Flag>, NoMemory>
     Ok(flags)
 }
 
-/// At the place of each rule whether it may be a second suffix: whether suffix rules carry its
-/// flag.
+/// At the place of each rule whether it may be a second suffix. Where it says no, no suffix rule
+/// carries the rule's flag.
 pub(crate) fn second_suffixes(alloc: Global, rules: &[Rule]) -> Result<Vec<bool>, NoMemory>
     ensures { IfOk result (λ seconds. AreSeconds rules.now seconds.items) }
 {
@@ -47,37 +52,44 @@ fn with_flags(alloc: Global, rules: &[Rule], set: &FlagSet) -> Result<Vec<bool>,
     Ok(told)
 }
 
-/// The flags that suffix rules carry.
+/// A set that has each flag of a class that suffix rules carry. Where rules carry very many flags it
+/// has those of all classes, as if suffix rules carried each.
 fn carried_by_suffixes(alloc: Global, rules: &[Rule]) -> Result<FlagSet, NoMemory>
     ensures { IfOk result (λ set. HasCarried rules.now set) }
 {
-    sets_have_their_flags();
-    let mut set = FlagSet::new(alloc);
-    for rule in rules {
-        add_carried(rule, &mut set)?;
+    if !carry_few(rules) {
+        return flags_of_classes(alloc, rules);
     }
-    Ok(set)
+    sets_have_their_flags();
+    FlagSet::from_list(alloc, listed_carried(alloc, rules)?)
 }
 
-/// Adds the flags that a rule carries, if it is a suffix rule.
-fn add_carried(rule: &Rule, set: &mut FlagSet) -> Result<(), NoMemory>
-    ensures { OnOk result
-        (set.new ≡ (if is_same_side Side.Suffix rule.now.side then put_all set.old rule.now.carried
-        else set.old)) }
+/// Whether all rules together carry so few flags that they are looked at one by one.
+pub(crate) fn carry_few(rules: &[Rule]) -> bool {
+    let mut count = 0usize;
+    for rule in rules {
+        count = count.saturating_add(rule.carried.as_slice().len());
+    }
+    count <= MOST_CARRIED
+}
+
+/// The flags that suffix rules carry, rule by rule.
+fn listed_carried(alloc: Global, rules: &[Rule]) -> Result<Vec<Flag>, NoMemory>
+    ensures { IfOk result (λ flags. flags.items ≡ flat_map carried_by_suffix rules.now) }
+{
+    let mut flags = Vec::new(alloc);
+    for rule in rules {
+        flags.extend_from_slice(carried_by_suffix(rule))?;
+    }
+    Ok(flags)
+}
+
+/// The flags that a rule carries, if it is a suffix rule.
+fn carried_by_suffix(rule: &Rule) -> &[Flag]
+    ensures { result.now ≡ carried_by_suffix rule.now }
 {
     match rule.side {
-        Side::Prefix => Ok(()),
-        Side::Suffix => put_all(&rule.carried, set),
+        Side::Prefix => &[],
+        Side::Suffix => rule.carried.as_slice(),
     }
-}
-
-/// Puts flags into a set.
-fn put_all(flags: &FlagSet, set: &mut FlagSet) -> Result<(), NoMemory>
-    ensures { OnOk result (set.new ≡ put_all set.old flags.now) }
-{
-    sets_have_their_flags();
-    for flag in flags.as_slice() {
-        set.insert(*flag)?;
-    }
-    Ok(())
 }
