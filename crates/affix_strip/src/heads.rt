@@ -1,7 +1,7 @@
 //! Which words may be forms of forbidden words. Suffixes change no more than the end of a word, so
 //! that its front tells most words that are none, without a look at rules or entries.
 
-ghost use Rattle.std.specs.Prelude.{◌≡◌, false, length, IfOk, OnOk, IfSome};
+ghost use Rattle.std.specs.Prelude.{◌≡◌, ◌≤◌, false, length, IfOk, OnOk, IfSome};
 ghost use Rattle.affix_strip.specs.Heads.{AreCutWithin, AreHeads, AreStripsWithin, IsNotedHead};
 ghost use Rattle.affix_strip.specs.Heads.{IsHeaded, IsUnheaded, KeepsHeads, MayHeads, NoneHeads};
 ghost use Rattle.affix_strip.specs.Heads.{cut_of};
@@ -9,7 +9,7 @@ ghost use Rattle.affix_strip.specs.Heads.{cut_of};
 use crate::barring::has_flag_of;
 use crate::edges::{Edge, Those};
 use crate::hashed::{START, fold};
-use crate::rule_flags::flags_of_classes;
+use crate::rule_flags::{carry_few, flags_of_classes};
 use key_filter::KeyFilter;
 use lists::NoMemory;
 use spell_types::{Entries, EntryRef, Flag, FlagSet, Lexicon, Rule, Side, chars_of, has};
@@ -85,7 +85,7 @@ fn has_head(heads: &KeyFilter, word: &[char]) -> bool
 }
 
 /// The hashes of the heads of the forbidden entries, if suffixes take off so many characters at
-/// most.
+/// most. Without a flag for them there are none.
 fn heads_of(
     alloc: Global,
     entries: &Entries,
@@ -94,6 +94,9 @@ fn heads_of(
 ) -> Result<KeyFilter, NoMemory>
     ensures { IfOk result (AreHeads entries.now forbidden most) }
 {
+    if forbidden.is_none() {
+        return KeyFilter::new(alloc, 0);
+    }
     let count = count_of(entries, forbidden);
     let mut heads = KeyFilter::new(alloc, count.saturating_mul(ROOM))?;
     for place in 0..entries.len() {
@@ -131,23 +134,27 @@ fn add_head(
     Ok(())
 }
 
-/// How many characters suffixes take off the end of a word at most, if the number fits: one of these
-/// rules, and one more behind it where it carries the flag of a class.
+/// How many characters suffixes take off the end of a word at most, if the number fits: one of
+/// these rules, and one more behind it where it carries the flag of a class. Where all rules
+/// together carry very many flags, one more is reckoned behind each of them.
 fn longest_cut(rules: &[Rule], classes: &FlagSet, longest: usize) -> Option<usize>
     ensures { IfSome result (AreCutWithin rules.now classes.now longest) }
 {
+    let few = carry_few(rules);
     let mut found = 0;
     for rule in rules {
-        found = cut_of(rule, classes, longest)?.max(found);
+        found = cut_of(rule, classes, longest, few)?.max(found);
     }
     Some(found)
 }
 
-/// How many characters of a word a suffix takes off, and another one behind it, if the number fits.
-fn cut_of(rule: &Rule, classes: &FlagSet, longest: usize) -> Option<usize>
-    ensures { IfSome result (λ cut. cut ≡ cut_of classes.now longest rule.now) }
+/// How many characters of a word a suffix takes off at most, and another one behind it, if the
+/// number fits. Where all rules together do not carry few flags, another one is reckoned behind
+/// each, and its flags are not looked at.
+fn cut_of(rule: &Rule, classes: &FlagSet, longest: usize, few: bool) -> Option<usize>
+    ensures { IfSome result (λ cut. cut_of classes.now longest rule.now ≤ cut) }
 {
-    let behind = if has_flag_of(&rule.carried, classes) {
+    let behind = if !few || has_flag_of(&rule.carried, classes) {
         longest.saturating_sub(rule.add.len())
     } else {
         0
