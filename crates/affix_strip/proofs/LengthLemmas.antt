@@ -1,9 +1,11 @@
 -- How long a form is: no longer than its entry's word and what its affixes add.
-use Rattle.std.proofs.Common.{◌≡◌, ◌∙◌, refl, sym, ap, ℕ, ◌+◌, ◌*◌, ◌-◌, ◌<◌, ◌≤◌, Bool, true}
-use Rattle.std.proofs.Common.{false, cond, ◌⊎◌, inl, inr, List, ◌++◌, length, take, drop, slice_get}
-use Rattle.std.proofs.Common.{Option, None, Some, IfSome, option_and_then, if◌then◌else◌}
+use Rattle.std.proofs.Common.{◌≡◌, ◌∙◌, refl, sym, ap, ℕ, zero, suc, ◌+◌, ◌*◌, ◌-◌, ◌<◌, ◌≤◌}
+use Rattle.std.proofs.Common.{Bool, true, false, cond, ◌⊎◌, inl, inr, List, [], ◌∷◌, ◌++◌, length}
+use Rattle.std.proofs.Common.{take, drop, slice_get, Option, None, Some, IfSome, option_and_then}
+use Rattle.std.proofs.Common.{if◌then◌else◌}
 use Rattle.std.proofs.Common.{length-append, length-drop, length-take, arith}
 use Rattle.std.specs.Option.{option_map}
+use Rattle.std.specs.Str.{chars, chars_after, continuation_len, lead_bits}
 use Rattle.std.proofs.lemmas.Bool.{cases_lt}
 use Rattle.std.proofs.lemmas.Option.{same_Some}
 use Rattle.spell_types.specs.declared.Entry.{Entry}
@@ -145,6 +147,22 @@ pub longest-is : (lexicon : Lexicon) (word most : ℕ) (told : Option ℕ)
 longest-is lexicon word most None words added is = tt
 longest-is lexicon word most (Some longest) words added is =
     λ d text form. omega (arith, is, form-within lexicon word most words added d text form)
+
+-- ---- a text has no more characters than bytes
+few-after : (left lead : ℕ) (bytes : List ℕ)
+    → length (chars_after left lead bytes) ≤ length bytes + 1
+few-after zero lead [] = omega arith
+few-after zero lead (byte ∷ bytes) =
+    omega (arith, few-after (continuation_len byte) (lead_bits byte) bytes)
+few-after (suc left) lead [] = omega arith
+few-after (suc left) lead (byte ∷ bytes) =
+    omega (arith, few-after left (lead * 64 + (byte - 128)) bytes)
+
+pub few_chars : (bytes : List ℕ) → length (chars bytes) ≤ length bytes
+unfolding chars
+few_chars [] = omega arith
+few_chars (byte ∷ bytes) =
+    omega (arith, few-after (continuation_len byte) (lead_bits byte) bytes)
 
 -- ---- the longest so far
 -- one item more is looked at

@@ -1,13 +1,12 @@
 //! How long the forms of a dictionary are at most.
 
-ghost use Rattle.std.specs.Prelude.{◌≡◌, ◌+◌, ◌*◌, length, IfSome};
-ghost use Rattle.std.specs.Str.{chars};
+ghost use Rattle.std.specs.Prelude.{◌≡◌, ◌+◌, ◌*◌, IfSome};
 ghost use Rattle.affix_strip.specs.Lengths.{AreAddedWithin, AreWordsWithin, IsLongest};
 
 use spell_types::{Entries, Lexicon, Rule};
 
-/// How long a form is at most: as long as the longest word and what three rules add. None if that
-/// number does not fit.
+/// How long a form is at most: as many characters as the longest word has bytes, and what three
+/// rules add. None if that number does not fit.
 pub(crate) fn longest_of(lexicon: &Lexicon) -> Option<usize>
     ensures { IsLongest lexicon.now result }
 {
@@ -23,21 +22,16 @@ fn sum_of(word: usize, added: usize) -> Option<usize>
     word.checked_add(added.checked_mul(3)?)
 }
 
+/// How many characters a word has at most: as many as the longest has bytes.
+#[tactic(auto, using(crate::proofs::LengthLemmas::few_chars))]
 fn longest_word(entries: &Entries) -> usize
     ensures { AreWordsWithin entries.now result }
 {
     let mut found = 0;
     for place in 0..entries.len() {
-        found = found.max(count_of(entries.at(place).word()));
+        found = found.max(entries.at(place).word().len());
     }
     found
-}
-
-/// How many characters a text has.
-fn count_of(text: &str) -> usize
-    ensures { result ≡ length (chars text.now) }
-{
-    text.chars().count()
 }
 
 fn longest_added(rules: &[Rule]) -> usize

@@ -71,8 +71,8 @@ impl Stems {
     }
 
     /// Whether every word of so many characters is longer than each form of the dictionary, so that
-    /// it has no derivation. It is said only where that is told by the longest entry and the
-    /// longest texts that rules add.
+    /// it has no derivation. It is said only where that is told by the bytes of the longest entry
+    /// and the longest texts that rules add.
     pub fn is_too_long(&self, count: usize) -> bool
         ensures { result ≡ true → (d : Derivation) (text : List ℕ) → form_of self.now d ≡ Some text
             → length text < count }
