@@ -14,12 +14,12 @@ use Rattle.spell_types.specs.declared.rules.Rule.{Rule}
 use Rattle.spell_types.specs.declared.rules.Side.{Side}
 use Rattle.spell_types.specs.declared.rules.Side.TheVariants.{Prefix, Suffix}
 use Rattle.spell_types.specs.Derivations.{named_with, affix_on, rule_on, is_right, is_in_order}
-use Rattle.spell_types.specs.Flags.{has}
+use Rattle.spell_types.specs.Flags.{has, has_flag_of}
 use Rattle.spell_types.specs.Licences.{holds_of, allows, carried_by, is_allowed, is_first_allowed}
 use Rattle.spell_types.specs.Licences.{is_second_allowed, is_prefix_allowed, is_crossing_right}
 use Rattle.spell_types.specs.Licences.{meets_signs, meets_need, meets_circumfix, is_forbidden}
 use Rattle.lists.specs.Laws.{any-at, any-contains}
-use Rattle.affix_strip.specs.Classes.{HasClasses, has_flag_of}
+use Rattle.affix_strip.specs.Classes.{HasClasses}
 use Rattle.affix_strip.specs.Tables.{is_forbidden_entry, takes_affixes}
 use Rattle.affix_strip.specs.Tables.{OfForbidden, AllowsNone}
 use Rattle.affix_strip.proofs.TableLemmas.{on-rule}

@@ -19,14 +19,13 @@ use Rattle.spell_types.specs.declared.rules.Rule.{Rule}
 use Rattle.spell_types.specs.declared.rules.Side.TheVariants.{Prefix, Suffix}
 use Rattle.spell_types.specs.Attaching.{attached, takes_prefix, takes_suffix}
 use Rattle.spell_types.specs.Derivations.{Named, affix_on, form_of, rule_on, with_affix}
-use Rattle.spell_types.specs.Flags.{has}
+use Rattle.spell_types.specs.Flags.{has, has_flag_of}
 use Rattle.spell_types.specs.Licences.{allows, carried_by, is_first_allowed}
 use Rattle.spell_types.specs.Licences.{is_second_allowed, is_prefix_allowed, is_crossing_right}
 use Rattle.spell_types.specs.Licences.{is_licensed}
 use Rattle.affix_strip.specs.declared.heads.Heads.{Heads}
 use Rattle.affix_strip.specs.declared.edges.Edge.{Edge}
 use Rattle.affix_strip.specs.declared.edges.Those.TheVariants.{All}
-use Rattle.affix_strip.specs.Classes.{has_flag_of}
 use Rattle.affix_strip.specs.Edges.{IsEdge, IsSilent, NoneBegin}
 use Rattle.affix_strip.specs.Hashes.{hash_of}
 use Rattle.affix_strip.specs.Heads.{cut_of, head_of, AreHeadsOf, IsHeaded, IsUnheaded, Unheaded}

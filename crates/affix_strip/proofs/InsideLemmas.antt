@@ -29,7 +29,7 @@ use Rattle.spell_types.specs.Attaching.{attached, attached_on, takes_prefix, tak
 use Rattle.spell_types.specs.Derivations.{Named, affix_on, form_of, formed, is_in_order, named}
 use Rattle.spell_types.specs.Derivations.{is_same_side, named_with, rule_on, with_affix}
 use Rattle.spell_types.specs.EntriesOf.{entry_flags}
-use Rattle.spell_types.specs.Flags.{has}
+use Rattle.spell_types.specs.Flags.{has, has_flag_of}
 use Rattle.spell_types.specs.Laws.{own_side}
 use Rattle.spell_types.specs.Licences.{holds_of, carried_by, is_affix_without, is_allowed}
 use Rattle.spell_types.specs.Licences.{is_licensed, some_affix_carries, some_carry, has_some_with}
@@ -47,7 +47,7 @@ use Rattle.affix_strip.specs.Edges.{Silent, Before}
 use Rattle.affix_strip.specs.Hashes.{hash_of}
 use Rattle.affix_strip.specs.Inside.{one_fits, has_step, StandsInside, ByFlags, InRule}
 use Rattle.affix_strip.specs.Inside.{carries_sign, HasGiven, HasInnerFlags, IsInside, IsUnmade}
-use Rattle.affix_strip.specs.Classes.{HasClasses, has_flag_of}
+use Rattle.affix_strip.specs.Classes.{HasClasses}
 use Rattle.affix_strip.specs.Tables.{AllowsNone}
 use Rattle.affix_strip.proofs.BarringLemmas.{no-affixes}
 use Rattle.affix_strip.proofs.InverseLemmas.{rule_on-side}

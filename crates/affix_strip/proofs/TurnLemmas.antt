@@ -1,10 +1,10 @@
 -- Going over entries by their places, and over the characters of their words.
 use Rattle.std.proofs.Common.{◌≡◌, ◌∙◌, sym, ap, ℕ, ◌+◌, ◌<◌, Bool}
-use Rattle.std.proofs.Common.{false, ◌&&◌, ◌||◌, ◌∷◌, [], ◌++◌, List, length, take, drop}
+use Rattle.std.proofs.Common.{false, ◌&&◌, ◌||◌, ◌∷◌, [], ◌++◌, List, length, map, take, drop}
 use Rattle.std.proofs.Common.{get_or, slice_get, Some, eq-eqb, ne_eqb}
 use Rattle.std.specs.List.{list_any}
 use Rattle.std.specs.Str.{chars}
-use Rattle.std.proofs.lemmas.List.{take_more, drop_more}
+use Rattle.std.proofs.lemmas.List.{take_more, drop_more, get_or-map}
 use Rattle.std.proofs.lemmas.Option.{slice_get_within, get_or_from_slice_get}
 use Rattle.std.proofs.lemmas.Str.{chars-nil}
 use Rattle.spell_types.specs.Cases.{is_same_word}
@@ -30,6 +30,14 @@ any-past test xs place x at fails so =
     sym (ap (list_any test) (drop-place xs place x at)
     ∙ ap (λ b. b || list_any test (drop (place + 1) xs)) fails)
     ∙ so
+
+-- what is told at the place of an item is told of the item
+pub told-at : {X : Type 0} (test : X → Bool) (xs : List X) (told : List Bool) (place : ℕ) (x : X)
+    (d : Bool) → told ≡ map test xs → slice_get xs place ≡ Some x → get_or told place d ≡ test x
+told-at test xs told place x d are at =
+    ap (λ bs. get_or bs place d) are
+    ∙ get_or-map test xs place x d (slice_get_within xs place x at)
+    ∙ ap test (get_or_from_slice_get xs place x x at)
 
 -- ---- the characters of a text beside those of a front
 pub front-more : (cs later front : List ℕ) (i c first : ℕ) → cs ≡ first ∷ later → first ≡ c

@@ -8,10 +8,10 @@ use Rattle.spell_types.specs.declared.Lexicon.{Lexicon}
 use Rattle.spell_types.specs.declared.flags.Flag.{Flag}
 use Rattle.spell_types.specs.declared.rules.Rule.{Rule}
 use Rattle.spell_types.specs.declared.rules.Side.TheVariants.{Prefix}
-use Rattle.spell_types.specs.Flags.{has}
+use Rattle.spell_types.specs.Flags.{has, has_flag_of}
 use Rattle.affix_strip.specs.declared.heads.Heads.{Heads}
 use Rattle.affix_strip.specs.declared.edges.Those.TheVariants.{All}
-use Rattle.affix_strip.specs.Classes.{HasClasses, has_flag_of}
+use Rattle.affix_strip.specs.Classes.{HasClasses}
 use Rattle.affix_strip.specs.Edges.{IsEdge, NoneBegin}
 use Rattle.affix_strip.specs.Hashes.{hash_of}
 

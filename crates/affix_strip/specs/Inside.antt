@@ -15,7 +15,7 @@ use Rattle.spell_types.specs.declared.rules.Rule.{Rule}
 use Rattle.spell_types.specs.declared.rules.Side.TheVariants.{Prefix, Suffix}
 use Rattle.spell_types.specs.declared.signs.Signs.{Signs}
 use Rattle.spell_types.specs.EntriesOf.{entry_flags}
-use Rattle.spell_types.specs.Flags.{has}
+use Rattle.spell_types.specs.Flags.{has, has_flag_of}
 use Rattle.spell_types.specs.Parts.{stands_at, stands_in_rule}
 use Rattle.spell_types.specs.Patterns.{fits_step}
 use Rattle.affix_strip.specs.declared.edges.Edge.{Edge}
@@ -23,7 +23,7 @@ use Rattle.affix_strip.specs.declared.inside.Inside.{Inside}
 use Rattle.affix_strip.specs.declared.edges.Those.TheVariants.{All, Carrying}
 use Rattle.affix_strip.specs.Edges.{IsSilent, IsNoted, IsEdge, IsBegun}
 use Rattle.affix_strip.specs.Hashes.{hash_of}
-use Rattle.affix_strip.specs.Classes.{HasClasses, has_flag_of}
+use Rattle.affix_strip.specs.Classes.{HasClasses}
 
 -- whether one of the steps is for parts with these flags
 abbrev pub one_fits : List Flag → List PatternStep → Bool

@@ -9,9 +9,8 @@ use Rattle.spell_types.specs.declared.flags.Flag.{Flag}
 use Rattle.spell_types.specs.declared.rules.Rule.{Rule}
 use Rattle.spell_types.specs.declared.rules.Side.TheVariants.{Suffix}
 use Rattle.spell_types.specs.Derivations.{is_same_side}
-use Rattle.spell_types.specs.Flags.{has}
+use Rattle.spell_types.specs.Flags.{has, has_flag_of}
 use Rattle.affix_tables.specs.Tables.{IsTableOf}
-use Rattle.affix_strip.specs.Classes.{has_flag_of}
 use Rattle.affix_strip.specs.EntryTable.{HasEntries}
 use Rattle.affix_strip.specs.Heads.{IsHeaded}
 use Rattle.affix_strip.specs.Inside.{IsInside}

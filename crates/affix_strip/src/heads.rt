@@ -6,13 +6,14 @@ ghost use Rattle.affix_strip.specs.Heads.{AreCutWithin, AreHeads, AreStripsWithi
 ghost use Rattle.affix_strip.specs.Heads.{IsHeaded, IsUnheaded, KeepsHeads, MayHeads, NoneHeads};
 ghost use Rattle.affix_strip.specs.Heads.{cut_of};
 
-use crate::barring::has_flag_of;
 use crate::edges::{Edge, Those};
 use crate::hashed::{START, fold};
 use crate::rule_flags::{carry_few, flags_of_classes};
 use key_filter::KeyFilter;
 use lists::NoMemory;
-use spell_types::{Entries, EntryRef, Flag, FlagSet, Lexicon, Rule, Side, chars_of, has};
+use spell_types::{
+    Entries, EntryRef, Flag, FlagSet, Lexicon, Rule, Side, chars_of, has, has_flag_of,
+};
 use std::alloc::Global;
 
 /// How many times as many keys the filter has room for as there are heads: each front of a word is

@@ -8,10 +8,10 @@ ghost use Rattle.spell_types.specs.Derivations.{form_of};
 ghost use Rattle.spell_types.specs.Licences.{is_licensed};
 ghost use Rattle.affix_strip.specs.Inside.{StandsInside, carries_sign, HasInnerFlags, HasGiven};
 ghost use Rattle.affix_strip.specs.Inside.{HasSteps, HasPatterns, KeepsFlags, HasWords, KeepsWords};
-ghost use Rattle.affix_strip.specs.Inside.{IsNotedWord, IsInside, IsUnmade};
-ghost use Rattle.affix_strip.specs.Classes.{has_flag_of};
+ghost use Rattle.affix_strip.specs.Inside.{IsInside, IsUnmade};
+ghost use Rattle.affix_strip.specs.Hashes.{hash_of};
+ghost use Rattle.key_filter.specs.Filter.{may_have};
 
-use crate::barring::has_flag_of;
 use crate::edges::{Edge, Those};
 use crate::hashed::{START, fold, hash_of};
 use crate::rule_flags::flags_of_classes;
@@ -80,21 +80,22 @@ impl Inside {
 fn words_with(alloc: Global, entries: &Entries, flags: &FlagSet) -> Result<KeyFilter, NoMemory>
     ensures { IfOk result (HasWords entries.now flags.now) }
 {
+    let having = entries.having(alloc, flags)?;
     let mut words = KeyFilter::new(alloc, entries.len())?;
     for place in 0..entries.len() {
-        add_word(&entries.at(place), flags, &mut words);
+        if having[place] {
+            add_word(&entries.at(place), &mut words);
+        }
     }
     Ok(words)
 }
 
-/// Adds the hash of an entry's word, if the entry has one of these flags.
-fn add_word(entry: &EntryRef<'_>, flags: &FlagSet, words: &mut KeyFilter)
-    ensures there { IsNotedWord flags.now words.new entry.now }
+/// Adds the hash of an entry's word.
+fn add_word(entry: &EntryRef<'_>, words: &mut KeyFilter)
+    ensures there { may_have words.new (hash_of entry.now.word) ≡ true }
     ensures kept { KeepsWords words.old words.new }
 {
-    if has_flag_of(entry.flags(), flags) {
-        words.insert(hash_of(entry.word()));
-    }
+    words.insert(hash_of(entry.word()));
 }
 
 /// Flags of which the entry of each part before another one has one: those that allow parts there,
