@@ -1,12 +1,9 @@
 -- Rules that no part of a dictionary follows.
-use Rattle.std.proofs.Common.{◌≡◌, ◌∙◌, ◌↔◌, refl, sym, nat_le, ap, subst, ℕ, zero, suc, Bool, true}
-use Rattle.std.proofs.Common.{false, true≢false, cond, ◌&&◌, ◌||◌, ◌==◌, ◌+◌, ◌<◌, ◌++◌, get_or}
-use Rattle.std.proofs.Common.{take, ◌⊎◌, inl, inr, List, [], ◌∷◌, filter, length, slice_get, Option}
-use Rattle.std.proofs.Common.{None, Some, is_some, IsTrue, arith}
-use Rattle.std.specs.BTreeSet.{BTreeSet}
+use Rattle.std.proofs.Common.{◌≡◌, ◌∙◌, ◌↔◌, refl, sym, nat_le, ap, subst, ℕ, Bool, true, false}
+use Rattle.std.proofs.Common.{true≢false, cond, ◌&&◌, ◌||◌, ◌==◌, ◌⊎◌, inl, inr, List, [], ◌∷◌}
+use Rattle.std.proofs.Common.{filter, length, slice_get, Option, None, Some, is_some, IsTrue, arith}
 use Rattle.std.specs.List.{AllByRecursion, list_any}
 use Rattle.std.specs.Option.{option_map_or}
-use Rattle.std.proofs.lemmas.List.{take_more}
 use Rattle.std.proofs.lemmas.Bool.{and_parts, or_cases, or_left, or_right}
 use Rattle.std.proofs.lemmas.Bool.Decides.{nat_tests}
 use Rattle.spell_types.specs.declared.Entry.{Entry}
@@ -23,63 +20,51 @@ use Rattle.spell_types.specs.Compounds.{are_few, make_up, is_made_up}
 use Rattle.spell_types.specs.Derivations.{Named, named}
 use Rattle.spell_types.specs.Licences.{holds_of, some_carry, has_some_with}
 use Rattle.spell_types.specs.EntriesOf.{entry_flags}
+use Rattle.spell_types.specs.Flags.{has}
 use Rattle.spell_types.specs.Parts.{has_right_entry, is_not_forbidden_at, are_affixes_permitted_at}
 use Rattle.spell_types.specs.Parts.{are_suffixes_few_at, stands_at, stands_in_rule}
 use Rattle.spell_types.specs.Patterns.{matches, fits_step, is_left_out, steps_after}
 use Rattle.spell_types.specs.Patterns.{MatchesOneByOne}
-use Rattle.lists.specs.Laws.{each-append, each-weaker}
-use Rattle.compound_words.specs.Prepared.{has_number, HasFlagsOf, has_step_in, has_first_sign}
+use Rattle.compound_words.specs.Prepared.{HasFlagsOf, has_step_in, has_first_sign}
 use Rattle.compound_words.specs.Rests.{AreRulesOf}
 use Rattle.compound_words.proofs.LeadLemmas.{matches-nothing}
 use Rattle.compound_words.proofs.StepLemmas.{or-false}
 
--- ---- a step fits the flags of an entry only where the set has its number
-flag-among : (numbers : BTreeSet ℕ) (flags : List Flag) (flag : Flag)
-    → AllByRecursion (λ f. has_number numbers f ≡ true) flags
-    → list_any (λ held. held.0 == flag.0) flags ≡ true → has_number numbers flag ≡ true
-flag-among numbers [] flag all any = absurd (true≢false (sym any))
-flag-among numbers (held ∷ flags) flag all any =
-    by (or_cases (held.0 == flag.0) (list_any (λ held. held.0 == flag.0) flags) any)
-    (flag-among numbers flags flag all.1)
+-- ---- a step fits the flags of an entry only where the set has its flag
+entry-flags : (set : List Flag) (entries : List Entry) (place : ℕ) → HasFlagsOf set entries
+    → (flag : Flag)
+    → has (option_map_or (λ entry. entry.flags) (slice_get entries place) []) (Some flag) ≡ true
+    → has set (Some flag) ≡ true
+entry-flags set entries place all flag = by (slice_get entries place) refl
   where
-    same : (held.0 == flag.0) ≡ true → held.0 ≡ flag.0
-    same is = grind (arith, nat_tests)
+    by : (found : Option Entry) → slice_get entries place ≡ found
+        → has (option_map_or (λ entry. entry.flags) found []) (Some flag) ≡ true
+        → has set (Some flag) ≡ true
+    by None is held = absurd (true≢false (sym held))
+    by (Some entry) is held = all place entry flag is held
 
-    by : ((held.0 == flag.0) ≡ true) ⊎ (list_any (λ held. held.0 == flag.0) flags ≡ true)
-        → (list_any (λ held. held.0 == flag.0) flags ≡ true → has_number numbers flag ≡ true)
-        → has_number numbers flag ≡ true
-    by (inl is) later = ap (λ n. has_number numbers (record { 0 = n })) (sym (same is)) ∙ all.0
-    by (inr any) later = later any
-
-entry-flags : (numbers : BTreeSet ℕ) (entries : List Entry) (place : ℕ) → HasFlagsOf numbers entries
-    → AllByRecursion (λ f. has_number numbers f ≡ true)
-    (option_map_or (λ entry. entry.flags) (slice_get entries place) [])
-entry-flags numbers [] place all = tt
-entry-flags numbers (entry ∷ entries) zero all = all.0
-entry-flags numbers (entry ∷ entries) (suc place) all = entry-flags numbers entries place all.1
-
--- a rule without one of the flags matches no list that begins with a set of them
-no-match : MatchesOneByOne → (numbers : BTreeSet ℕ) (pattern : List PatternStep) (set : List Flag)
-    (sets : List (List Flag)) → AllByRecursion (λ f. has_number numbers f ≡ true) set
-    → has_step_in numbers pattern ≡ false → matches pattern (set ∷ sets) ≡ false
-no-match law numbers [] set sets all none = matches-nothing set sets
-no-match law numbers (step ∷ more) set sets all none =
-    law.next step more set sets
+-- a rule without a flag of the set matches no list that begins with flags of it
+no-match : MatchesOneByOne → (set : List Flag) (pattern : List PatternStep) (flags : List Flag)
+    (more : List (List Flag))
+    → ((flag : Flag) → has flags (Some flag) ≡ true → has set (Some flag) ≡ true)
+    → has_step_in set pattern ≡ false → matches pattern (flags ∷ more) ≡ false
+no-match law set [] flags more all none = matches-nothing flags more
+no-match law set (step ∷ steps) flags more all none =
+    law.next step steps flags more
     ∙ ap (λ b. (is_left_out step && b) ||
-    (fits_step step set && matches
-    (steps_after step more) sets)) (no-match law numbers more set sets all (or-false
-    (has_number numbers step.flag) (has_step_in numbers more) none).1)
-    ∙ ap (λ b. (is_left_out step && false) || (b && matches (steps_after step more) sets)) misfit
+    (fits_step step flags && matches
+    (steps_after step steps) more)) (no-match law set steps flags more all lacks.1)
+    ∙ ap (λ b. (is_left_out step && false) || (b && matches (steps_after step steps) more)) misfit
     ∙ nothing (is_left_out step)
   where
-    misfit : fits_step step set ≡ false
-    misfit = by (fits_step step set) refl
+    lacks : (has set (Some step.flag) ≡ false) × (has_step_in set steps ≡ false)
+    lacks = or-false (has set (Some step.flag)) (has_step_in set steps) none
+
+    misfit : fits_step step flags ≡ false
+    misfit = by (fits_step step flags) refl
       where
-        by : (b : Bool) → fits_step step set ≡ b → fits_step step set ≡ false
-        by true is =
-            absurd (true≢false
-            (sym (flag-among numbers set step.flag all is)
-            ∙ (or-false (has_number numbers step.flag) (has_step_in numbers more) none).0))
+        by : (b : Bool) → fits_step step flags ≡ b → fits_step step flags ≡ false
+        by true is = absurd (true≢false (sym (all step.flag is) ∙ lacks.0))
         by false is = is
 
     nothing : (b : Bool) → ((b && false) || false) ≡ false
@@ -117,15 +102,15 @@ any-of-kept keep test (x ∷ xs) any = by (keep x) any (any-of-kept keep test xs
         either rest (or_cases (test x) (list_any test (filter keep xs)) any)
     by false any rest = or_right (test x) (list_any test xs) (rest any)
 
-pub kept-rules : MatchesOneByOne → (lexicon : Lexicon) (numbers : BTreeSet ℕ)
-    (rules : List (List PatternStep)) → HasFlagsOf numbers lexicon.entries
-    → rules ≡ filter (has_step_in numbers) lexicon.affixes.patterns
+pub kept-rules : MatchesOneByOne → (lexicon : Lexicon) (set : List Flag)
+    (rules : List (List PatternStep)) → HasFlagsOf set lexicon.entries
+    → rules ≡ filter (has_step_in set) lexicon.affixes.patterns
     → (a : Asked) → a.lexicon ≡ lexicon → AreRulesOf a rules
-kept-rules law lexicon numbers rules all are a is = record {
+kept-rules law lexicon set rules all are a is = record {
   same = same;
   fewer =
       λ test any. ap (λ l. list_any test l.affixes.patterns) is
-      ∙ any-of-kept (has_step_in numbers) test lexicon.affixes.patterns
+      ∙ any-of-kept (has_step_in set) test lexicon.affixes.patterns
       (sym (ap (list_any test) are) ∙ any);
 }
   where
@@ -134,21 +119,21 @@ kept-rules law lexicon numbers rules all are a is = record {
         ≡ list_any (follows_rule a First (part ∷ more)) a.lexicon.affixes.patterns
     same part more given =
         ap (list_any (follows_rule a First (part ∷ more)))
-        (are ∙ ap (λ l. filter (has_step_in numbers) l.affixes.patterns) (sym is))
-        ∙ any-kept (has_step_in numbers)
+        (are ∙ ap (λ l. filter (has_step_in set) l.affixes.patterns) (sym is))
+        ∙ any-kept (has_step_in set)
         (follows_rule a First (part ∷ more)) none a.lexicon.affixes.patterns
       where
-        flags : AllByRecursion (λ f. has_number numbers f ≡ true) (entry_flags a.lexicon part.d)
+        flags : (flag : Flag) → has (entry_flags a.lexicon part.d) (Some flag) ≡ true
+            → has set (Some flag) ≡ true
         flags =
-            subst (λ l. AllByRecursion (λ f. has_number numbers f ≡ true) (entry_flags l part.d))
-            (sym is) (entry-flags numbers lexicon.entries part.d.entry all)
+            entry-flags set a.lexicon.entries part.d.entry
+            (subst (λ l. HasFlagsOf set l.entries) (sym is) all)
 
-        none : (pattern : List PatternStep) → has_step_in numbers pattern ≡ false
+        none : (pattern : List PatternStep) → has_step_in set pattern ≡ false
             → follows_rule a First (part ∷ more) pattern ≡ false
         none pattern out =
             ap (λ b. all_stand (stands_in_rule a.lexicon) First (part ∷ more) && b)
-            (no-match law numbers pattern (entry_flags a.lexicon part.d)
-            (flags_of a more) flags out)
+            (no-match law set pattern (entry_flags a.lexicon part.d) (flags_of a more) flags out)
             ∙ nothing (all_stand (stands_in_rule a.lexicon) First (part ∷ more))
           where
             nothing : (b : Bool) → (b && false) ≡ false
@@ -238,42 +223,6 @@ nothing-made-up a word rules none empty are law = by (is_made_up a word) refl
         let made = law.0 is in absurd
         (parts-none a word rules signs.0 signs.1 empty are made.parts made.given made.make)
 
--- ---- flags that were added stay
-pub still-there : (before now : BTreeSet ℕ) (entries : List Entry)
-    → ((flag : Flag) → has_number before flag ≡ true → has_number now flag ≡ true)
-    → HasFlagsOf before entries → HasFlagsOf now entries
-still-there before now entries kept all =
-    each-weaker (λ entry. AllByRecursion (λ flag. has_number before flag ≡ true) entry.flags)
-    (λ entry. AllByRecursion (λ flag. has_number now flag ≡ true) entry.flags)
-    (λ entry each. each-weaker (λ flag. has_number before flag ≡ true)
-    (λ flag. has_number now flag ≡ true) kept entry.flags each) entries all
-
-pub one-entry-more : (before now : BTreeSet ℕ) (entries : List Entry) (index : ℕ) (entry d : Entry)
-    → index < length entries → entry ≡ get_or entries index d
-    → ((flag : Flag) → has_number before flag ≡ true → has_number now flag ≡ true)
-    → HasFlagsOf before (take index entries)
-    → AllByRecursion (λ flag. has_number now flag ≡ true) entry.flags
-    → HasFlagsOf now (take (index + 1) entries)
-one-entry-more before now entries index entry d within is kept all new =
-    subst (HasFlagsOf now)
-    (sym (take_more entries index d within ∙ ap (λ e. take index entries ++ e ∷ []) (sym is)))
-    (each-append (λ entry. AllByRecursion (λ flag. has_number now flag ≡ true) entry.flags)
-    (take index entries) (entry ∷ []) (still-there before now (take index entries) kept all)
-    (new, tt))
-
 pub no-rule : (rules : List (List PatternStep)) → (length rules == 0) ≡ true → rules ≡ []
 no-rule [] is = refl
 no-rule (rule ∷ rules) is = absurd (grind (arith, nat_tests))
-
-pub one-flag-more : (before now : BTreeSet ℕ) (flags : List Flag) (index : ℕ) (d : Flag)
-    → index < length flags
-    → ((flag : Flag) → has_number before flag ≡ true → has_number now flag ≡ true)
-    → AllByRecursion (λ flag. has_number before flag ≡ true) (take index flags)
-    → has_number now (get_or flags index d) ≡ true
-    → AllByRecursion (λ flag. has_number now flag ≡ true) (take (index + 1) flags)
-one-flag-more before now flags index d within kept all new =
-    subst (AllByRecursion (λ flag. has_number now flag ≡ true))
-    (sym (take_more flags index d within))
-    (each-append (λ flag. has_number now flag ≡ true) (take index flags) (get_or flags index d ∷ [])
-    (each-weaker (λ flag. has_number before flag ≡ true) (λ flag. has_number now flag ≡ true) kept
-    (take index flags) all) (new, tt))

@@ -1,30 +1,25 @@
 -- What is prepared of a dictionary for its compounds.
-use Rattle.std.specs.Prelude.{◌≡◌, ℕ, Bool, true, ◌||◌, List, is_some}
-use Rattle.std.specs.BTreeSet.{BTreeSet, contains}
-use Rattle.std.specs.List.{AllByRecursion, list_any}
-use Rattle.std.specs.Ordering.{nat_cmp}
+use Rattle.std.specs.Prelude.{◌≡◌, ℕ, Bool, true, ◌||◌, List, Some, slice_get, is_some}
+use Rattle.std.specs.List.{list_any}
 use Rattle.spell_types.specs.declared.Entry.{Entry}
 use Rattle.spell_types.specs.declared.Lexicon.{Lexicon}
 use Rattle.spell_types.specs.declared.flags.Flag.{Flag}
 use Rattle.spell_types.specs.declared.patterns.PatternStep.{PatternStep}
 use Rattle.spell_types.specs.declared.signs.Signs.{Signs}
 use Rattle.spell_types.specs.Compounds.{Asked}
+use Rattle.spell_types.specs.Flags.{has}
 use Rattle.compound_words.specs.declared.Compounds.{Compounds}
 use Rattle.compound_words.specs.Rests.{AreRulesOf}
 
--- whether a set of numbers has the flag's
-abbrev pub has_number : BTreeSet ℕ → Flag → Bool
-has_number numbers flag = contains nat_cmp numbers flag.0
+-- the set has all flags that the entries have
+abbrev pub HasFlagsOf : List Flag → List Entry → Type 0
+HasFlagsOf set entries =
+    (place : ℕ) (entry : Entry) (flag : Flag) → slice_get entries place ≡ Some entry
+    → has entry.flags (Some flag) ≡ true → has set (Some flag) ≡ true
 
--- the set has the numbers of all flags of the entries
-abbrev pub HasFlagsOf : BTreeSet ℕ → List Entry → Type 0
-HasFlagsOf numbers entries =
-    AllByRecursion
-    (λ entry. AllByRecursion (λ flag. has_number numbers flag ≡ true) entry.flags) entries
-
--- whether the set has the number of a flag of the rule
-abbrev pub has_step_in : BTreeSet ℕ → List PatternStep → Bool
-has_step_in numbers pattern = list_any (λ step. has_number numbers step.flag) pattern
+-- whether the set has the flag of a step of the rule
+abbrev pub has_step_in : List Flag → List PatternStep → Bool
+has_step_in set pattern = list_any (λ step. has set (Some step.flag)) pattern
 
 -- whether there is a flag that allows first parts
 abbrev pub has_first_sign : Signs → Bool

@@ -20,7 +20,7 @@ use affix_strip::Stems;
 use lists::{Items, NoMemory};
 use replacements::has_rep_fault;
 use rows::is_made_up;
-use rules::{numbers_of, rules_with};
+use rules::rules_with;
 use search::Search;
 use spell_types::{Lexicon, Pattern, Signs, compounds_have_parts, patterns_match};
 use std::alloc::Global;
@@ -116,8 +116,8 @@ fn rules_of(alloc: Global, lexicon: &Lexicon) -> Result<Items<Pattern>, NoMemory
     if patterns.is_empty() {
         return Ok(Items::new(alloc));
     }
-    let numbers = numbers_of(alloc, &lexicon.entries)?;
-    rules_with(alloc, &numbers, patterns)
+    let flags = lexicon.entries.flags(alloc)?;
+    rules_with(alloc, &flags, patterns)
 }
 
 /// Whether a flag allows first parts.

@@ -1,4 +1,4 @@
--- The rules that are kept are those with a flag of an entry.
+-- The rules that are kept are those with a flag of the set.
 use Rattle.std.proofs.Common.{◌∙◌, ap, filter, Result, Ok, Err, IfOk}
 use Rattle.compound_words.specs.Prepared.{has_step_in}
 use Rattle.compound_words.proofs.RuleLemmas.{kept-rules}
@@ -13,6 +13,6 @@ if_ok (Err why) holds so = tt
 pub returns : goal.returns
 returns c =
     if_ok c.rules_with.result c.rules_with.ensures (λ rules is.
-    kept-rules c.patterns_match.ensures.one_by_one c.args.lexicon.now c.in_ok-numbers.numbers rules
-    c.in_ok-numbers.ensures
-    (is ∙ ap (filter (has_step_in c.in_ok-numbers.numbers)) c.deref.ensures))
+    kept-rules c.patterns_match.ensures.one_by_one c.args.lexicon.now c.in_ok-flags.flags rules
+    c.in_ok-flags.ensures
+    (is ∙ ap (filter (has_step_in c.in_ok-flags.flags)) c.deref.ensures))

@@ -5,4 +5,4 @@ use Rattle.compound_words.proofs.rules.rules_with.Given as goal
 
 abbrev pub invariant-loop-pattern : goal.invariant-loop-pattern
 invariant-loop-pattern l =
-    l.rules ≡ filter (has_step_in l.numbers) (take l.pattern-index l.patterns)
+    l.rules ≡ filter (has_step_in l.flags) (take l.pattern-index l.patterns)
