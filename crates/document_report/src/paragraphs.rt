@@ -1,40 +1,27 @@
 //! The paragraphs of a document: its bytes are found to be UTF-8 once, and gone over once for their
 //! lines.
 
-ghost use Rattle.std.specs.Prelude.{◌≡◌, ◌∷◌, ◌<◌, ◌≤◌, All, IfOk, OnOk, drop, length};
+ghost use Rattle.std.specs.Prelude.{◌≡◌, ◌≤◌, All, IfOk, OnOk, length};
 ghost use Rattle.std.specs.List.{list_any};
-ghost use Rattle.std.specs.Str.Lines.{strip_carriage_return};
 ghost use Rattle.lists.specs.Answers.{GivesDue};
-ghost use Rattle.text_lines.specs.Lines.{bad_line, first_place, line_texts};
+ghost use Rattle.text_lines.specs.Lines.{bad_line, line_texts};
+ghost use Rattle.text_lines.specs.Texts.{texts_in};
 ghost use Rattle.document_report.specs.Documents.{MayCome, is_long, unless_bad};
 ghost use Rattle.document_report.specs.Documents.{unless_long, unless_many};
-ghost use Rattle.document_report.specs.Texts.{lent, texts_in};
+ghost use Rattle.document_report.specs.Texts.{lent};
 ghost use Rattle.paragraph_text.specs.declared.limits.TheConstants.{MOST_PARAGRAPHS, MOST_BYTES};
 
 use crate::fault::DocumentFault;
 use paragraph_text::{MOST_BYTES, MOST_PARAGRAPHS};
 use std::alloc::Global;
-use text_lines::bad_line;
+use text_lines::{first_line, text_of_file};
 
 /// The text of a document, behind a byte order mark.
 pub fn text_of(document: &[u8]) -> Result<&str, DocumentFault>
     ensures { GivesDue MayCome (λ text. texts_in text.now)
         (unless_bad (bad_line document.now) (line_texts document.now)) result }
 {
-    match std::str::from_utf8(without_mark(document)) {
-        Ok(text) => Ok(text),
-        // Line feeds are UTF-8, so a line is not.
-        Err(_) => Err(DocumentFault::NotUtf8 {
-            line: bad_line(document).unwrap(),
-        }),
-    }
-}
-
-/// A document without the byte order mark at its start, if it has one.
-fn without_mark(document: &[u8]) -> &[u8]
-    ensures { result.now ≡ drop (first_place document.now) document.now }
-{
-    document.strip_prefix(b"\xef\xbb\xbf").unwrap_or(document)
+    text_of_file(document).map_err(|line| DocumentFault::NotUtf8 { line })
 }
 
 /// The paragraphs of a text, which are its lines, if they are not too many.
@@ -81,21 +68,4 @@ fn has_long(paragraphs: &[&str]) -> bool
     paragraphs
         .iter()
         .any(|paragraph| paragraph.len() > MOST_BYTES)
-}
-
-/// The first line of a text that has one, and the text behind it.
-fn first_line(text: &str) -> (&str, &str)
-    requires { 0 < length text.now }
-    ensures first { texts_in text.now ≡ result.0.now ∷ texts_in result.1.now }
-    ensures shorter { length result.1.now < length text.now }
-{
-    let (line, behind) = text.split_once('\n').unwrap_or((text, ""));
-    (without_return(line), behind)
-}
-
-/// A line without the carriage return at its end, if it has one.
-fn without_return(line: &str) -> &str
-    ensures { result.now ≡ strip_carriage_return line.now }
-{
-    line.strip_suffix('\r').unwrap_or(line)
 }

@@ -2,7 +2,7 @@
 use Rattle.std.proofs.Common.{◌≡◌, ◌∙◌, refl, sym, ap, ℕ, zero, suc, add-zero, add-one, add_comm}
 use Rattle.std.proofs.Common.{map, ◌+◌, ◌-◌, ◌<◌, ◌≤◌, Bool, true, false, not, List, [], ◌∷◌, ◌++◌}
 use Rattle.std.proofs.Common.{length, drop, take, cond, Option, None, Some, unwrap_or, find}
-use Rattle.std.proofs.Common.{slice_range, append-nil, append_assoc, Result, Ok, Err, is_ok}
+use Rattle.std.proofs.Common.{slice_range, append_assoc, Result, Ok, Err, is_ok}
 use Rattle.std.proofs.Common.{MatchResult, Bor, arith, length-drop, length-take}
 use Rattle.std.specs.List.{All, slice_split, position_or_len, take_while, range_with_len}
 use Rattle.std.specs.Option.{option_map}

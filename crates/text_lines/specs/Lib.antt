@@ -1,2 +1,4 @@
 pub mod Lines
 pub mod Fields
+pub mod Texts
+pub mod Laws

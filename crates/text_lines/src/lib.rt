@@ -21,8 +21,10 @@ use std::alloc::Global;
 
 pub mod found;
 mod owned;
+mod texts;
 
 pub use owned::Text;
+pub use texts::{first_line, text_of_file};
 
 /// The lines of a file, up to the first that is not UTF-8. Where memory is wanting, nothing is said
 /// of the file.

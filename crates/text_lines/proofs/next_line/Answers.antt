@@ -1,6 +1,6 @@
 -- A line that is UTF-8 comes next; and nothing at the end of the bytes, or where the line is not
 -- UTF-8.
-use Rattle.std.proofs.Common.{◌≤◌, arith, sym, refl}
+use Rattle.std.proofs.Common.{arith, sym, refl}
 use Rattle.text_lines.proofs.LineLemmas.{line_next, none_at_end, none_at_bad}
 use Rattle.text_lines.proofs.next_line.Goals as goal
 

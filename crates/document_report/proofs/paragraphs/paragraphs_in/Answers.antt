@@ -1,9 +1,11 @@
 -- A line is taken from the front of the rest, and is the next paragraph.
 use Rattle.std.proofs.Common.{rules, ◌∙◌, ◌++◌, append-nil, inr, length, sym, ap, arith}
 use Rattle.std.proofs.lemmas.List.{length_push}
-use Rattle.document_report.specs.Texts.{lent, texts_in}
-use Rattle.document_report.proofs.LineLemmas.{few-found, line-taken, many-found, no-texts}
-use Rattle.document_report.proofs.LineLemmas.{none-left, one-more, some-left}
+use Rattle.text_lines.specs.Laws.{no-texts, some-texts}
+use Rattle.text_lines.specs.Texts.{texts_in}
+use Rattle.document_report.specs.Texts.{lent}
+use Rattle.document_report.proofs.LineLemmas.{few-found, line-taken, many-found}
+use Rattle.document_report.proofs.LineLemmas.{none-left, some-left}
 use Rattle.document_report.proofs.paragraphs.paragraphs_in.Goals as goal
 
 pub returns-then-len-eq-MOST_PARAGRAPHS-clause-due :
@@ -14,7 +16,7 @@ returns-then-len-eq-MOST_PARAGRAPHS-clause-due c =
     let some = some-left (length l.rest.now) c.is_empty.result c.is_empty.ensures
     c.loop-rest-test.true in
     inr (many-found texts (texts_in c.args.text.now) (texts_in l.rest.now)
-    (one-more l.rest.now some) l.invariant.lines
+    (some-texts l.rest.now some) l.invariant.lines
     (omega (arith, c.len.ensures, c.if-len-eq-MOST_PARAGRAPHS.true)))
 
 pub first_line-requires : goal.first_line-requires

@@ -5,9 +5,9 @@ use Rattle.std.specs.Option.{MatchOption}
 use Rattle.std.specs.List.{position_or_len, before_first, after_first}
 use Rattle.std.specs.Str.Lines.{strip_carriage_return}
 use Rattle.text_lines.specs.Lines.{is_line_feed}
-use Rattle.document_report.specs.Texts.{texts_in}
-use Rattle.document_report.proofs.LineLemmas.{line-first, line-last}
-use Rattle.document_report.proofs.paragraphs.first_line.Goals as goal
+use Rattle.text_lines.specs.Texts.{texts_in}
+use Rattle.text_lines.proofs.TextLemmas.{line-first, line-last}
+use Rattle.text_lines.proofs.texts.first_line.Goals as goal
 
 first : (text empty : Bor (List ℕ)) (found : Option (Bor (List ℕ) × Bor (List ℕ))) → empty.now ≡ []
     → 0 < length text.now

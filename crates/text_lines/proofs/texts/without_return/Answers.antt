@@ -4,8 +4,8 @@ use Rattle.std.proofs.Common.{unwrap_or, ap, lit<}
 use Rattle.std.specs.Option.{MatchOption}
 use Rattle.std.specs.Str.Lines.{strip_carriage_return}
 use Rattle.std.proofs.lemmas.Str.Pattern.{strip_suffix_char}
-use Rattle.document_report.proofs.LineLemmas.{strip-none, strip-some}
-use Rattle.document_report.proofs.paragraphs.without_return.Goals as goal
+use Rattle.text_lines.proofs.TextLemmas.{strip-none, strip-some}
+use Rattle.text_lines.proofs.texts.without_return.Goals as goal
 
 stripped-by : (line : Bor (List ℕ)) (found : Option (Bor (List ℕ)))
     → MatchOption found ((front : List ℕ) → line.now ≢ front ++ (13 ∷ []))
