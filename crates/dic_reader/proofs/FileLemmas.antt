@@ -1,30 +1,57 @@
 -- The lines of a file, of which the first has to count, and what is read of the file.
 use Rattle.std.proofs.Common.{◌≡◌, ℕ, true, false, cond, List, [], ◌∷◌, ◌++◌, length, map, Some}
-use Rattle.std.proofs.Common.{None, Result, Err, suc, refl, sym, ap, ◌∙◌, subst, arith}
+use Rattle.std.proofs.Common.{None, Result, Err, refl, sym, ap, ◌∙◌, subst, arith}
 use Rattle.text_lines.specs.declared.found.Line.{Line}
 use Rattle.text_lines.specs.Lines.{text_of, good_lines, bad_line}
 use Rattle.spell_types.specs.declared.Affixes.{Affixes}
 use Rattle.spell_types.specs.declared.Entry.{Entry}
 use Rattle.dic_reader.specs.declared.faults.DicFault.{DicFault}
 use Rattle.dic_reader.specs.declared.faults.DicWhy.TheVariants.{NotUtf8, BadCount}
-use Rattle.dic_reader.specs.Entries.{listed, is_count}
+use Rattle.text_lines.specs.Texts.{texts_in}
+use Rattle.text_lines.specs.Laws.{no-texts}
+use Rattle.dic_reader.specs.Entries.{listed, is_count, AreLinesOf}
 use Rattle.dic_reader.specs.Faults.{Fault, cause_number, bad_faults, least_of, first_fault}
 use Rattle.dic_reader.specs.Faults.{entry_limit, entries_faults, lines_faults, entry_said}
 use Rattle.dic_reader.specs.Faults.{entries_said, entries_read, lines_read, dic_read, IsRead}
 use Rattle.line_faults.specs.Faults.{is_before, fault_at, unless_fault}
 use Rattle.line_faults.specs.Laws.{NoneBefore, higher-line, none-before-stays}
-use Rattle.dic_reader.proofs.OrderLemmas.{AreBehind, AreNumbered, AreRising, rising, first-behind}
+use Rattle.dic_reader.proofs.OrderLemmas.{AreBehind, AreNumbered, rising, first-behind}
 use Rattle.dic_reader.proofs.OrderLemmas.{first-number, entries-behind-stay}
 use Rattle.lists.specs.Laws.{or-none}
 
 -- ---- the first line and those behind it
 
-pub rising-behind : (lines later : List Line) (count : Line) → lines ≡ count ∷ later
-    → AreNumbered lines
-    → AreRising later
-rising-behind lines later count is numbered =
-    let all = rising (count ∷ later) (subst AreNumbered is numbered) in
-    λ i j d lower within. all (suc i) (suc j) d (omega (arith, lower)) (omega (arith, within))
+-- the lines of a text by its first line and the text behind that
+pub record Parted (bytes : List ℕ) (lines : List Line) (line behind : List ℕ) : Type 0 where
+  pub count : Line
+  pub later : List Line
+  pub is : lines ≡ count ∷ later
+  pub text : text_of bytes count ≡ line
+  pub lines_behind : AreLinesOf bytes 2 later behind
+
+pub parted : (bytes : List ℕ) (lines : List Line) (text line behind : List ℕ)
+    → AreLinesOf bytes 1 lines text → texts_in text ≡ line ∷ texts_in behind
+    → Parted bytes lines line behind
+parted bytes lines text line behind are first = go lines (sym first ∙ are.texts) are.numbers
+  where
+    go : (ls : List Line) → line ∷ texts_in behind ≡ map (text_of bytes) ls → AreNumbered 1 ls
+        → Parted bytes ls line behind
+    go [] same numbers = absurd (cc)
+    go (count ∷ later) same numbers = record {
+      count = count;
+      later = later;
+      is = refl;
+      text = cc;
+      lines_behind = record { texts = cc; numbers = cc };
+    }
+
+pub no-line-of : (bytes : List ℕ) (lines : List Line) (text : List ℕ)
+    → AreLinesOf bytes 1 lines text → length text ≡ 0 → length lines ≡ 0
+no-line-of bytes lines text are none = go lines (sym (no-texts text none) ∙ are.texts)
+  where
+    go : (ls : List Line) → [] ≡ map (text_of bytes) ls → length ls ≡ 0
+    go [] same = refl
+    go (line ∷ more) same = absurd (cc)
 
 -- where the first line counts, what is read is what is read of the entries
 pub counted : (affixes : Affixes) (bytes : List ℕ) (lines later : List Line) (count : Line)
@@ -46,7 +73,7 @@ counted affixes bytes lines later count result is counts =
 
 -- where it does not, its fault goes before those of the entries
 pub uncounted : (affixes : Affixes) (bytes : List ℕ) (lines later : List Line) (count : Line)
-    → lines ≡ count ∷ later → AreNumbered lines
+    → lines ≡ count ∷ later → AreNumbered 1 lines
     → is_count (text_of bytes count) ≡ false
     → lines_read affixes bytes lines ≡ Err (fault_at 1 BadCount)
 unfolding lines_read
@@ -54,9 +81,9 @@ uncounted affixes bytes lines later count is numbered lacks =
     let entries = listed bytes later in
     let fault = fault_at count.number BadCount in
     let said = map (entry_said affixes) entries in
-    let own = subst AreNumbered is numbered in
+    let own = subst (AreNumbered 1) is numbered in
     let behind : AreBehind count.number entries =
-    first-behind bytes count later (rising (count ∷ later) own) in
+    first-behind bytes count later (rising 1 (count ∷ later) own) in
     let none : NoneBefore cause_number fault (entries_faults affixes entry_limit entries) =
     entries-behind-stay affixes (λ other. is_before cause_number other fault ≡ false) count.number
     (λ other above. higher-line cause_number fault other above) entry_limit entries behind in

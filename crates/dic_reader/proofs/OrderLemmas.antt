@@ -148,8 +148,9 @@ no-fault affixes limit entries fine few =
 abbrev pub AreRising : List Line → Type 0
 AreRising lines = AllPairs (λ line later. line.number < later.number) lines
 
-abbrev pub AreNumbered : List Line → Type 0
-AreNumbered lines = map (λ line. line.number) lines ≡ range_with_len 1 (length lines)
+abbrev pub AreNumbered : ℕ → List Line → Type 0
+AreNumbered first lines =
+    map (λ line. line.number) lines ≡ range_with_len first (length lines)
 
 abbrev LinesBehind : ℕ → List Line → Type 0
 LinesBehind number lines = All (λ (line : Line). number < line.number) lines
@@ -178,25 +179,26 @@ lines-behind lines place d rising within k e inside =
     ∙ get_or_default lines (place + 1 + k) e d (omega (arith, long, inside))))
     (rising place (place + 1 + k) d (omega arith) (omega (arith, long, inside)))
 
-number-at : (lines : List Line) (place : ℕ) (d : Line) → AreNumbered lines → place < length lines
-    → (get_or lines place d).number ≡ 1 + place
-number-at lines place d is within =
+pub number-at : (first : ℕ) (lines : List Line) (place : ℕ) (d : Line) → AreNumbered first lines
+    → place < length lines → (get_or lines place d).number ≡ first + place
+number-at first lines place d is within =
     sym (get_or-map (λ (line : Line). line.number) lines place d 0 within)
     ∙ ap (λ ns. get_or ns place 0) is
-    ∙ get_or-range_with_len 1 (length lines) place 0 within
+    ∙ get_or-range_with_len first (length lines) place 0 within
 
 -- lines that are numbered one by one have rising numbers
-pub rising : (lines : List Line) → AreNumbered lines → AreRising lines
-rising lines is i j d lower within =
+pub rising : (first : ℕ) (lines : List Line) → AreNumbered first lines → AreRising lines
+rising first lines is i j d lower within =
     omega (
       arith,
       lower,
-      number-at lines i d is (omega (arith, lower, within)),
-      number-at lines j d is within,
+      number-at first lines i d is (omega (arith, lower, within)),
+      number-at first lines j d is within,
     )
 
 -- the first of them, and the entries of those behind it
-pub first-number : (line : Line) (more : List Line) → AreNumbered (line ∷ more) → line.number ≡ 1
+pub first-number : (line : Line) (more : List Line) → AreNumbered 1 (line ∷ more)
+    → line.number ≡ 1
 first-number line more is = cc
 
 pub first-behind : (bytes : List ℕ) (line : Line) (more : List Line) → AreRising (line ∷ more)

@@ -1,26 +1,32 @@
 -- A turn of the loop over the lines with entries.
-use Rattle.std.proofs.Common.{◌≡◌, ◌≢◌, ℕ, ◌+◌, ◌<◌, ◌≤◌, Bool, true, false, cond, List, [], ◌∷◌}
+use Rattle.std.proofs.Common.{suc, ◌≡◌, ◌≢◌, ℕ, ◌+◌, ◌<◌, ◌≤◌, Bool, true, false, cond, List, []}
+use Rattle.std.proofs.Common.{◌∷◌}
 use Rattle.std.proofs.Common.{◌++◌, length, map, take, drop, Some, None, Ok, Err, All, sym, ap, ◌∙◌}
 use Rattle.std.proofs.Common.{subst, arith, get_or, add-one, length-append}
 use Rattle.std.specs.List.{cons_option}
 use Rattle.std.proofs.lemmas.List.{take_more, take-append-drop, take_all, append-nil, length-map}
 use Rattle.std.proofs.lemmas.List.{map-append}
 use Rattle.std.proofs.lemmas.List.Elements.{filter_map-append, All-push}
+use Rattle.std.proofs.lemmas.List.{get_or-map, get_or_default, length-drop}
 use Rattle.std.proofs.Math.Seq.{drop-cons}
 use Rattle.text_lines.specs.declared.found.Line.{Line}
 use Rattle.text_lines.specs.Lines.{text_of}
+use Rattle.text_lines.specs.Texts.{texts_in}
+use Rattle.text_lines.specs.Laws.{no-texts}
 use Rattle.spell_types.specs.declared.Affixes.{Affixes}
 use Rattle.spell_types.specs.declared.Entry.{Entry}
 use Rattle.dic_reader.specs.declared.faults.DicFault.{DicFault}
 use Rattle.dic_reader.specs.declared.faults.DicFault.TheVariants.{At, NoMemory}
 use Rattle.dic_reader.specs.declared.faults.DicWhy.TheVariants.{TooMany}
-use Rattle.dic_reader.specs.Entries.{Listed, entry_at, entry_of, is_passed_over, listed_in, listed}
+use Rattle.dic_reader.specs.Entries.{AreLinesOf, Listed, entry_at, entry_of, is_passed_over}
+use Rattle.dic_reader.specs.Entries.{listed_in, listed}
 use Rattle.line_faults.specs.Faults.{fault_at, unless_fault}
 use Rattle.line_faults.specs.Laws.{least-none}
 use Rattle.dic_reader.specs.Faults.{cause_number, least_of, entry_faults, entries_faults}
 use Rattle.dic_reader.specs.Faults.{entry_said, entry_read, entries_read, IsTold}
 use Rattle.dic_reader.proofs.FaultLemmas.{read-fault, read-said, told-fault}
-use Rattle.dic_reader.proofs.OrderLemmas.{own_faults, AreBehind, AreRising, own-seam, own-fault}
+use Rattle.dic_reader.proofs.OrderLemmas.{number-at, rising, own_faults, AreBehind, AreRising}
+use Rattle.dic_reader.proofs.OrderLemmas.{own-seam, own-fault}
 use Rattle.dic_reader.proofs.OrderLemmas.{many-fault, no-fault, listed-behind, lines-behind}
 
 abbrev pub no-line : Line
@@ -79,6 +85,62 @@ turn-at bytes lines place {text} {own} rises within is has own_is =
       behind = listed-behind bytes line.number (drop (place + 1) lines)
           (lines-behind lines place no-line rises within);
     }
+
+-- ---- the line that the loop comes to
+pub record Here (bytes : List ℕ) (lines : List Line) (place : ℕ) (line behind : List ℕ) : Type 0
+  where
+    pub within : place < length lines
+    pub is : line ≡ text_of bytes (get_or lines place no-line)
+    pub number : (get_or lines place no-line).number ≡ place + 2
+    pub next : texts_in behind ≡ drop (place + 1) (map (text_of bytes) lines)
+
+pub here-at : (bytes : List ℕ) (lines : List Line) (place : ℕ) (text rest line behind : List ℕ)
+    → AreLinesOf bytes 2 lines text → texts_in rest ≡ drop place (map (text_of bytes) lines)
+    → texts_in rest ≡ line ∷ texts_in behind → Here bytes lines place line behind
+here-at bytes lines place text rest line behind are reached first =
+    let texts = map (text_of bytes) lines in
+    let long = length-map lines (text_of bytes) in
+    let cut : drop place texts ≡ line ∷ texts_in behind = sym reached ∙ first in
+    let within : place < length lines =
+    omega (arith, long, length-drop place texts, ap length cut) in
+    let inside : place < length texts = omega (arith, long, within) in
+    let own : get_or texts place [] ∷ drop (suc place) texts ≡ line ∷ texts_in behind =
+    sym (drop-cons texts place [] inside) ∙ cut in
+    record {
+      within = within;
+      is = sym (head own)
+          ∙ ap (λ t. t) (get_or_default texts place [] (text_of bytes no-line) inside)
+          ∙ get_or-map (text_of bytes) lines place no-line (text_of bytes no-line) within;
+      number = number-at 2 lines place no-line are.numbers within ∙ omega arith;
+      next = sym (tail own) ∙ ap (λ n. drop n texts) (sym (add-one place));
+    }
+  where
+    head : {x y : List ℕ} {xs ys : List (List ℕ)} → x ∷ xs ≡ y ∷ ys → x ≡ y
+    head same = cc
+
+    tail : {x y : List ℕ} {xs ys : List (List ℕ)} → x ∷ xs ≡ y ∷ ys → xs ≡ ys
+    tail same = cc
+
+-- at the end of the text all lines are gone
+pub all-gone : (bytes : List ℕ) (lines : List Line) (place : ℕ) (rest : List ℕ)
+    → texts_in rest ≡ drop place (map (text_of bytes) lines) → length rest ≡ 0
+    → length lines ≤ place
+all-gone bytes lines place rest reached none =
+    omega (
+      arith,
+      length-map lines (text_of bytes),
+      length-drop place (map (text_of bytes) lines),
+      ap length (sym reached ∙ no-texts rest none),
+    )
+
+pub turn-here : (bytes : List ℕ) (lines : List Line) (place : ℕ) (text line behind own : List ℕ)
+    → AreLinesOf bytes 2 lines text → Here bytes lines place line behind
+    → is_passed_over line ≡ false → own ≡ entry_of line
+    → Turn bytes lines place (entry_at (place + 1 + 1) own)
+turn-here bytes lines place text line behind own are here has is =
+    let number : (get_or lines place no-line).number ≡ place + 1 + 1 = here.number ∙ omega arith in
+    subst (λ n. Turn bytes lines place (entry_at n own)) number
+    (turn-at bytes lines place (rising 2 lines are.numbers) here.within here.is has is)
 
 -- ---- a turn of the loop over the lines
 

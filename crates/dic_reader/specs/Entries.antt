@@ -1,11 +1,13 @@
 -- The entries of a .dic file: where they stand in their lines, and what they say.
-use Rattle.std.specs.Prelude.{ℕ, ◌-◌, Bool, false, ◌&&◌, ◌||◌, ◌==◌, List, [], ◌∷◌, length, take}
+use Rattle.std.specs.Prelude.{◌≡◌, ℕ, ◌-◌, Bool, false, ◌&&◌, ◌||◌, ◌==◌, List, [], ◌∷◌, length}
+use Rattle.std.specs.Prelude.{map, take}
 use Rattle.std.specs.Prelude.{drop, Option, None, Some, Result, unwrap_or, if◌then◌else◌}
-use Rattle.std.specs.List.{list_all, filter_map, prefix_len, suffix_len}
+use Rattle.std.specs.List.{range_with_len, list_all, filter_map, prefix_len, suffix_len}
 use Rattle.std.specs.Char.{is_ascii_digit, is_ascii_lowercase}
 use Rattle.std.specs.Str.{chars}
 use Rattle.text_lines.specs.declared.found.Line.{Line}
 use Rattle.text_lines.specs.Lines.{text_of}
+use Rattle.text_lines.specs.Texts.{texts_in}
 use Rattle.spell_types.specs.declared.Affixes.{Affixes}
 use Rattle.spell_types.specs.declared.flags.Flag.{Flag}
 use Rattle.spell_types.specs.Conversions.{without_ignored}
@@ -80,6 +82,12 @@ listed_in bytes line =
 -- the entries of these lines
 abbrev pub listed : List ℕ → List Line → List Listed
 listed bytes lines = filter_map (listed_in bytes) lines
+
+-- these are the lines of a text, by their places in bytes, numbered from a number on
+pub record AreLinesOf (bytes : List ℕ) (first : ℕ) (lines : List Line)
+    (text : List ℕ) : Type 0 where
+  pub texts : texts_in text ≡ map (text_of bytes) lines
+  pub numbers : map (λ line. line.number) lines ≡ range_with_len first (length lines)
 
 -- An entry's word stands before the slash. A slash that is the entry's first character is one of
 -- its word.

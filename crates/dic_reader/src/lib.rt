@@ -7,13 +7,12 @@
 //! precedes. `\/` is a slash of the word. The characters to ignore are left out of words.
 #![tactic(auto)]
 
-ghost use Rattle.std.specs.Prelude.{◌≡◌, ℕ, ◌<◌, ◌≤◌, ◌^◌, List, length, map, All, Some, None};
+ghost use Rattle.std.specs.Prelude.{◌≡◌, ℕ, ◌<◌, ◌≤◌, ◌^◌, List, length, Some, None};
 ghost use Rattle.std.specs.Prelude.{IfOk, IfErr};
-ghost use Rattle.std.specs.List.{range_with_len, AllPairs};
-ghost use Rattle.text_lines.specs.Lines.{IsInside};
+ghost use Rattle.text_lines.specs.declared.found.Line.{Line};
 ghost use Rattle.spell_types.specs.declared.Affixes.{Affixes};
 ghost use Rattle.spell_types.specs.Sanity.{AreSaneEntries, HasOrdinaryFlags, HaveOrdinaryFlags};
-ghost use Rattle.dic_reader.specs.Entries.{listed};
+ghost use Rattle.dic_reader.specs.Entries.{listed, AreLinesOf};
 ghost use Rattle.dic_reader.specs.Faults.{Fault, entry_limit, dic_passes, first_fault};
 ghost use Rattle.dic_reader.specs.Faults.{entries_read, lines_read, dic_read, DicBad, IsLeast};
 ghost use Rattle.dic_reader.specs.Faults.{IsRead, DicReads, DicRefuses};
@@ -23,8 +22,7 @@ use crate::known_sets::{KnownSets, add};
 use crate::words::read_entry;
 use spell_types::{Affixes, Entries};
 use std::alloc::Global;
-use text_lines::found::Line;
-use text_lines::{line_text, lines};
+use text_lines::{decimal, first_line, text_of_file};
 
 mod cutting;
 mod faults;
@@ -71,68 +69,72 @@ fn read_file(alloc: Global, affixes: &Affixes, bytes: &[u8]) -> Result<Entries, 
     ensures few { IfOk result (λ entries. length entries ≤ entry_limit) }
     ensures ordinary { HasOrdinaryFlags affixes.now → IfOk result HaveOrdinaryFlags }
 {
-    let found = lines(alloc, bytes)?;
-    if let Some(line) = found.bad {
-        return Err(DicFault::At {
+    match text_of_file(bytes) {
+        Ok(text) => read_text(alloc, affixes, text),
+        Err(line) => Err(DicFault::At {
             line,
             why: DicWhy::NotUtf8,
-        });
-    }
-    read_lines(alloc, affixes, bytes, &found.good)
-}
-
-/// The entries of lines of which the first has to count.
-fn read_lines(
-    alloc: Global,
-    affixes: &Affixes,
-    bytes: &[u8],
-    lines: &[Line],
-) -> Result<Entries, DicFault>
-    requires inside { All (IsInside bytes.now) lines.now }
-    requires numbered { map (λ line. line.number) lines.now ≡ range_with_len 1 (length lines.now) }
-    ensures read { IsRead (lines_read affixes.now bytes.now lines.now) result }
-    ensures sane { IfOk result AreSaneEntries }
-    ensures few { IfOk result (λ entries. length entries ≤ entry_limit) }
-    ensures ordinary { HasOrdinaryFlags affixes.now → IfOk result HaveOrdinaryFlags }
-{
-    match lines.split_first() {
-        Some((count, later)) if is_count(line_text(bytes, count)) => {
-            read_entries(alloc, affixes, bytes, later, ENTRY_LIMIT)
-        }
-        _ => Err(DicFault::At {
-            line: 1,
-            why: DicWhy::BadCount,
         }),
     }
 }
 
-/// The entries of these lines, of which there may be so many.
+/// The entries of a text whose first line has to count.
+fn read_text(alloc: Global, affixes: &Affixes, text: &str) -> Result<Entries, DicFault>
+    ensures read { (bytes : List ℕ) (lines : List Line) → AreLinesOf bytes 1 lines text.now
+        → IsRead (lines_read affixes.now bytes lines) result }
+    ensures sane { IfOk result AreSaneEntries }
+    ensures few { IfOk result (λ entries. length entries ≤ entry_limit) }
+    ensures ordinary { HasOrdinaryFlags affixes.now → IfOk result HaveOrdinaryFlags }
+{
+    if !text.is_empty() {
+        let (count, later) = first_line(text);
+        if is_count(count) {
+            return read_entries(alloc, affixes, later, ENTRY_LIMIT, hint_of(count));
+        }
+    }
+    Err(DicFault::At {
+        line: 1,
+        why: DicWhy::BadCount,
+    })
+}
+
+/// How many entries a file may have by its first line, which need not be true.
+fn hint_of(count: &str) -> usize {
+    decimal(count).map_or(0, |hint| hint.min(ENTRY_LIMIT as u64) as usize)
+}
+
+/// The entries of lines behind the first, of which there may be so many. `hint` is only how many
+/// there is room for at the start, where the text is not too short for them.
 fn read_entries(
     alloc: Global,
     affixes: &Affixes,
-    bytes: &[u8],
-    lines: &[Line],
+    text: &str,
     limit: usize,
+    hint: usize,
 ) -> Result<Entries, DicFault>
-    requires inside { All (IsInside bytes.now) lines.now }
-    requires rising { AllPairs (λ line later. line.number < later.number) lines.now }
     requires few { limit < 2 ^ 32 }
-    ensures read { IsRead (entries_read affixes.now limit (listed bytes.now lines.now)) result }
+    ensures read { (bytes : List ℕ) (lines : List Line) → AreLinesOf bytes 2 lines text.now
+        → IsRead (entries_read affixes.now limit (listed bytes lines)) result }
     ensures sane { IfOk result AreSaneEntries }
     ensures few { IfOk result (λ entries. length entries ≤ limit) }
     ensures ordinary { HasOrdinaryFlags affixes.now → IfOk result HaveOrdinaryFlags }
 {
-    let mut entries = Entries::with_capacity(alloc, lines.len().min(limit), bytes.len())?;
+    let mut entries = Entries::with_capacity(alloc, hint.min(text.len()), text.len())?;
     let mut known = KnownSets::new(alloc);
-    for line in lines {
-        let text = line_text(bytes, line);
-        if is_passed_over(text) {
+    let mut rest = text;
+    let mut gone = 0u64;
+    while !rest.is_empty() {
+        let (line, behind) = first_line(rest);
+        rest = behind;
+        gone += 1;
+        if is_passed_over(line) {
             continue;
         }
-        let found = read_entry(alloc, affixes, &known, line.number, entry_of(text))?;
+        let number = gone + 1;
+        let found = read_entry(alloc, affixes, &known, number, entry_of(line))?;
         if entries.len() == limit {
             return Err(DicFault::At {
-                line: line.number,
+                line: number,
                 why: DicWhy::TooMany,
             });
         }
