@@ -114,9 +114,16 @@ def aliased_rules(count):
     def made():
         flags = size(65_000, 5_000)
         aliases = [','.join(map(str, range(first, flags + 1))) for first in range(1, count + 1)]
-        rows = [f'0 s/{number % count + 1} .' for number in range(size(2_000, 200))]
+        rows = [f'0 s/{number % count + 1} .' for number in range(size(200_000, 2_000))]
         return ['FLAG num', f'AF {count}', *(f'AF {alias}' for alias in aliases), *rules('SFX', '1', rows)], ['foo'], ['foo', 'foos', 'food']
     return made
+
+
+def aliased_entries():
+    """Forbidden entries that share one alias of many flags, none of which is that of a class or of a compound rule."""
+    flags = ','.join(map(str, range(3, size(65_000, 5_000) + 1)))
+    options = ['FLAG num', 'AF 1', f'AF {flags}', 'FORBIDDENWORD 3', 'COMPOUNDRULE 1', 'COMPOUNDRULE (1)(2)*', *rules('SFX', '1', ['0 s .'])]
+    return options, [f'{syllables(number, 4)}/1' for number in range(size(1_000_000, 10_000))], [syllables(5, 4), syllables(6, 4) + 's', 'foo']
 
 
 def falling_classes():
@@ -238,8 +245,9 @@ CASES = {
     f'{size(100_000, 2_000):,} homonyms as parts of compounds': homonyms_in_compounds,
     f'an entry with {size(65_000, 5_000):,} flags in falling order': falling_flags(1),
     f'20 entries with {size(65_000, 5_000):,} flags, each in another falling order': falling_flags(20),
-    f'{size(2_000, 200):,} suffixes that carry one alias of {size(65_000, 5_000):,} flags': aliased_rules(1),
-    f'{size(2_000, 200):,} suffixes that carry two such aliases in turn': aliased_rules(2),
+    f'{size(200_000, 2_000):,} suffixes that carry one alias of {size(65_000, 5_000):,} flags': aliased_rules(1),
+    f'{size(200_000, 2_000):,} suffixes that carry two such aliases in turn': aliased_rules(2),
+    f'{size(1_000_000, 10_000):,} forbidden entries with one alias of {size(65_000, 5_000):,} flags': aliased_entries,
     f'{size(65_000, 2_000):,} classes in falling order of their flags': falling_classes,
     f'{size(100_000, 2_000):,} suffixes that add one text and strip off others': one_stem_by_many_rules,
     f'{size(3_000, 100):,} suffixes that add nothing behind {size(3_000, 100):,} that add nothing': rules_behind_rules,
