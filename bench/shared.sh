@@ -1,9 +1,11 @@
 #!/usr/bin/env bash
 # Times `check` by some workers on 5 MB of running text in English and in German, LibreOffice's help without its markup as often as it
-# takes, in lines of at most 1,000 bytes. Prints a row of a table in Markdown for each number of workers: the seconds that pass, the least
-# of five runs, on the text and on an empty one, the load; how often the time for the text without workers goes into the row's; and the
-# most memory. Each run has to print what the first did. It means something on a machine with four processors or more that are idle.
-# Packages are fetched and unpacked, not installed. With a folder as its argument, packages are kept there.
+# takes, in lines of at most 1,000 bytes. Prints a row of a table in Markdown for each number of workers: the seconds that pass, on the text
+# and on an empty one, the load, in the middle of 15 rounds; how often the time for the text goes into that without workers, of the same round,
+# in the middle and of the rounds at a quarter and at three quarters; and the memory. Each round runs all numbers of workers one after another,
+# since a processor may be faster in one minute than in the next. Each run has to print what the first did. It means something on a machine with
+# four processors or more that are idle. Packages are fetched and unpacked, not installed. With a folder as its argument, packages are kept
+# there. ROUNDS is another number of rounds.
 set -euo pipefail
 top=$(cd "$(dirname "$0")/.." && pwd)
 work=$(mktemp -d)
@@ -14,15 +16,31 @@ export LC_ALL=C.UTF-8
 # shellcheck source=bench/packages.bash
 source "$top/bench/packages.bash"
 
-# measure TEXT OPTION..: the least seconds and the most kB of five runs, which leave what is said in `out`.
-measure() {
-    local text=$1
+rounds=${ROUNDS:-15}
+
+# timed TEXT OPTION..: the seconds of a run, which leaves what is said in `out`.
+timed() {
+    local text=$1 begin
     shift
-    rm -f cost
-    for _ in 1 2 3 4 5; do
-        /usr/bin/time -q -a -o cost -f '%e %M' "$program" check dictionary.aff dictionary.dic "$text" "$@" > out || [ $? -eq 1 ]
-    done
-    awk '{ if (NR == 1 || $1 < least) least = $1; if ($2 > most) most = $2 } END { print least, most }' cost
+    begin=$EPOCHREALTIME
+    "$program" check dictionary.aff dictionary.dic "$text" "$@" > out || [ $? -eq 1 ]
+    awk -v begin="$begin" -v end="$EPOCHREALTIME" 'BEGIN { printf "%.6f\n", end - begin }'
+}
+
+# row COSTS WORKERS: the load and the time for the text in the middle of the rounds; and how many times as fast as without workers in the same
+# round, at a quarter, in the middle and at three quarters.
+row() {
+    python3 - "$@" << 'PYTHON'
+import statistics
+import sys
+
+lines = [line.split() for line in open(sys.argv[1], encoding='ascii')]
+alone = {line[0]: float(line[3]) for line in lines if line[1] == 'none'}
+mine = [line for line in lines if line[1] == sys.argv[2]]
+times = sorted(alone[line[0]] / float(line[3]) for line in mine)
+middle = [statistics.median(float(line[place]) for line in mine) for place in (2, 3)]
+print(*middle, times[len(times) // 4], statistics.median(times), times[3 * len(times) // 4])
+PYTHON
 }
 
 : > empty
@@ -42,18 +60,25 @@ while read -r package name; do
     while [ "$(stat -c %s text)" -lt 5000000 ]; do { cat once; echo; } >> text; done
     head -c 5000000 text | iconv -c -f UTF-8 -t UTF-8 > whole
     mv whole text
+    rm -f costs
+    for ((round = 0; round < rounds; round++)); do
+        for workers in none 1 2 4; do
+            options=(--workers "$workers")
+            [ "$workers" != none ] || options=()
+            load=$(timed empty "${options[@]}")
+            spent=$(timed text "${options[@]}")
+            [ -e wanted ] || cp out wanted
+            cmp out wanted
+            echo "$round $workers $load $spent" >> costs
+        done
+    done
+    rm -f wanted
     for workers in none 1 2 4; do
         options=(--workers "$workers")
         [ "$workers" != none ] || options=()
-        read -r load _ <<< "$(measure empty "${options[@]}")"
-        read -r spent memory <<< "$(measure text "${options[@]}")"
-        if [ "$workers" = none ]; then
-            first=$spent
-            cp out wanted
-        fi
-        cmp out wanted
-        awk -v name="$package $name" -v workers="$workers" -v load="$load" -v spent="$spent" -v first="$first" -v memory="$memory" \
-            'BEGIN { printf "| `%s` | %s | %.2f s | %.2f s | %.1f | %.0f MB |\n", name, workers, spent, load, first / spent, memory / 1024 }'
+        /usr/bin/time -q -o memory -f %M "$program" check dictionary.aff dictionary.dic text "${options[@]}" > /dev/null || [ $? -eq 1 ]
+        row costs "$workers" | awk -v name="$package $name" -v workers="$workers" -v memory="$(cat memory)" \
+            '{ printf "| `%s` | %s | %.3f s | %.3f s | %.2f (%.2f to %.2f) | %.0f MB |\n", name, workers, $2, $1, $4, $3, $5, memory / 1024 }'
     done
     rm -f text
 done << 'PAIRS'
