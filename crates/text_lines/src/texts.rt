@@ -6,6 +6,7 @@ ghost use Rattle.text_lines.specs.Lines.{bad_line, first_place, line_texts};
 ghost use Rattle.text_lines.specs.Texts.{texts_in};
 
 use crate::bad_line;
+use bstr::ByteSlice;
 
 /// The text of a file, behind a byte order mark; or the number, from 1, of its first line that is
 /// not UTF-8.
@@ -34,8 +35,10 @@ pub fn first_line(text: &str) -> (&str, &str)
     ensures first { texts_in text.now ≡ result.0.now ∷ texts_in result.1.now }
     ensures shorter { length result.1.now < length text.now }
 {
-    let (line, behind) = text.split_once('\n').unwrap_or((text, ""));
-    (without_return(line), behind)
+    match text.as_bytes().find_byte(b'\n') {
+        Some(end) => (without_return(&text[..end]), &text[end + 1..]),
+        None => (without_return(text), ""),
+    }
 }
 
 /// A line without the carriage return at its end, if it has one.
