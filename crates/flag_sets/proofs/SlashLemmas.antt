@@ -1,7 +1,7 @@
 -- How the text before a slash goes on after its first character.
 use Rattle.std.proofs.Common.{◌≡◌, ◌≢◌, ◌∙◌, refl, sym, ap, ℕ, ◌<◌, ◌==◌, ◌&&◌, Bool, true, false}
 use Rattle.std.proofs.Common.{cond, List, [], ◌∷◌, ◌++◌, length, get_or, Option, Some, None, Bor}
-use Rattle.std.proofs.Common.{MatchOption, arith, suc, lit<, ◌+◌, ◌-◌, ◌≤◌, take, drop, subst}
+use Rattle.std.proofs.Common.{MatchOption, arith, suc, lit<, ◌+◌, ◌≤◌, take, drop, subst}
 use mathlib.Core.Logic.{⊎_elim}
 use Rattle.std.specs.List.{prefix_len, slice_range}
 use Rattle.std.specs.Option.{option_copied}
@@ -10,13 +10,13 @@ use Rattle.std.specs.Char.{IsScalar}
 use Rattle.std.specs.Str.Pattern.{FindsTextPrefix, LacksTextAt, StripsPrefix}
 use Rattle.std.proofs.lemmas.Bool.{and_parts, cases_lt, ne_eqb}
 use Rattle.std.proofs.lemmas.Bool.Decides.{nat_tests}
-use Rattle.std.proofs.lemmas.List.{append-nil}
+use Rattle.std.proofs.lemmas.List.{append-nil, append_cancel_left}
 use Rattle.std.proofs.lemmas.List.Sums.{prefix_len_stops}
 use Rattle.std.proofs.lemmas.Str.{chars-append, chars_past_char, scalars-chars, inside_one}
 use Rattle.std.proofs.lemmas.Str.{IsUtf8-encode, encode_ascii, chars-nil}
 use Rattle.std.proofs.lemmas.Str.{IsCharBoundary-before_ascii, IsCharBoundary-end}
 use lib.Utf8.{encode, scalar, scalars}
-use Rattle.flag_sets.specs.Slashes.{is_slash, is_backslash, is_plain, before_slash}
+use Rattle.flag_sets.specs.Slashes.{IsWordPlain, is_slash, is_backslash, is_plain, before_slash}
 use Rattle.flag_sets.specs.Slashes.{behind_slash}
 
 -- ---- bytes that are neither slash nor backslash
@@ -95,19 +95,37 @@ front-behind (b ∷ rest) =
     ] refl
 
 -- the text is parted there
-pub parted-before : (text front back : List ℕ) (place : ℕ) → place ≡ prefix_len is_plain text
-    → front ≡ slice_range text 0 place → back ≡ drop place text → IsUtf8 front
-    → chars (before_slash text) ≡ chars front ++ chars (before_slash back)
-parted-before text front back place is front_is back_is utf8 =
-    ap chars (front-before text
-    ∙ ap (λ n. take n text ++ before_slash (drop n text)) (sym is)
-    ∙ ap (λ n. take n text ++ before_slash (drop place text)) (whole place)
-    ∙ ap (λ t. t ++ before_slash (drop place text)) (sym front_is)
-    ∙ ap (λ t. front ++ before_slash t) (sym back_is))
-    ∙ chars-append front (before_slash back) utf8
+pub front-is : (text front : List ℕ) (place : ℕ) → place ≡ prefix_len is_plain text
+    → front ≡ slice_range text 0 place → front ≡ take (prefix_len is_plain text) text
+front-is text front place is front_is =
+    front_is ∙ ap (λ n. take n text) (omega (arith, is))
+
+pub parted : (text front back : List ℕ) (place : ℕ) → place ≡ prefix_len is_plain text
+    → front ≡ take (prefix_len is_plain text) text → back ≡ drop place text
+    → before_slash text ≡ front ++ before_slash back
+parted text front back place is front_is back_is =
+    front-before text
+    ∙ ap (λ t. t ++ before_slash (drop (prefix_len is_plain text) text)) (sym front_is)
+    ∙ ap (λ n. front ++ before_slash (drop n text)) (sym is)
+    ∙ ap (λ t. front ++ before_slash t) (sym back_is)
+
+pub parted-before : (text front back : List ℕ) → before_slash text ≡ front ++ before_slash back
+    → IsUtf8 front → chars (before_slash text) ≡ chars front ++ chars (before_slash back)
+parted-before text front back parts utf8 =
+    ap chars parts ∙ chars-append front (before_slash back) utf8
+
+-- where more than the text up to its first slash or backslash stands before the slash
+pub more-before : (text front back : List ℕ) (c : ℕ) (later : List ℕ)
+    → front ≡ take (prefix_len is_plain text) text → before_slash text ≡ front ++ before_slash back
+    → chars (before_slash back) ≡ c ∷ later → IsWordPlain text → ⊥
+more-before text front back c later front_is parts first plain =
+    absurd (cc (sym first ∙ ap chars nothing ∙ chars-nil))
   where
-    whole : (n : ℕ) → n ≡ n - 0
-    whole n = omega arith
+    same : front ++ before_slash back ≡ front ++ []
+    same = sym parts ∙ plain ∙ sym front_is ∙ sym (append-nil front)
+
+    nothing : before_slash back ≡ []
+    nothing = append_cancel_left front (before_slash back) [] same
 
 pub parted-behind : (text back : List ℕ) (place : ℕ) → place ≡ prefix_len is_plain text
     → back ≡ drop place text → behind_slash text ≡ behind_slash back

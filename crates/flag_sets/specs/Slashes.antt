@@ -1,5 +1,7 @@
 -- Where a text is parted from its flags.
-use Rattle.std.specs.Prelude.{ℕ, ◌==◌, ◌&&◌, not, Bool, List, [], ◌∷◌, Option, None, Some, if◌then◌else◌}
+use Rattle.std.specs.Prelude.{◌≡◌, ℕ, ◌==◌, ◌&&◌, not, Bool, List, [], ◌∷◌, Option, None, Some}
+use Rattle.std.specs.Prelude.{take, if◌then◌else◌}
+use Rattle.std.specs.List.{prefix_len}
 
 abbrev pub is_slash : ℕ → Bool
 is_slash c = c == 47
@@ -20,6 +22,10 @@ before_slash (c ∷ next ∷ more) =
     if is_slash c then []
     else (if is_backslash c && is_slash next then next ∷ before_slash more
     else c ∷ before_slash (next ∷ more))
+
+-- that is the text up to its first slash or backslash, as no backslash stands before the slash
+abbrev pub IsWordPlain : List ℕ → Type 0
+IsWordPlain text = before_slash text ≡ take (prefix_len is_plain text) text
 
 -- what stands behind that slash, if there is one
 abbrev pub behind_slash : List ℕ → Option (List ℕ)

@@ -1,11 +1,11 @@
 //! Texts with flags behind a slash.
 
 ghost use Rattle.std.specs.Prelude.{◌≡◌, ◌<◌, ◌≤◌, [], ◌∷◌, ◌++◌, length, IfNone, IfSome, IfOk};
-ghost use Rattle.std.specs.Prelude.{OnOk, OnErr};
+ghost use Rattle.std.specs.Prelude.{OnOk, OnErr, take};
 ghost use Rattle.std.specs.List.{prefix_len};
 ghost use Rattle.std.specs.Option.{option_copied};
 ghost use Rattle.std.specs.Str.{chars};
-ghost use Rattle.flag_sets.specs.Slashes.{is_plain, before_slash, behind_slash};
+ghost use Rattle.flag_sets.specs.Slashes.{IsWordPlain, is_plain, before_slash, behind_slash};
 
 use crate::first::next_character;
 use lists::{Items, NoMemory};
@@ -30,8 +30,9 @@ pub fn push_before_slash<'a>(
 }
 
 /// The text up to its first slash and the text behind that slash, if there is one, where both stand
-/// in the text as they are. There is no answer where a backslash precedes that slash.
+/// in the text as they are. There is no answer where a backslash stands before that slash.
 pub fn split_plain(text: &str) -> Option<(&str, Option<&str>)>
+    ensures none { IfNone result (¬ (IsWordPlain text.now)) }
     ensures word { IfSome result (λ parts. chars parts.0.now ≡ chars (before_slash text.now)) }
     ensures behind { IfSome result (λ parts. option_copied parts.1 ≡ behind_slash text.now) }
 {
@@ -62,6 +63,8 @@ fn with_text_before_slash<'a>(
 
 /// The text up to its first slash or backslash, and the rest of it.
 fn plain_front(text: &str) -> (&str, &str)
+    ensures front { result.0.now ≡ take (prefix_len is_plain text.now) text.now }
+    ensures parts { before_slash text.now ≡ result.0.now ++ before_slash result.1.now }
     ensures before { chars (before_slash text.now)
         ≡ chars result.0.now ++ chars (before_slash result.1.now) }
     ensures behind { behind_slash text.now ≡ behind_slash result.1.now }
