@@ -35,11 +35,14 @@ pub(crate) fn barring_of(alloc: Global, lexicon: &Lexicon) -> Result<Barring, No
     Ok(Barring::AtEntries)
 }
 
-/// Whether an entry is forbidden.
+/// Whether an entry is forbidden. Without a flag for them none is.
 fn one_is_forbidden(lexicon: &Lexicon) -> bool
     ensures { result ≡ list_any (is_forbidden_entry lexicon.now) lexicon.now.entries }
 {
     let forbidden = lexicon.affixes.signs.forbidden;
+    if forbidden.is_none() {
+        return false;
+    }
     let entries = &lexicon.entries;
     for place in 0..entries.len() {
         if has(entries.at(place).flags(), forbidden) {
