@@ -5,7 +5,7 @@ use Rattle.std.proofs.Common.{get_or, IsPermutation, Result, Ok, Err, arith}
 use Rattle.std.specs.List.{list_all, list_any}
 use Rattle.std.specs.Result.{MatchResult, is_err}
 use Rattle.std.proofs.lemmas.Bool.{and_parts, cases_lt}
-use Rattle.std.proofs.lemmas.Bool.Decides.{nat_tests}
+use Rattle.std.proofs.lemmas.Bool.Decides.{Decides-eqb, nat_tests}
 use Rattle.std.proofs.lemmas.List.Sorted.{list_any-IsPermutation}
 use Rattle.spell_types.specs.Conversions.{is_kept, without_ignored}
 
@@ -71,6 +71,16 @@ kept-moved before after c moved =
     kept-any after c
     ∙ ap not (sym (list_any-IsPermutation (λ other. other == c) before after moved))
     ∙ sym (kept-any before c)
+
+-- where no character is to be ignored
+pub none-to-ignore : (ignore word : List ℕ) → (length ignore == 0) ≡ true
+    → true ≡ list_all (is_kept ignore) word
+none-to-ignore [] word none = all-pass word
+  where
+    all-pass : (word : List ℕ) → true ≡ list_all (is_kept []) word
+    all-pass [] = refl
+    all-pass (c ∷ word) = all-pass word
+none-to-ignore (c ∷ ignore) word none = absurd (omega (arith, (Decides-eqb _ _).0 none))
 
 -- a word with none of them stays
 pub all-kept : (ignore word : List ℕ) → list_all (is_kept ignore) word ≡ true

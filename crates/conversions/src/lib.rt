@@ -3,6 +3,9 @@
 #![tactic(auto)]
 
 ghost use Rattle.std.specs.Prelude.{◌≡◌, ℕ, List, [], ◌∷◌, ◌++◌, length, drop, Some, None, IfOk};
+ghost use Rattle.std.specs.Prelude.{true};
+ghost use Rattle.std.specs.List.{list_all};
+ghost use Rattle.std.specs.Str.{chars};
 ghost use Rattle.spell_types.specs.Conversions.{best_fit, converted, is_kept, without_ignored};
 ghost use Rattle.spell_types.specs.Conversions.{IsBestFit, NoneFits};
 ghost use Rattle.spell_types.specs.declared.conversions.Conversion.{Conversion};
@@ -40,6 +43,22 @@ pub fn drop_ignored(alloc: Global, ignore: &[char], word: &[char]) -> Result<Cha
         .filter(|c| is_kept(ignore, *c))
         .collect(alloc)?;
     Ok(Items::from_vec(kept))
+}
+
+/// Whether a text has none of the characters to ignore, so that all of it is left.
+pub fn has_no_ignored(ignore: &[char], text: &str) -> bool
+    ensures told { result ≡ list_all (is_kept ignore.now) (chars text.now) }
+    ensures kept { result ≡ true
+        → chars text.now ≡ without_ignored ignore.now (chars text.now) }
+{
+    ignore.is_empty() || each_is_kept(ignore, text)
+}
+
+/// Whether each character of a text differs from those to ignore.
+fn each_is_kept(ignore: &[char], text: &str) -> bool
+    ensures { result ≡ list_all (is_kept ignore.now) (chars text.now) }
+{
+    text.chars().all(|c| is_kept(ignore, c))
 }
 
 /// Whether a character differs from each of those to ignore.

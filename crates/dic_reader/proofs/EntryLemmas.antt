@@ -12,7 +12,6 @@ use Rattle.std.proofs.lemmas.Str.{chars-nil, encodes-chars}
 use lib.Utf8.{encodes}
 use Rattle.std.proofs.lemmas.Str.{chars-append, IsUtf8-encode, encode_ascii}
 use Rattle.spell_types.specs.declared.Affixes.{Affixes}
-use Rattle.spell_types.specs.Conversions.{without_ignored}
 use Rattle.flag_sets.specs.Slashes.{before_slash, behind_slash}
 use Rattle.dic_reader.specs.declared.faults.DicWhy.{DicWhy}
 use Rattle.dic_reader.specs.declared.faults.DicWhy.TheVariants.{EmptyWord, BadFlag, BadAlias}
@@ -102,16 +101,6 @@ plain-flags rest entry result found place plain same behind given =
     ap (λ r. r.now) given ∙ opened found place
     ∙ ap (λ o. unwrap_or o []) (behind ∙ ap (λ r. behind_slash r.now) same)
     ∙ sym (plain-flag-text entry.now plain)
-
--- where no character is to be ignored
-pub none-ignored : (ignore word : List ℕ) → (length ignore == 0) ≡ true
-    → word ≡ without_ignored ignore word
-none-ignored [] word none = all-kept word
-  where
-    all-kept : (word : List ℕ) → word ≡ without_ignored [] word
-    all-kept [] = refl
-    all-kept (c ∷ word) = ap (λ cs. c ∷ cs) (all-kept word)
-none-ignored (c ∷ ignore) word none = absurd (omega (arith, (Decides-eqb _ _).0 none))
 
 -- ---- the faults of one entry are all at its line
 

@@ -10,7 +10,7 @@ ghost use Rattle.dic_reader.specs.KnownSets.{AreKnown, AreFlagsOf, entry_of_foun
 
 use crate::faults::{DicFault, DicWhy};
 use crate::known_sets::{Found, KnownSets, flags_of};
-use conversions::drop_ignored;
+use conversions::{drop_ignored, has_no_ignored};
 use flag_sets::{FlagFault, push_before_slash, split_plain};
 use lists::{Items, NoMemory};
 use spell_types::{Affixes, Chars, text_of};
@@ -89,8 +89,8 @@ fn read_word<'a>(
         chars (bytes_of parts.0) ≡ without_ignored ignore.now (whole_word entry.now)) }
     ensures flags { IfOk result (λ parts. parts.1.now ≡ flag_text entry.now) }
 {
-    if ignore.is_empty() {
-        if let Some((word, flags)) = written_word(entry) {
+    if let Some((word, flags)) = written_word(entry) {
+        if has_no_ignored(ignore, word) {
             return Ok((Word::Written(word), flags));
         }
     }
@@ -101,7 +101,7 @@ fn read_word<'a>(
 }
 
 /// The word of an entry and the text of its flags, where both stand in it as they are. There is no
-/// answer where the entry begins with a slash or a backslash precedes its first one.
+/// answer where the entry begins with a slash or a backslash stands before its first one.
 fn written_word(entry: &str) -> Option<(&str, &str)>
     ensures word { IfSome result (λ parts. chars parts.0.now ≡ whole_word entry.now) }
     ensures flags { IfSome result (λ parts. parts.1.now ≡ flag_text entry.now) }
