@@ -64,6 +64,27 @@ pub fn perform_beside<R: Threads + Sync, T: Task + Send, H: Task>(
     );
 }
 
+/// Does a task in this thread, and another one at once beside it. Where no thread can be made, the
+/// other comes behind it.
+pub fn perform_both<R: Threads + Sync, T: Task + Send, H: Task>(rt: &R, other: &mut T, mine: &mut H)
+    requires other { T.IsReady other.old }
+    requires mine { H.IsReady mine.old }
+    ensures other { T.Does other.old other.new }
+    ensures mine { H.Does mine.old mine.new }
+{
+    join_mut(
+        rt,
+        &mut ||
+            requires { T.IsReady other.now }
+            ensures { T.Does other.entry.now other.exit.now }
+        { other.perform() },
+        &mut ||
+            requires { H.IsReady mine.now }
+            ensures { H.Does mine.entry.now mine.exit.now }
+        { mine.perform() },
+    );
+}
+
 /// Does two crowds of tasks at once, each task in a thread of its own, and behind the second crowd one
 /// more task in this thread. Where no thread can be made, the first crowd comes behind all others.
 pub fn perform_crowds<R: Threads + Sync, T: Task + Send, U: Task + Send, H: Task>(
