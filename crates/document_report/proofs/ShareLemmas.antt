@@ -1,6 +1,6 @@
 -- Reports by their shares, one share behind the other.
 use Rattle.std.proofs.Common.{◌≡◌, ◌∙◌, ℕ, zero, suc, ◌+◌, ◌*◌, ◌^◌, ◌<◌, ◌≤◌, List, [], ◌∷◌, ◌++◌}
-use Rattle.std.proofs.Common.{length, take, drop, Option, None, ap, arith}
+use Rattle.std.proofs.Common.{length, take, drop, Option, None, Some, slice_set, ap, arith}
 use Rattle.std.proofs.Common.{get_or}
 use Rattle.std.proofs.lemmas.Grind.{common_steps}
 use Rattle.std.specs.Prelude.{IfSome}
@@ -22,6 +22,17 @@ one-more says [] x all one (suc place) = tt
 one-more says (y ∷ xs) x all one zero = all zero
 one-more says (y ∷ xs) x all one (suc place) =
     one-more (λ n. says (suc n)) xs x (λ n. all (suc n)) one place
+
+-- one that is put at a place
+pub one-put : {A : Type 0} (says : ℕ → A → Type 0) (xs : List (Option A)) (x : A) (at : ℕ)
+    → ((place : ℕ) → IfSome (get_or xs place None) (says place)) → says at x
+    → (place : ℕ) → IfSome (get_or (slice_set xs at (Some x)) place None) (says place)
+one-put says [] x at all one place = all place
+one-put says (y ∷ xs) x zero all one zero = one
+one-put says (y ∷ xs) x zero all one (suc place) = all (suc place)
+one-put says (y ∷ xs) x (suc at) all one zero = all zero
+one-put says (y ∷ xs) x (suc at) all one (suc place) =
+    one-put (λ n. says (suc n)) xs x at (λ n. all (suc n)) one place
 
 take-add : {A : Type 0} (n m : ℕ) (xs : List A) → take (n + m) xs ≡ take n xs ++ take m (drop n xs)
 take-add {A} zero m xs =

@@ -1,17 +1,19 @@
-//! Counts the paragraphs of a part in several threads. The part is cut into shares, and each thread
-//! takes the first share that none has taken, until all are taken.
+//! Counts the paragraphs of a part in several threads. The part is cut into shares, and these into a
+//! run for each thread. A thread takes its own run share by share, and then what is left of the others.
+//! So it meets the words of neighbours, which often are the same, and all end at about the same time.
 
-ghost use Rattle.std.specs.Prelude.{◌≡◌, ◌+◌, ◌*◌, ◌<◌, ◌≤◌, All, IfOk, OnOk, length};
+ghost use Rattle.std.specs.Prelude.{◌≡◌, ◌+◌, ◌*◌, ◌<◌, ◌≤◌, ℕ, All, IfOk, OnOk, length};
 ghost use Rattle.std.specs.Thread.{IsSync, IsSend};
 ghost use Rattle.std.specs.Arc.{arc_value};
+ghost use Rattle.spell_types.specs.declared.Lexicon.{Lexicon};
 ghost use Rattle.document_report.specs.Parts.{AreOfShares, IsCounted, IsLimited, IsOfFront};
 ghost use Rattle.document_report.specs.Parts.{share_at};
 
 use crate::counting::{Part, VERDICTS, count, count_alone};
 use crate::printing::{Output, Report};
 use lists::NoMemory;
-use mark_types::Judge;
-use std::alloc::{AllocError, Global};
+use mark_types::{Asker, Judge};
+use std::alloc::Global;
 use std::sync::Arc;
 use std::sync::atomic::{AtomicUsize, Ordering};
 use std::thread::{Threads, map_indices};
@@ -28,6 +30,15 @@ const MOST_SHARED: u64 = 16;
 pub struct Shares<'a> {
     pub part: Part<'a>,
     pub size: usize,
+}
+
+/// Shares that stand one after another.
+#[derive(Drop)]
+struct Run {
+    /// The place of the next share that none has taken, if it is below the end.
+    next: AtomicUsize,
+    /// The place behind the last share.
+    end: usize,
 }
 
 /// What a thread gives: for each place the report on the share there, if the thread took it.
@@ -103,48 +114,106 @@ fn take_in_threads<R: Threads + Sync, J: Judge + Drop + Send + Sync>(
     threads: u64,
     output: Output,
     shares: &Shares<'_>,
-) -> Result<Vec<Taken>, AllocError>
+) -> Result<Vec<Taken>, NoMemory>
     requires limited { IsLimited shares.now.part }
     requires some { 0 < shares.now.size }
     ensures { IfOk result (λ taken. All
         (λ one. IfOk one (AreOfShares output (J.lexicon (arc_value judge.now)) shares.now))
         taken.items) }
 {
-    let next = &AtomicUsize::new(0);
-    let take = move |_thread: usize| -> Taken
+    let threads = shares.count().min(threads as usize);
+    let runs = runs_of(alloc, shares.count(), threads)?;
+    let runs = runs.as_slice();
+    let take = move |thread: usize| -> Taken
         requires { IsSync J.row × IsSend J.row
             × IsLimited shares.now.part × (0 < shares.now.size) }
         ensures { IfOk result
             (AreOfShares output (J.lexicon (arc_value judge.entry.now)) shares.entry.now) }
-    { take_shares(alloc, judge, output, shares, next) };
-    map_indices(rt, alloc, shares.count().min(threads as usize), &take)
+    { take_shares(alloc, judge, output, shares, runs, thread) };
+    Ok(map_indices(rt, alloc, threads, &take)?)
 }
 
-/// Takes and counts the next share, until all are taken.
+/// So many runs of shares one after another, which are nearly as long as each other.
+fn runs_of(alloc: Global, shares: usize, threads: usize) -> Result<Vec<Run>, NoMemory> {
+    let mut runs = Vec::with_capacity(alloc, threads)?;
+    let mut from = 0;
+    for thread in 0..threads {
+        let left = shares.saturating_sub(from);
+        let end = from + left / (threads - thread);
+        runs.push(Run {
+            next: AtomicUsize::new(from),
+            end,
+        })?;
+        from = end;
+    }
+    Ok(runs)
+}
+
+/// Takes and counts the shares of the run at this thread's place, and then those that are left of
+/// the others.
 fn take_shares<J: Judge + Drop>(
     alloc: Global,
     judge: &Arc<J>,
     output: Output,
     shares: &Shares<'_>,
-    next: &AtomicUsize,
+    runs: &[Run],
+    thread: usize,
 ) -> Taken
     requires limited { IsLimited shares.now.part }
     requires some { 0 < shares.now.size }
     ensures { IfOk result (AreOfShares output (J.lexicon (arc_value judge.now)) shares.now) }
 {
     let mut asker = Cached::new(alloc, Arc::try_clone(judge)?, VERDICTS)?;
-    let mut reports = Vec::new(alloc);
-    let mut mine = next.fetch_add(1, Ordering::SeqCst);
-    for place in 0..shares.count() {
-        if place != mine {
-            reports.push(None)?;
-            continue;
-        }
-        let report = count(alloc, &mut asker, output, shares.share(place))?;
-        reports.push(Some(report))?;
-        mine = next.fetch_add(1, Ordering::SeqCst);
+    let mut reports = no_reports(alloc, shares.count())?;
+    let (earlier, later) = runs.split_at(thread.min(runs.len()));
+    for run in later {
+        take_run(alloc, &mut asker, output, shares, run, &mut reports)?;
+    }
+    for run in earlier {
+        take_run(alloc, &mut asker, output, shares, run, &mut reports)?;
     }
     Ok(reports)
+}
+
+/// No reports on so many shares.
+fn no_reports(alloc: Global, shares: usize) -> Result<Vec<Option<Report>>, NoMemory>
+    ensures none { IfOk result (λ made. (output : Output) (lexicon : Lexicon) (shares : Shares)
+        → AreOfShares output lexicon shares made) }
+    ensures count { IfOk result (λ made. length made.items ≡ shares) }
+{
+    let mut reports = Vec::with_capacity(alloc, shares)?;
+    for _place in 0..shares {
+        reports.push(None)?;
+    }
+    Ok(reports)
+}
+
+/// Takes and counts the next share of a run, until all of it are taken.
+fn take_run<K: Asker>(
+    alloc: Global,
+    asker: &mut K,
+    output: Output,
+    shares: &Shares<'_>,
+    run: &Run,
+    reports: &mut Vec<Option<Report>>,
+) -> Result<(), NoMemory>
+    requires limited { IsLimited shares.now.part }
+    requires inside { (place : ℕ) → place < length reports.old.items
+        → shares.now.size * place < length shares.now.part.paragraphs.now }
+    requires before { AreOfShares output (K.lexicon asker.old) shares.now reports.old }
+    ensures taken { AreOfShares output (K.lexicon asker.old) shares.now reports.new }
+    ensures count { length reports.new.items ≡ length reports.old.items }
+    ensures same { K.lexicon asker.new ≡ K.lexicon asker.old }
+{
+    for _turn in 0..reports.len() {
+        let place = run.next.fetch_add(1, Ordering::SeqCst);
+        if place >= run.end.min(reports.len()) {
+            break;
+        }
+        let report = count(alloc, asker, output, shares.share(place))?;
+        reports[place] = Some(report);
+    }
+    Ok(())
 }
 
 /// The report on all shares, in their order.
