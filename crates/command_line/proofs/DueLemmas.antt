@@ -20,7 +20,7 @@ use Rattle.personal_words.specs.declared.items.OwnItem.{OwnItem}
 use Rattle.personal_words.specs.Faults.{Fault as OwnLineFault, IsTold as ListTold, own_read}
 use Rattle.personal_words.specs.declared.faults.OwnFault.{OwnFault as ListFault}
 use Rattle.personal_words.specs.declared.faults.OwnFault.TheVariants.{At, NoMemory as ListWanting}
-use Rattle.own_dictionary.specs.Dictionaries.{OwnSeen}
+use Rattle.own_dictionary.specs.Dictionaries.{OwnSeen, in_force}
 use Rattle.dictionary_swap.specs.declared.limits.TheConstants.{SIZE_LIMIT}
 use Rattle.dictionary_swap.specs.Loads.{DictionaryFiles, MayCome as LoadMayCome, found_in}
 use Rattle.dictionary_swap.specs.Loads.{lexicon_due, load_fault_of}
@@ -313,6 +313,23 @@ found-both told names there file is also = record { dictionary = is; document = 
 abbrev pub IsChecked : Option Folder → CheckedFiles → Result Report Failure → Type 0
 IsChecked told names result = (found : Found) × IsFound told names found
     × GivesDue MayCome printed_by (check_due found) result
+
+-- what is due of a base and a list is so of the dictionary in force, and so are their faults
+pub parts-in-force : (told : Option Folder) (names : DictionaryNamed) {parts : OwnSeen}
+    → (there : OwnFiles) × IsOwnThere told names there × (dictionary_due there ≡ Ok parts)
+    → (there : OwnFiles) × IsOwnThere told names there
+    × (in_force_due there ≡ Ok (in_force parts))
+unfolding in_force_due
+parts-in-force told names (there, is, due) =
+    (there, is, ap (λ due. due >>= (λ dictionary. Ok (in_force dictionary))) due)
+
+pub parts-not-loaded : (told : Option Folder) (names : DictionaryNamed) {failure : Failure}
+    → (there : OwnFiles) × IsOwnThere told names there
+    × FailsAs MayCome (dictionary_due there) failure
+    → (there : OwnFiles) × IsOwnThere told names there
+    × FailsAs MayCome (in_force_due there) failure
+unfolding in_force_due
+parts-not-loaded told names (there, is, fails) = (there, is, fails-then MayCome _ fails)
 
 -- the dictionary is not loaded
 pub check-not-loaded : (told : Option Folder) (names : CheckedFiles) {failure : Failure}

@@ -7,6 +7,7 @@ mod failure;
 mod forms;
 mod limits;
 mod loading;
+mod making;
 mod names;
 mod options;
 mod requests;

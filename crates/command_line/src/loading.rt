@@ -28,9 +28,26 @@ use own_dictionary::OwnDictionary;
 use personal_words::{OwnList, read_own};
 use spell_types::{Affixes, Lexicon};
 use std::alloc::Global;
+use std::marker::Model;
 use std::sync::Arc;
 use team_script::{Script, read_script};
 use word_verdict::Speller;
+
+/// What a dictionary is made of: its base, and the items of a personal list. Contracts see it as
+/// the dictionary.
+#[derive(Drop)]
+pub struct Parts {
+    pub base: Lexicon,
+    pub own: OwnList,
+}
+
+impl Model for Parts {
+    ghost use Rattle.own_dictionary.specs.Dictionaries.{OwnSeen};
+
+    ghost Value = { OwnSeen };
+
+    ghost view = { λ inside. record { base = inside.base; own = inside.own } };
+}
 
 /// The dictionary that these names name: its two files, and the personal list behind them, if one is
 /// named.
@@ -46,9 +63,26 @@ pub fn load_dictionary<F: Files>(
     ensures same { F.told files.new ≡ F.told files.old }
     ensures count { F.faults files.old ≤ F.faults files.new }
 {
+    let Parts { base, own } = load_parts(alloc, files, names)?;
+    Ok(OwnDictionary::new(alloc, base, own)?)
+}
+
+/// What the dictionary that these names name is made of.
+pub fn load_parts<F: Files>(
+    alloc: Global,
+    files: &mut F,
+    names: &DictionaryNames<'_>,
+) -> Result<Parts, Failure>
+    ensures due { (there : OwnFiles) × IsOwnThere (F.told files.old) names.now there
+        × GivesDue MayCome (λ parts. parts) (dictionary_due there) result }
+    ensures base { IfOk result (λ parts. IsBase parts.base) }
+    ensures failed { IsErrOf result (Load Failed) → F.faults files.old < F.faults files.new }
+    ensures same { F.told files.new ≡ F.told files.old }
+    ensures count { F.faults files.old ≤ F.faults files.new }
+{
     let base = load_base(alloc, files, names.aff, names.dic)?;
     let own = load_own(alloc, files, &base.affixes, names.own)?;
-    Ok(OwnDictionary::new(alloc, base, own)?)
+    Ok(Parts { base, own })
 }
 
 /// The same, to be asked, which threads may share.
@@ -63,8 +97,18 @@ pub fn load_judge<F: Files>(
     ensures same { F.told files.new ≡ F.told files.old }
     ensures count { F.faults files.old ≤ F.faults files.new }
 {
-    let dictionary = load_dictionary(alloc, files, names)?;
-    Ok(judge_of(&dictionary)?)
+    let parts = load_parts(alloc, files, names)?;
+    Ok(judge_made(alloc, parts)?)
+}
+
+/// The dictionary that is made of these parts, to be asked.
+pub fn judge_made(alloc: Global, parts: Parts) -> Result<Arc<Speller>, NoMemory>
+    requires { IsBase parts.base }
+    ensures { IfOk result (λ judge. arc_value judge ≡ in_force parts) }
+{
+    let Parts { base, own } = parts;
+    let dictionary = OwnDictionary::new(alloc, base, own)?;
+    judge_of(&dictionary)
 }
 
 /// A dictionary, to be asked.

@@ -16,7 +16,8 @@ ghost use Rattle.dictionary_swap.specs.declared.fault.LoadFault.TheVariants.{Fai
 
 use crate::ending::put_outcome;
 use crate::failure::Failure;
-use crate::loading::{load_document, load_judge};
+use crate::loading::load_parts;
+use crate::making::make_and_load;
 use crate::names::{DictionaryNames, named};
 use crate::options::{Workers, options_of};
 use crate::requests::Request;
@@ -114,8 +115,10 @@ fn outcome_of<R: Threads + Sync, F: Files>(
     ensures same { F.told files.new ≡ F.told files.old }
     ensures count { F.faults files.old ≤ F.faults files.new }
 {
-    let judge = load_judge(alloc, files, &names.dictionary)?;
-    let document = load_document(alloc, files, names.document)?;
+    let parts = load_parts(alloc, files, &names.dictionary)?;
+    let (judge, document) = make_and_load(rt, alloc, workers, parts, files, names.document);
+    let judge = judge?;
+    let document = document?;
     report_by(rt, alloc, &judge, workers.count(), Output::Marks, &document)
 }
 

@@ -7,10 +7,10 @@ use Rattle.own_dictionary.specs.Dictionaries.{in_force}
 use Rattle.command_line.specs.Due.{MayCome, in_force_due}
 use Rattle.command_line.proofs.loading.load_judge.Goals as goal
 
-pub returns-in_err-dictionary-clause-due : goal.returns-in_err-dictionary-clause-due
+pub returns-in_err-parts-clause-due : goal.returns-in_err-parts-clause-due
 unfolding in_force_due
-returns-in_err-dictionary-clause-due g c =
-    let there = c.in_err-dictionary.ensures.due in (
+returns-in_err-parts-clause-due g c =
+    let there = c.in_err-parts.ensures.due in (
       there.0,
       there.1,
       gives-fault MayCome (λ judge. arc_value judge) c.from_residual.result
@@ -20,9 +20,9 @@ returns-in_err-dictionary-clause-due g c =
 pub returns-clause-due : goal.returns-clause-due
 unfolding in_force_due
 returns-clause-due g c =
-    let there = c.in_ok-dictionary.ensures.due in (
+    let there = c.in_ok-parts.ensures.due in (
       there.0,
       there.1,
       ap (λ due. due >>= (λ dictionary. Ok (in_force dictionary))) there.2
-          ∙ ap Ok (sym c.in_ok-judge_of.ensures),
+          ∙ ap Ok (sym c.in_ok-judge_made.ensures),
     )
