@@ -1,11 +1,11 @@
 #!/usr/bin/env bash
 # Times `check` by some workers on 5 MB of running text in English and in German, LibreOffice's help without its markup as often as it
 # takes, in lines of at most 1,000 bytes. Prints a row of a table in Markdown for each number of workers: the seconds that pass, on the text
-# and on an empty one, the load, in the middle of 15 rounds; how often the time for the text goes into that without workers, of the same round,
-# in the middle and of the rounds at a quarter and at three quarters; and the memory. Each round runs all numbers of workers one after another,
-# since a processor may be faster in one minute than in the next. Each run has to print what the first did. It means something on a machine with
-# four processors or more that are idle. Packages are fetched and unpacked, not installed. With a folder as its argument, packages are kept
-# there. ROUNDS is another number of rounds.
+# and on an empty one, the load, in the middle of 15 rounds; how often the time for the text goes into that of a run without workers right
+# before it, in the middle and of the rounds at a quarter and at three quarters; and the memory. Only runs that follow each other are
+# compared, since a processor may be faster in one second than in the next. Each run has to print what the first did. It means something on a
+# machine with four processors or more that are idle. Packages are fetched and unpacked, not installed. With a folder as its argument,
+# packages are kept there. ROUNDS is another number of rounds.
 set -euo pipefail
 top=$(cd "$(dirname "$0")/.." && pwd)
 work=$(mktemp -d)
@@ -27,18 +27,17 @@ timed() {
     awk -v begin="$begin" -v end="$EPOCHREALTIME" 'BEGIN { printf "%.6f\n", end - begin }'
 }
 
-# row COSTS WORKERS: the load and the time for the text in the middle of the rounds; and how many times as fast as without workers in the same
-# round, at a quarter, in the middle and at three quarters.
+# row COSTS WORKERS: the load and the time for the text in the middle of the rounds; and how many times as fast as without workers right before,
+# at a quarter, in the middle and at three quarters.
 row() {
     python3 - "$@" << 'PYTHON'
 import statistics
 import sys
 
 lines = [line.split() for line in open(sys.argv[1], encoding='ascii')]
-alone = {line[0]: float(line[3]) for line in lines if line[1] == 'none'}
-mine = [line for line in lines if line[1] == sys.argv[2]]
-times = sorted(alone[line[0]] / float(line[3]) for line in mine)
-middle = [statistics.median(float(line[place]) for line in mine) for place in (2, 3)]
+mine = [[float(cost) for cost in line[1:]] for line in lines if line[0] == sys.argv[2]]
+times = sorted(alone / spent for load, alone, spent in mine)
+middle = [statistics.median(line[place] for line in mine) for place in (0, 2)]
 print(*middle, times[len(times) // 4], statistics.median(times), times[3 * len(times) // 4])
 PYTHON
 }
@@ -66,10 +65,12 @@ while read -r package name; do
             options=(--workers "$workers")
             [ "$workers" != none ] || options=()
             load=$(timed empty "${options[@]}")
-            spent=$(timed text "${options[@]}")
+            alone=$(timed text)
             [ -e wanted ] || cp out wanted
             cmp out wanted
-            echo "$round $workers $load $spent" >> costs
+            spent=$(timed text "${options[@]}")
+            cmp out wanted
+            echo "$workers $load $alone $spent" >> costs
         done
     done
     rm -f wanted
