@@ -16,11 +16,15 @@ use Rattle.std.specs.Map.{lookup}
 use Rattle.indexmap.specs.IndexMap.{get}
 use Rattle.spell_types.specs.declared.Entry.{Entry}
 use Rattle.spell_types.specs.Cases.{is_same_word}
-use Rattle.affix_strip.specs.declared.entry_table.EntryTable.{EntryTable}
+use Rattle.affix_strip.specs.declared.half.Half.{Half}
+use Rattle.std.specs.declared.alloc.Global.{Global}
+use Rattle.std.specs.declared.vec.Vec.{Vec}
 use Rattle.key_filter.specs.Filter.{may_have}
-use Rattle.affix_strip.specs.declared.hashed.TheConstants.{FACTOR}
-use Rattle.affix_strip.specs.Hashes.{folded, hash_of}
-use Rattle.affix_strip.specs.EntryTable.{has_hash, has_word, passes_at, last_where, HasEntries}
+use Rattle.affix_strip.specs.declared.hashed.Hashed.{Hashed}
+use Rattle.affix_strip.specs.declared.hashed.TheConstants.{START, FACTOR}
+use Rattle.affix_strip.specs.Hashes.{folded, hash_of, IsHashed}
+use Rattle.affix_strip.specs.EntryTable.{has_hash, has_word, passes_at, last_where, HasHalf}
+use Rattle.affix_strip.specs.EntryTable.{Notes}
 
 -- ---- a list with one item more
 get-before : {X : Type 0} (xs : List X) (x : X) (i : ℕ) → i < length xs
@@ -166,6 +170,12 @@ folded-more hash text i c within is =
     ∙ folded-append hash (take i text) (c ∷ [])
     ∙ folded-one (folded hash (take i text)) c
 
+-- the hash of a text with its hash, taken on over what stands behind it
+pub joined-hash : (front : Hashed) (back : List ℕ) (hash : ℕ) → hash ≡ folded front.hash back
+    → IsHashed front → hash ≡ hash_of (front.text.now ++ back)
+joined-hash front back hash is hashed =
+    is ∙ ap (λ h. folded h back) hashed ∙ sym (folded-append START front.text.now back)
+
 pub same-hash : (word : List ℕ) (entry : Entry) → has_word word entry ≡ true
     → has_hash (hash_of word) entry ≡ true
 same-hash word entry is =
@@ -184,38 +194,53 @@ passes-entry test entries place passes = by (slice_get entries place) refl passe
     by None at is = absurd (true≢false (sym is))
     by (Some entry) at is = (entry, at, is)
 
+-- what a half with the remainder has at a place of an entry
+abbrev pub last-in : ℕ → List Entry → ℕ → Entry → Option ℕ
+last-in remainder entries place entry =
+    if nat_eq (hash_of entry.word % 2) remainder
+    then last_where (has_hash (hash_of entry.word)) entries place else None
+
+-- no place has a hash that the filter excludes
+pub hash-none : (entries : List Entry) (half : Half) (hash : ℕ) → HasHalf (hash % 2) entries half
+    → may_have half.hashes hash ≡ false → last_where (has_hash hash) entries (length entries) ≡ None
+hash-none entries half hash holds none = sym (holds.last hash refl) ∙ holds.hashes hash refl none
+
 -- the place before one with the hash is the last one below it that has the hash
-pub earlier-is : (entries : List Entry) (table : EntryTable) (hash place : ℕ)
-    → HasEntries entries table → passes_at (has_hash hash) entries place ≡ true
-    → option_flatten (slice_get table.earlier.items place) ≡ last_where (has_hash hash) entries
-    place
-earlier-is entries table hash place holds passes =
+pub earlier-is : (entries : List Entry) (half : Half) (hash place : ℕ)
+    → HasHalf (hash % 2) entries half → passes_at (has_hash hash) entries place ≡ true
+    → option_flatten (slice_get half.earlier.items place) ≡ last_where (has_hash hash) entries place
+earlier-is entries half hash place holds passes =
     by (passes-entry (has_hash hash) entries place passes)
   where
     by : ((entry : Entry) × (slice_get entries place ≡ Some entry) × (has_hash hash entry ≡ true))
-        → option_flatten (slice_get table.earlier.items place) ≡ last_where (has_hash hash) entries
+        → option_flatten (slice_get half.earlier.items place) ≡ last_where (has_hash hash) entries
         place
     by (entry, at, is) =
         ap option_flatten
         (holds.earlier place
-        ∙ ap (option_map (λ (e : Entry). last_where (has_hash (hash_of e.word)) entries place))
-        at)
-        ∙ ap (λ h. last_where (has_hash h) entries place) (eqb-true (hash_of entry.word) hash is)
+        ∙ ap (option_map (last-in (hash % 2) entries place)) at)
+        ∙ ap (λ h. cond (nat_eq (h % 2) (hash % 2)) (last_where (has_hash h) entries place) None)
+        (eqb-true (hash_of entry.word) hash is)
+        ∙ ap (λ b. cond b (last_where (has_hash hash) entries place) None)
+        (eq-eqb (hash % 2) (hash % 2) refl)
 
 -- the place before one lies below it
-pub earlier-below : (entries : List Entry) (table : EntryTable) (place : ℕ)
-    → HasEntries entries table → end_of (option_flatten (slice_get table.earlier.items place))
+pub earlier-below : (remainder : ℕ) (entries : List Entry) (half : Half) (place : ℕ)
+    → HasHalf remainder entries half → end_of (option_flatten (slice_get half.earlier.items place))
     ≤ place
-earlier-below entries table place holds =
+earlier-below remainder entries half place holds =
     subst (λ found. end_of (option_flatten found) ≤ place) (sym (holds.earlier place))
     (by (slice_get entries place))
   where
-    by : (found : Option Entry)
-        → end_of (option_flatten
-        (option_map (λ (e : Entry). last_where (has_hash (hash_of e.word)) entries place) found))
+    either : (hash : ℕ) (b : Bool) → end_of (cond b (last_where (has_hash hash) entries place) None)
         ≤ place
+    either hash true = last_where-below (has_hash hash) entries place
+    either hash false = omega arith
+
+    by : (found : Option Entry)
+        → end_of (option_flatten (option_map (last-in remainder entries place) found)) ≤ place
     by None = omega arith
-    by (Some entry) = last_where-below (has_hash (hash_of entry.word)) entries place
+    by (Some entry) = either (hash_of entry.word) (nat_eq (hash_of entry.word % 2) remainder)
 
 -- ---- down the places of a hash
 -- Where the walk is: the next place is the last of the hash below a bound, and no place of the word
@@ -237,11 +262,11 @@ way-first entries word start = record {
 }
 
 -- the place has another word, and the next is the one before it
-pub way-more : (entries : List Entry) (table : EntryTable) (word : List ℕ) (start : Option ℕ)
-    (place : ℕ) (next : Option ℕ) → HasEntries entries table
+pub way-more : (entries : List Entry) (half : Half) (word : List ℕ) (start : Option ℕ)
+    (place : ℕ) (next : Option ℕ) → HasHalf (hash_of word % 2) entries half
     → IsOnWay entries word start (Some place) → passes_at (has_word word) entries place ≡ false
-    → next ≡ option_flatten (slice_get table.earlier.items place) → IsOnWay entries word start next
-way-more entries table word start place next holds way other is =
+    → next ≡ option_flatten (slice_get half.earlier.items place) → IsOnWay entries word start next
+way-more entries half word start place next holds way other is =
     record { reaches = λ bound from. on bound (way.reaches bound from) }
   where
     on : (bound : ℕ) → ((end : ℕ) × (Some place ≡ last_where (has_hash (hash_of word)) entries end))
@@ -254,7 +279,7 @@ way-more entries table word start place next holds way other is =
         let passes : passes_at (has_hash (hash_of word)) entries place ≡ true =
         (last_where-is (has_hash (hash_of word)) entries end place (sym at)).1 in
         let next-is : next ≡ last_where (has_hash (hash_of word)) entries place =
-        is ∙ earlier-is entries table (hash_of word) place holds passes in (
+        is ∙ earlier-is entries half (hash_of word) place holds passes in (
           (place, next-is),
           same
               ∙ ap (λ b. cond b (Some place) (last_where (has_word word) entries place)) other
@@ -279,45 +304,52 @@ pub way-last : (entries : List Entry) (word : List ℕ) (start : Option ℕ) (bo
 way-last entries word start bound way from = sym (way.reaches bound from).1
 
 -- ---- one entry more
-pub entries-none : (table : EntryTable) → table.last.entries ≡ [] → table.earlier.items ≡ []
-    → HasEntries [] table
-entries-none table last earlier = record {
+pub half-none : (remainder : ℕ) (half : Half) → half.last.entries ≡ [] → half.earlier.items ≡ []
+    → HasHalf remainder [] half
+half-none remainder half last earlier = record {
   count = ap length earlier;
-  last = λ hash. ap (lookup (nat_eq hash)) last;
+  last = λ hash is. ap (lookup (nat_eq hash)) last;
   earlier = λ place. ap (λ items. slice_get items place) earlier;
-  hashes = λ hash none. ap (lookup (nat_eq hash)) last;
+  hashes = λ hash is none. ap (lookup (nat_eq hash)) last;
 }
 
-pub entries-more : (entries : List Entry) (entry : Entry) (before now : EntryTable) (old : Option ℕ)
-    → HasEntries entries before
-    → ((hash : ℕ) → get nat_eq now.last hash ≡ cond (nat_eq (hash_of entry.word) hash)
-    (Some (length entries)) (get nat_eq before.last hash))
-    → old ≡ get nat_eq before.last (hash_of entry.word) → now.earlier.items ≡ before.earlier.items
-    ++ old ∷ []
-    → may_have now.hashes (hash_of entry.word) ≡ true
-    → ((hash : ℕ) → may_have before.hashes hash ≡ true → may_have now.hashes hash ≡ true)
-    → HasEntries (entries ++ entry ∷ []) now
-entries-more entries entry before now old holds puts old-is pushed there kept = record {
+pub half-more : (entries : List Entry) (entry : Entry) (before noted : Half)
+    (earlier : Vec (Option ℕ) Global) (old : Option ℕ) → HasHalf before.remainder entries before
+    → Notes before noted (hash_of entry.word) (length entries) old
+    → earlier.items ≡ noted.earlier.items ++ old ∷ []
+    → HasHalf before.remainder (entries ++ entry ∷ [])
+    record {
+      remainder = noted.remainder;
+      last = noted.last;
+      earlier = earlier;
+      hashes = noted.hashes;
+    }
+half-more entries entry before noted earlier old holds notes pushes = record {
   count = ap length pushed ∙ longer;
-  last = λ hash.
-      puts hash
-      ∙ ap (cond (nat_eq (hash_of entry.word) hash) (Some (length entries))) (holds.last hash)
+  last = λ hash is.
+      notes.last hash is
+      ∙ ap (cond (nat_eq (hash_of entry.word) hash) (Some (length entries))) (holds.last hash is)
       ∙ sym (last_where-all (has_hash hash) entries entry);
   earlier = λ place. ap (λ items. slice_get items place) pushed
       ∙ at place (cases_order place (length entries));
-  hashes = λ hash none. puts hash ∙ no-place hash none (nat_eq (hash_of entry.word) hash) refl;
+  hashes = λ hash is none.
+      notes.last hash is ∙ no-place hash is none (nat_eq (hash_of entry.word) hash) refl;
 }
   where
-    no-place : (hash : ℕ) → may_have now.hashes hash ≡ false → (b : Bool)
-        → nat_eq (hash_of entry.word) hash ≡ b
+    pushed : earlier.items ≡ before.earlier.items ++ old ∷ []
+    pushed = pushes ∙ ap (λ items. items ++ old ∷ []) notes.same
+
+    no-place : (hash : ℕ) → hash % 2 ≡ before.remainder → may_have noted.hashes hash ≡ false
+        → (b : Bool) → nat_eq (hash_of entry.word) hash ≡ b
         → cond b (Some (length entries)) (get nat_eq before.last hash) ≡ None
-    no-place hash none true same =
+    no-place hash is none true same =
+        let equal : hash_of entry.word ≡ hash = eqb-true (hash_of entry.word) hash same in
         absurd (true≢false
-        (sym there ∙ ap (may_have now.hashes) (eqb-true (hash_of entry.word) hash same) ∙ none))
-    no-place hash none false other =
-        holds.hashes hash
+        (sym (notes.there (ap (λ h. h % 2) equal ∙ is)) ∙ ap (may_have noted.hashes) equal ∙ none))
+    no-place hash is none false other =
+        holds.hashes hash is
         (false_from_ne_true (may_have before.hashes hash)
-        (λ had. true≢false (sym (kept hash had) ∙ none)))
+        (λ had. true≢false (sym (notes.kept hash had) ∙ none)))
 
     longer : length (before.earlier.items ++ old ∷ []) ≡ length (entries ++ entry ∷ [])
     longer = omega (
@@ -327,37 +359,44 @@ entries-more entries entry before now old holds puts old-is pushed there kept = 
       holds.count,
     )
 
-    -- at each place, whose entry is given, the last place before it
-    last-at : List Entry → ℕ → Option Entry → Option (Option ℕ)
-    last-at all place = option_map (λ (e : Entry). last_where (has_hash (hash_of e.word)) all place)
-
     same-at : (place : ℕ) (found : Option Entry) → place ≤ length entries
-        → last-at entries place found ≡ last-at (entries ++ entry ∷ []) place found
+        → option_map (last-in before.remainder entries place) found
+        ≡ option_map (last-in before.remainder (entries ++ entry ∷ []) place) found
     same-at place None within = refl
     same-at place (Some e) within =
-        ap (λ last. Some last)
+        ap (λ last. Some (cond (nat_eq (hash_of e.word % 2) before.remainder) last None))
         (sym (last_where-before (has_hash (hash_of e.word)) entries entry place within))
+
+    old-in : (b : Bool) → nat_eq (hash_of entry.word % 2) before.remainder ≡ b
+        → cond b (get nat_eq before.last (hash_of entry.word)) None
+        ≡ cond b (last_where (has_hash (hash_of entry.word)) entries (length entries)) None
+    old-in true is =
+        holds.last (hash_of entry.word) (eqb-true (hash_of entry.word % 2) before.remainder is)
+    old-in false is = refl
 
     at : (place : ℕ) → (place ≡ length entries)
         ⊎ ((place < length entries) ⊎ (length entries < place))
-        → slice_get (before.earlier.items ++ old ∷ []) place ≡ last-at (entries ++ entry ∷ []) place
+        → slice_get (before.earlier.items ++ old ∷ []) place
+        ≡ option_map (last-in before.remainder (entries ++ entry ∷ []) place)
         (slice_get (entries ++ entry ∷ []) place)
     at place (inl same) =
         get-last before.earlier.items old place (omega (arith, same, holds.count))
         ∙ ap (λ last. Some last)
-        (old-is ∙ holds.last (hash_of entry.word)
-        ∙ ap (last_where (has_hash (hash_of entry.word)) entries) (sym same))
+        (notes.given ∙ old-in (nat_eq (hash_of entry.word % 2) before.remainder) refl
+        ∙ ap (λ end. last-in before.remainder entries end entry) (sym same))
         ∙ same-at place (Some entry) (omega (arith, same))
-        ∙ ap (last-at (entries ++ entry ∷ []) place) (sym (get-last entries entry place same))
+        ∙ ap (option_map (last-in before.remainder (entries ++ entry ∷ []) place))
+        (sym (get-last entries entry place same))
     at place (inr (inl less)) =
         get-before before.earlier.items old place (omega (arith, less, holds.count))
         ∙ holds.earlier place
         ∙ same-at place (slice_get entries place) (omega (arith, less))
-        ∙ ap (last-at (entries ++ entry ∷ []) place) (sym (get-before entries entry place less))
+        ∙ ap (option_map (last-in before.remainder (entries ++ entry ∷ []) place))
+        (sym (get-before entries entry place less))
     at place (inr (inr more)) =
         slice_get_past (before.earlier.items ++ old ∷ []) place
         (omega (arith, more, longer, length-append entries (entry ∷ [])))
-        ∙ ap (last-at (entries ++ entry ∷ []) place)
+        ∙ ap (option_map (last-in before.remainder (entries ++ entry ∷ []) place))
         (sym (slice_get_past (entries ++ entry ∷ []) place
         (omega (arith, more, length-append entries (entry ∷ [])))))
 

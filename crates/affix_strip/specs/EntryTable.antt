@@ -1,5 +1,6 @@
 -- Entries by a hash of their words.
-use Rattle.std.specs.Prelude.{◌≡◌, ◌↔◌, ℕ, zero, suc, Bool, false, List, length, nat_eq, slice_get}
+use Rattle.std.specs.Prelude.{◌≡◌, ◌↔◌, ◌%◌, ℕ, zero, suc, Bool, true, false, List, length, nat_eq}
+use Rattle.std.specs.Prelude.{slice_get}
 use Rattle.std.specs.Prelude.{Contains, Option, None, Some, if◌then◌else◌}
 use Rattle.std.specs.Option.{option_map, option_map_or}
 use Rattle.indexmap.specs.IndexMap.{get}
@@ -7,6 +8,7 @@ use Rattle.spell_types.specs.declared.Entry.{Entry}
 use Rattle.spell_types.specs.Cases.{is_same_word}
 use Rattle.key_filter.specs.Filter.{may_have}
 use Rattle.affix_strip.specs.declared.entry_table.EntryTable.{EntryTable}
+use Rattle.affix_strip.specs.declared.half.Half.{Half}
 use Rattle.affix_strip.specs.Hashes.{hash_of}
 
 abbrev pub has_hash : ℕ → Entry → Bool
@@ -25,15 +27,34 @@ last_where test entries zero = None
 last_where test entries (suc place) =
     if passes_at test entries place then Some place else last_where test entries place
 
--- the table has at each hash the last place of an entry whose word has it, and at each place the
--- last one below it of the same hash, and what the filter excludes has no place
+-- the half has, of the hashes that leave the remainder, at each the last place of an entry whose
+-- word has it, and at each place of such an entry the last one below it of the same hash, and what
+-- the filter excludes has no place
+pub record HasHalf (remainder : ℕ) (entries : List Entry) (half : Half) : Type 0 where
+  pub count : length half.earlier.items ≡ length entries
+  pub last : (hash : ℕ) → hash % 2 ≡ remainder → get nat_eq half.last hash
+      ≡ last_where (has_hash hash) entries (length entries)
+  pub earlier : (place : ℕ) → slice_get half.earlier.items place ≡ option_map
+      (λ entry. if nat_eq (hash_of entry.word % 2) remainder
+      then last_where (has_hash (hash_of entry.word)) entries place else None)
+      (slice_get entries place)
+  pub hashes : (hash : ℕ) → hash % 2 ≡ remainder → may_have half.hashes hash ≡ false
+      → get nat_eq half.last hash ≡ None
+
+-- the table has a half for each remainder
 pub record HasEntries (entries : List Entry) (table : EntryTable) : Type 0 where
-  pub count : length table.earlier.items ≡ length entries
-  pub last : (hash : ℕ) → get nat_eq table.last hash ≡ last_where (has_hash hash) entries
-      (length entries)
-  pub earlier : (place : ℕ) → slice_get table.earlier.items place ≡ option_map
-      (λ entry. last_where (has_hash (hash_of entry.word)) entries place) (slice_get entries place)
-  pub hashes : (hash : ℕ) → may_have table.hashes hash ≡ false → get nat_eq table.last hash ≡ None
+  pub even : HasHalf 0 entries table.even
+  pub odd : HasHalf 1 entries table.odd
+
+-- the place is noted as the last of a hash, if the half is for that; `earlier` was the last one
+pub record Notes (before now : Half) (hash place : ℕ) (earlier : Option ℕ) : Type 0 where
+  pub remainder : now.remainder ≡ before.remainder
+  pub same : now.earlier.items ≡ before.earlier.items
+  pub given : earlier ≡ (if nat_eq (hash % 2) before.remainder then get nat_eq before.last hash else None)
+  pub last : (other : ℕ) → other % 2 ≡ before.remainder → get nat_eq now.last other
+      ≡ (if nat_eq hash other then Some place else get nat_eq before.last other)
+  pub there : hash % 2 ≡ before.remainder → may_have now.hashes hash ≡ true
+  pub kept : (other : ℕ) → may_have before.hashes other ≡ true → may_have now.hashes other ≡ true
 
 -- these are the places of the entries of a word
 pub record AreEntriesOf (entries : List Entry) (word places : List ℕ) : Type 0 where

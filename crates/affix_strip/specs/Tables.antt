@@ -16,6 +16,7 @@ use Rattle.affix_strip.specs.Heads.{IsHeaded}
 use Rattle.affix_strip.specs.Inside.{IsInside}
 use Rattle.affix_strip.specs.Lengths.{IsLongest}
 use Rattle.affix_strip.specs.Peeling.{may_undo_at}
+use Rattle.affix_strip.specs.declared.entry_table.EntryTable.{EntryTable}
 use Rattle.affix_strip.specs.declared.barring.Barring.{Barring}
 use Rattle.affix_strip.specs.declared.barring.Barring.TheVariants.{Nowhere, AtEntries, AtForms}
 use Rattle.affix_strip.specs.declared.walk.IndexedLexicon.{IndexedLexicon}
@@ -64,10 +65,10 @@ IsBarring lexicon Nowhere = OfForbidden lexicon (λ entry. ⊥)
 IsBarring lexicon AtEntries = OfForbidden lexicon (AllowsNone lexicon.affixes.rules)
 IsBarring lexicon AtForms = Unit {0}
 
--- these are the tables of the dictionary
-pub record AreTablesOf (lexicon : Lexicon) (tables : Tables) : Type 0 where
+-- these are the tables of the dictionary, and that of its entries
+pub record AreTablesOf (lexicon : Lexicon) (tables : Tables) (by_word : EntryTable) : Type 0 where
   pub rules : IsTableOf lexicon.affixes.rules tables.rules
-  pub entries : HasEntries lexicon.entries tables.by_word
+  pub entries : HasEntries lexicon.entries by_word
   pub seconds : AreSeconds lexicon.affixes.rules tables.seconds.items
   pub has_seconds : tables.has_seconds ≡ list_any (λ may. may) tables.seconds.items
   pub barring : IsBarring lexicon tables.barring
@@ -77,7 +78,7 @@ pub record AreTablesOf (lexicon : Lexicon) (tables : Tables) : Type 0 where
 
 -- the tables are those of the dictionary
 abbrev pub IsReady : IndexedLexicon → Type 0
-IsReady dictionary = AreTablesOf dictionary.lexicon dictionary.tables
+IsReady dictionary = AreTablesOf dictionary.lexicon dictionary.tables dictionary.by_word
 
 -- whether the rule with a place may be a second suffix
 abbrev pub may_be_outer : IndexedLexicon → ℕ → Bool

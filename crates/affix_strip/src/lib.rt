@@ -15,6 +15,7 @@ ghost use Rattle.affix_strip.specs.Inside.{StandsInside};
 mod barring;
 mod edges;
 mod entry_table;
+mod half;
 mod hashed;
 mod heads;
 mod inside;
@@ -29,6 +30,7 @@ use spell_types::{Case, Derivation, Lexicon, Place};
 use std::alloc::Global;
 use std::cmp::Ordering;
 use std::marker::Model;
+use std::thread::Threads;
 use visiting::Alone;
 use walk::IndexedLexicon;
 
@@ -59,6 +61,20 @@ impl Stems {
         ensures { IfOk result (λ made. made ≡ lexicon) }
     {
         let dictionary = IndexedLexicon::new(alloc, lexicon)?;
+        Ok(Stems { dictionary })
+    }
+
+    /// The same, in three threads, of which the caller's is one. Where no thread can be made, the
+    /// caller does its work.
+    pub fn in_threads<R: Threads + Sync>(
+        rt: &R,
+        alloc: Global,
+        lexicon: Lexicon,
+    ) -> Result<Stems, NoMemory>
+        requires { IsSane lexicon }
+        ensures { IfOk result (λ made. made ≡ lexicon) }
+    {
+        let dictionary = IndexedLexicon::in_threads(rt, alloc, lexicon)?;
         Ok(Stems { dictionary })
     }
 

@@ -7,7 +7,7 @@ ghost use Rattle.std.specs.List.{list_any};
 ghost use Rattle.spell_types.specs.declared.derivations.Derivation.{Derivation};
 ghost use Rattle.spell_types.specs.Derivations.{form_of};
 ghost use Rattle.spell_types.specs.Licences.{is_licensed, is_forbidden};
-ghost use Rattle.affix_strip.specs.EntryTable.{AreEntriesOf};
+ghost use Rattle.affix_strip.specs.EntryTable.{AreEntriesOf, HasEntries};
 ghost use Rattle.affix_strip.specs.Found.{derivations_of};
 ghost use Rattle.affix_strip.specs.Hashes.{IsHashed};
 ghost use Rattle.affix_strip.specs.Inside.{StandsInside};
@@ -17,7 +17,8 @@ ghost use Rattle.affix_strip.specs.Peeling.{may_undo, may_undo_at, fits_on, AreP
 ghost use Rattle.affix_strip.specs.Tables.{AreTablesOf, IsReady, may_be_outer, may_undo_outer};
 
 use crate::barring::{Barring, barring_of};
-use crate::entry_table::{EntryTable, Places};
+use crate::entry_table::EntryTable;
+use crate::half::Places;
 use crate::hashed::Hashed;
 use crate::heads::Heads;
 use crate::inside::Inside;
@@ -30,21 +31,22 @@ use affix_tables::AffixTables;
 use lists::NoMemory;
 use spell_types::{Derivation, Lexicon, Place, Rule, Side, licensed, sets_have_their_flags};
 use std::alloc::Global;
+use std::thread::{Threads, join};
 
 /// A dictionary, and tables of its rules and entries.
 #[derive(Drop)]
 pub(crate) struct IndexedLexicon {
     pub(crate) lexicon: Lexicon,
+    /// The entries by their words.
+    by_word: EntryTable,
     tables: Tables,
 }
 
-/// What is found out once of a dictionary.
+/// What else is found out once of a dictionary.
 #[derive(Drop)]
 struct Tables {
     /// The rules by what they add.
     rules: AffixTables,
-    /// The entries by their words.
-    by_word: EntryTable,
     /// Which rules may be second suffixes, at their places.
     seconds: Vec<bool>,
     /// Whether one of them may.
@@ -59,20 +61,18 @@ struct Tables {
 }
 
 impl Tables {
-    /// The tables of a dictionary.
+    /// The tables of a dictionary, beside that of its entries.
     fn new(alloc: Global, lexicon: &Lexicon) -> Result<Tables, NoMemory>
-        requires rules { length lexicon.now.affixes.rules < 2 ^ 32 }
-        requires entries { length lexicon.now.entries < 2 ^ 32 }
-        ensures { IfOk result (AreTablesOf lexicon.now) }
+        requires { length lexicon.now.affixes.rules < 2 ^ 32 }
+        ensures { IfOk result (λ made. (by_word : EntryTable)
+            → HasEntries lexicon.now.entries by_word → AreTablesOf lexicon.now made by_word) }
     {
         let seconds = second_suffixes(alloc, &lexicon.affixes.rules)?;
         let has_seconds = one_may(seconds.as_slice());
         let barring = barring_of(alloc, lexicon)?;
-        let by_word = EntryTable::new(alloc, &lexicon.entries)?;
         let rules = AffixTables::new(alloc, &lexicon.affixes.rules)?;
         Ok(Tables {
             rules,
-            by_word,
             seconds,
             has_seconds,
             barring,
@@ -91,8 +91,32 @@ impl IndexedLexicon {
         ensures lexicon { IfOk result (λ made. made.lexicon ≡ lexicon) }
         ensures ready { IfOk result (λ made. IsReady made) }
     {
+        let by_word = EntryTable::new(alloc, &lexicon.entries)?;
         let tables = Tables::new(alloc, &lexicon)?;
-        Ok(IndexedLexicon { lexicon, tables })
+        Ok(IndexedLexicon {
+            lexicon,
+            by_word,
+            tables,
+        })
+    }
+
+    /// The same, with the tables made in three threads, of which the caller's is one.
+    pub(crate) fn in_threads<R: Threads + Sync>(
+        rt: &R,
+        alloc: Global,
+        lexicon: Lexicon,
+    ) -> Result<IndexedLexicon, NoMemory>
+        requires rules { length lexicon.affixes.rules < 2 ^ 32 }
+        requires entries { length lexicon.entries < 2 ^ 32 }
+        ensures lexicon { IfOk result (λ made. made.lexicon ≡ lexicon) }
+        ensures ready { IfOk result (λ made. IsReady made) }
+    {
+        let (by_word, tables) = tables_in_threads(rt, alloc, &lexicon);
+        Ok(IndexedLexicon {
+            lexicon,
+            by_word: by_word?,
+            tables: tables?,
+        })
     }
 
     /// Whether a word of so many characters is longer than every form.
@@ -408,7 +432,7 @@ impl IndexedLexicon {
             (V.sees visitor.old) (V.sees visitor.new)) }
     {
         let word = Hashed::new(word);
-        if !self.tables.by_word.may_have(word, &[]) {
+        if !self.by_word.may_have(word, &[]) {
             return Ok(false);
         }
         let entries = self.entries_of(alloc, word, &[])?;
@@ -463,7 +487,7 @@ impl IndexedLexicon {
             (V.sees visitor.old) (V.sees visitor.new)) }
     {
         let (front, back) = ending.parts();
-        if !self.tables.by_word.may_have(front, back) {
+        if !self.by_word.may_have(front, back) {
             return Ok(false);
         }
         let entries = self.entries_of(alloc, front, back)?;
@@ -614,10 +638,37 @@ impl IndexedLexicon {
             (λ places. AreEntriesOf self.now.lexicon.entries (front.entry.text.now ++ back.now)
             places.items) }
     {
-        self.tables
-            .by_word
+        self.by_word
             .places_of(alloc, &self.lexicon.entries, front, back)
     }
+}
+
+/// All tables of a dictionary. The table of its entries, which takes longest, is made in two threads
+/// beside this one.
+fn tables_in_threads<R: Threads + Sync>(
+    rt: &R,
+    alloc: Global,
+    lexicon: &Lexicon,
+) -> (Result<EntryTable, NoMemory>, Result<Tables, NoMemory>)
+    requires rules { length lexicon.now.affixes.rules < 2 ^ 32 }
+    requires entries { length lexicon.now.entries < 2 ^ 32 }
+    ensures entries { IfOk result.0 (HasEntries lexicon.now.entries) }
+    ensures tables { IfOk result.1 (λ made. (by_word : EntryTable)
+        → HasEntries lexicon.now.entries by_word → AreTablesOf lexicon.now made by_word) }
+{
+    join(
+        rt,
+        || -> Result<EntryTable, NoMemory>
+            requires { length lexicon.now.entries < 2 ^ 32 }
+            ensures { IfOk result (HasEntries lexicon.entry.now.entries) }
+        { EntryTable::in_threads(rt, alloc, &lexicon.entries) },
+        || -> Result<Tables, NoMemory>
+            requires { length lexicon.now.affixes.rules < 2 ^ 32 }
+            ensures { IfOk result (λ made. (by_word : EntryTable)
+                → HasEntries lexicon.entry.now.entries by_word
+                → AreTablesOf lexicon.entry.now made by_word) }
+        { Tables::new(alloc, lexicon) },
+    )
 }
 
 /// Shows the derivations with one of these prefixes, this first suffix and one of these second

@@ -3,9 +3,9 @@ use Rattle.std.proofs.Common.{rules}
 use Rattle.affix_strip.proofs.walk.Tables.new.Goals as goal
 
 pub returns : goal.returns
-returns c = record {
+returns c = λ by_word has. record {
   rules = search rules;
-  entries = search rules;
+  entries = has;
   seconds = search rules;
   has_seconds = search rules;
   barring = search rules;

@@ -2,7 +2,7 @@
 use Rattle.std.proofs.Common.{◌≡◌, ◌∙◌, sym, ap, subst, suc, ◌<◌, ◌≤◌, ◌++◌, arith}
 use Rattle.affix_strip.proofs.EntryLemmas.{end_of, IsOnWay, way-first, way-more, way-found}
 use Rattle.affix_strip.proofs.EntryLemmas.{way-last, earlier-below}
-use Rattle.affix_strip.proofs.entry_table.EntryTable.down_from.Goals as goal
+use Rattle.affix_strip.proofs.half.Half.down_from.Goals as goal
 
 pub loop-next-init : goal.loop-next-init
 loop-next-init c = way-first c.args.entries.now (c.args.front.now ++ c.args.back.now) c.args.start
@@ -20,7 +20,7 @@ loop-next-smaller c =
     let place = c.in-Some.place in
     let below : end_of c.earlier_of-next.result ≤ place =
     subst (λ found. end_of found ≤ place) (sym c.earlier_of-next.ensures)
-    (earlier-below c.args.entries.now c.args.self.now place c.requires) in
+    (earlier-below _ c.args.entries.now c.args.self.now place c.requires) in
     let is : end_of c.loop-next.next ≡ suc place = ap end_of c.in-Some.is in
     let less : end_of c.earlier_of-next.result < end_of c.loop-next.next =
     omega (arith, below, is) in

@@ -2,10 +2,10 @@
 use Rattle.std.proofs.Common.{◌++◌}
 use Rattle.affix_strip.proofs.EntryLemmas.{end_of}
 use Rattle.affix_strip.proofs.PlaceLemmas.{PlacesBehind}
-use Rattle.affix_strip.proofs.entry_table.EntryTable.places_of.Given as goal
+use Rattle.affix_strip.proofs.half.Half.places_of.Given as goal
 
 abbrev pub invariant-loop-next : goal.invariant-loop-next
-invariant-loop-next l = PlacesBehind l.entries (l.front.text.now ++ l.back) l.next l.places.items
+invariant-loop-next l = PlacesBehind l.entries (l.front ++ l.back) l.next l.places.items
 
 abbrev pub decreases-loop-next : goal.decreases-loop-next
 decreases-loop-next l = end_of l.next

@@ -1,7 +1,7 @@
 -- No place of the word was passed over, and each place lies below the one before.
 use Rattle.std.proofs.Common.{◌++◌}
 use Rattle.affix_strip.proofs.EntryLemmas.{end_of, IsOnWay}
-use Rattle.affix_strip.proofs.entry_table.EntryTable.down_from.Given as goal
+use Rattle.affix_strip.proofs.half.Half.down_from.Given as goal
 
 abbrev pub invariant-loop-next : goal.invariant-loop-next
 invariant-loop-next l = IsOnWay l.entries (l.front ++ l.back) l.fn.start l.next

@@ -2,7 +2,7 @@
 use Rattle.std.proofs.Common.{◌≡◌, ℕ, List, ◌++◌, drop, IsUtf8, chars}
 use Rattle.std.specs.Str.Iter.{chars_rest}
 use Rattle.spell_types.specs.Cases.{is_same_word}
-use Rattle.affix_strip.proofs.entry_table.rest_behind.Given as goal
+use Rattle.affix_strip.proofs.half.rest_behind.Given as goal
 
 abbrev pub invariant-loop-c : goal.invariant-loop-c
 invariant-loop-c l = IsUtf8 (chars_rest l.left)

@@ -4,7 +4,7 @@ use Rattle.std.specs.Str.{chars}
 use Rattle.std.specs.Str.Iter.{chars_rest}
 use Rattle.std.proofs.lemmas.Str.{IsUtf8-past_char, chars_past_char}
 use Rattle.affix_strip.proofs.TurnLemmas.{chars-empty, front-ends, front-other, front-more}
-use Rattle.affix_strip.proofs.entry_table.rest_behind.Goals as goal
+use Rattle.affix_strip.proofs.half.rest_behind.Goals as goal
 
 pub returns-in-None : goal.returns-in-None
 returns-in-None c = λ back.

@@ -1,6 +1,6 @@
 -- The word begins with the front, or not; then its rest is the back, or not.
 use Rattle.std.proofs.Common.{◌∙◌, sym}
-use Rattle.affix_strip.proofs.entry_table.is_joined.Goals as goal
+use Rattle.affix_strip.proofs.half.is_joined.Goals as goal
 
 pub returns-in-None : goal.returns-in-None
 returns-in-None c = sym (c.in-None.ensures c.args.back.now)
