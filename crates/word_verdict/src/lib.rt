@@ -21,6 +21,7 @@ use pieces::Prepared;
 use spell_types::{Affixes, Chars, Entries, Lexicon};
 use std::alloc::Global;
 use std::marker::Model;
+use std::thread::Threads;
 use words::accepts;
 
 /// A dictionary, ready to be asked which words it generates. Contracts see it as the dictionary.
@@ -54,6 +55,23 @@ impl Speller {
         let lexicon = Lexicon { affixes, entries };
         let beside = Beside::prepare(alloc, &lexicon)?;
         let stems = Stems::new(alloc, lexicon)?;
+        Ok(beside.with_stems(stems))
+    }
+
+    /// The same, in three threads, of which the caller's is one. Where no thread can be made, the
+    /// caller does its work.
+    pub fn build_in_threads<R: Threads + Sync>(
+        rt: &R,
+        alloc: Global,
+        affixes: Affixes,
+        entries: Entries,
+    ) -> Result<Speller, NoMemory>
+        requires { IsSane (record { affixes = affixes; entries = entries }) }
+        ensures { IfOk result (λ made. made ≡ record { affixes = affixes; entries = entries }) }
+    {
+        let lexicon = Lexicon { affixes, entries };
+        let beside = Beside::prepare(alloc, &lexicon)?;
+        let stems = Stems::in_threads(rt, alloc, lexicon)?;
         Ok(beside.with_stems(stems))
     }
 
