@@ -1,10 +1,10 @@
 -- A dictionary that was extended has its base still.
-use Rattle.std.proofs.Common.{◌≡◌, ap, List, length, map}
+use Rattle.std.proofs.Common.{◌≡◌, ◌∙◌, ap, sym, subst, ℕ, List, length, map}
 use Rattle.std.proofs.Math.Seq.{take-append_seam}
 use Rattle.personal_words.specs.declared.items.OwnItem.{OwnItem}
 use Rattle.personal_words.specs.Extended.{entry_of_item, extended}
 use Rattle.spell_types.specs.declared.Lexicon.{Lexicon}
-use Rattle.own_dictionary.specs.Dictionaries.{base_in}
+use Rattle.own_dictionary.specs.Dictionaries.{IsBase, IsExtended, base_in}
 
 pub base-kept : (base : Lexicon) (own : List OwnItem)
     → base_in (extended base own) (length base.entries) base.affixes.signs.forbidden ≡ base
@@ -12,3 +12,21 @@ unfolding extended
 base-kept base own =
     ap (λ entries. record base { entries = entries })
     (take-append_seam base.entries (map (entry_of_item base) own))
+
+-- what is made of a base has the base, if it is that extended by a list
+pub base-of : (base made : Lexicon) (own : List OwnItem) (count : ℕ) → made ≡ extended base own
+    → count ≡ length base.entries → base_in made count base.affixes.signs.forbidden ≡ base
+base-of base made own count is counted =
+    ap (λ lexicon. base_in lexicon count base.affixes.signs.forbidden) is
+    ∙ ap (λ n. base_in (extended base own) n base.affixes.signs.forbidden) counted
+    ∙ base-kept base own
+
+pub made-extended : (base made : Lexicon) (own : List OwnItem) (count : ℕ)
+    → made ≡ extended base own → count ≡ length base.entries → IsBase base
+    → IsExtended made count base.affixes.signs.forbidden own
+made-extended base made own count is counted ready =
+    let kept = base-of base made own count is counted in
+    record {
+      lexicon_is = is ∙ ap (λ lexicon. extended lexicon own) (sym kept);
+      base = subst IsBase (sym kept) ready;
+    }

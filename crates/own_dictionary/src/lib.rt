@@ -15,6 +15,7 @@ use spell_types::{Flag, Lexicon};
 use std::alloc::Global;
 use std::marker::Model;
 use std::sync::Arc;
+use std::thread::Threads;
 use word_verdict::Speller;
 
 /// A dictionary with personal words: its base, which was loaded, and the items of a list. Contracts
@@ -54,6 +55,28 @@ impl OwnDictionary {
         let entries = base.entries.len();
         let forbidden = base.affixes.signs.forbidden;
         let speller = speller_of(alloc, base, &own)?;
+        Ok(OwnDictionary {
+            speller,
+            own,
+            entries,
+            forbidden,
+        })
+    }
+
+    /// The same as `new`, in three threads, of which the caller's is one. Where no thread can be made,
+    /// the caller does its work.
+    pub fn in_threads<R: Threads + Sync>(
+        rt: &R,
+        alloc: Global,
+        base: Lexicon,
+        own: OwnList,
+    ) -> Result<OwnDictionary, NoMemory>
+        requires { IsBase base }
+        ensures { IfOk result (λ made. made ≡ record { base = base; own = own }) }
+    {
+        let entries = base.entries.len();
+        let forbidden = base.affixes.signs.forbidden;
+        let speller = speller_in_threads(rt, alloc, base, &own)?;
         Ok(OwnDictionary {
             speller,
             own,
@@ -113,5 +136,20 @@ fn speller_of(alloc: Global, base: Lexicon, own: &OwnList) -> Result<Arc<Speller
 {
     let Lexicon { affixes, entries } = extend_with(alloc, base, own)?;
     let speller = Speller::build(alloc, affixes, entries)?;
+    Ok(Arc::new(alloc, speller)?)
+}
+
+/// The same in several threads.
+fn speller_in_threads<R: Threads + Sync>(
+    rt: &R,
+    alloc: Global,
+    base: Lexicon,
+    own: &OwnList,
+) -> Result<Arc<Speller>, NoMemory>
+    requires { IsBase base }
+    ensures { IfOk result (λ made. arc_value made ≡ extended base own.now) }
+{
+    let Lexicon { affixes, entries } = extend_with(alloc, base, own)?;
+    let speller = Speller::build_in_threads(rt, alloc, affixes, entries)?;
     Ok(Arc::new(alloc, speller)?)
 }
