@@ -30,6 +30,7 @@ use spell_types::{Affixes, Lexicon};
 use std::alloc::Global;
 use std::marker::Model;
 use std::sync::Arc;
+use std::thread::Threads;
 use team_script::{Script, read_script};
 use word_verdict::Speller;
 
@@ -108,6 +109,21 @@ pub fn judge_made(alloc: Global, parts: Parts) -> Result<Arc<Speller>, NoMemory>
 {
     let Parts { base, own } = parts;
     let dictionary = OwnDictionary::new(alloc, base, own)?;
+    judge_of(&dictionary)
+}
+
+/// The same, made in three threads, of which the caller's is one. Where no thread can be made, the
+/// caller does its work.
+pub fn judge_in_threads<R: Threads + Sync>(
+    rt: &R,
+    alloc: Global,
+    parts: Parts,
+) -> Result<Arc<Speller>, NoMemory>
+    requires { IsBase parts.base }
+    ensures { IfOk result (λ judge. arc_value judge ≡ in_force parts) }
+{
+    let Parts { base, own } = parts;
+    let dictionary = OwnDictionary::in_threads(rt, alloc, base, own)?;
     judge_of(&dictionary)
 }
 

@@ -1,7 +1,8 @@
-//! A dictionary that is made in another thread, while this one loads a document.
+//! A dictionary that is made in other threads, while this one loads a document.
 
 ghost use Rattle.std.specs.Prelude.{◌≡◌, ◌<◌, ◌≤◌, ℕ, List, Option, Some, IfOk, IfSome, IsErrOf};
 ghost use Rattle.std.specs.Arc.{arc_value};
+ghost use Rattle.std.specs.Thread.{IsSync};
 ghost use Rattle.lists.specs.Answers.{GivesDue};
 ghost use Rattle.dictionary_swap.specs.declared.fault.LoadFault.TheVariants.{Failed};
 ghost use Rattle.own_dictionary.specs.Dictionaries.{IsBase, OwnSeen, in_force};
@@ -10,7 +11,7 @@ ghost use Rattle.command_line.specs.declared.failure.Failure.TheVariants.{Load};
 ghost use Rattle.command_line.specs.declared.limits.TheConstants.{DOCUMENT_LIMIT};
 
 use crate::failure::Failure;
-use crate::loading::{Parts, judge_made, load_document};
+use crate::loading::{Parts, judge_in_threads, judge_made, load_document};
 use crate::options::Workers;
 use joined_tasks::{Task, perform_both};
 use lists::NoMemory;
@@ -23,17 +24,19 @@ use word_verdict::Speller;
 /// A dictionary, to be asked, and the bytes of a document, each as far as it could be had.
 pub type JudgeAndDocument = (Result<Arc<Speller>, NoMemory>, Result<Vec<u8>, Failure>);
 
-/// The task of making a dictionary. It has nothing of its own, so that what becomes of all that it is
-/// lent is known where it ends.
+/// The task of making a dictionary. It has nothing of its own, so that what becomes of all that it
+/// is lent is known where it ends.
 #[derive(Drop)]
-struct Making<'p, 'j> {
+struct Making<'r, 'p, 'j, R> {
+    rt: &'r R,
     alloc: Global,
     parts: &'p mut Option<Parts>,
     judge: &'j mut Result<Arc<Speller>, NoMemory>,
 }
 
-impl Task for Making<'_, '_> {
-    ghost IsReady = { λ making. IfSome making.parts.now (λ parts. IsBase parts.base) };
+impl<R: Threads + Sync> Task for Making<'_, '_, '_, R> {
+    ghost IsReady = { λ making.
+        IsSync R.row × IfSome making.parts.now (λ parts. IsBase parts.base) };
 
     ghost Does = { λ old new. (old.judge.ghost_name ≡ new.judge.ghost_name)
         × ((parts : OwnSeen) → old.parts.now ≡ Some parts
@@ -42,7 +45,7 @@ impl Task for Making<'_, '_> {
     /// Makes the dictionary of the parts, which are taken.
     fn perform(&mut self) {
         if let Some(parts) = self.parts.take() {
-            *self.judge = judge_made(self.alloc, parts);
+            *self.judge = judge_in_threads(self.rt, self.alloc, parts);
         }
     }
 }
@@ -74,8 +77,8 @@ impl<F: Files> Task for Loading<'_, '_, '_, F> {
     }
 }
 
-/// The dictionary that is made of these parts, and the document of this name. Where there are
-/// workers, the one is made in another thread while the other is loaded.
+/// The dictionary that is made of these parts, and the document of this name. Where there are two
+/// workers or more, the one is made in other threads while the other is loaded.
 pub fn make_and_load<R: Threads + Sync, F: Files>(
     rt: &R,
     alloc: Global,
@@ -99,7 +102,7 @@ pub fn make_and_load<R: Threads + Sync, F: Files>(
     make_beside(rt, alloc, parts, files, name)
 }
 
-/// The same in two threads, or in this one alone, where no other can be made.
+/// The same in several threads, or in this one alone, where no other can be made.
 fn make_beside<R: Threads + Sync, F: Files>(
     rt: &R,
     alloc: Global,
@@ -119,6 +122,7 @@ fn make_beside<R: Threads + Sync, F: Files>(
     let mut judge = Err(NoMemory);
     let mut document = Err(Failure::NoMemory);
     let mut making = Making {
+        rt,
         alloc,
         parts: &mut parts,
         judge: &mut judge,
