@@ -16,7 +16,7 @@ use mark_types::{Asker, Judge};
 use std::alloc::Global;
 use std::sync::Arc;
 use std::sync::atomic::{AtomicUsize, Ordering};
-use std::thread::{Threads, map_indices};
+use std::thread::{Threads, join};
 use verdict_cache::Cached;
 
 /// How many shares there are for each thread at least, if there are so many paragraphs.
@@ -123,14 +123,51 @@ fn take_in_threads<R: Threads + Sync, J: Judge + Drop + Send + Sync>(
 {
     let threads = shares.count().min(threads as usize);
     let runs = runs_of(alloc, shares.count(), threads)?;
-    let runs = runs.as_slice();
-    let take = move |thread: usize| -> Taken
+    take_first(rt, alloc, judge, output, shares, runs.as_slice(), threads)
+}
+
+/// What the threads give that begin with the first so many runs, of which this one has the first of
+/// all. It starts each of the others: where threads start threads at the same time, two of these may
+/// come to one processor while another one is idle.
+#[cycle(taking)]
+fn take_first<R: Threads + Sync, J: Judge + Drop + Send + Sync>(
+    rt: &R,
+    alloc: Global,
+    judge: &Arc<J>,
+    output: Output,
+    shares: &Shares<'_>,
+    runs: &[Run],
+    threads: usize,
+) -> Result<Vec<Taken>, NoMemory>
+    requires limited { IsLimited shares.now.part }
+    requires some { 0 < shares.now.size }
+    ensures { IfOk result (λ taken. All
+        (λ one. IfOk one (AreOfShares output (J.lexicon (arc_value judge.now)) shares.now))
+        taken.items) }
+{
+    if threads < 2 {
+        let mut taken = Vec::new(alloc);
+        taken.push(take_shares(alloc, judge, output, shares, runs, 0))?;
+        return Ok(taken);
+    }
+    let last = threads - 1;
+    let beside = move || -> Taken
         requires { IsSync J.row × IsSend J.row
             × IsLimited shares.now.part × (0 < shares.now.size) }
         ensures { IfOk result
             (AreOfShares output (J.lexicon (arc_value judge.entry.now)) shares.entry.now) }
-    { take_shares(alloc, judge, output, shares, runs, thread) };
-    Ok(map_indices(rt, alloc, threads, &take)?)
+    { take_shares(alloc, judge, output, shares, runs, last) };
+    let others = move || -> Result<Vec<Taken>, NoMemory>
+        requires { IsSync R.row × IsSync J.row × IsSend J.row
+            × IsLimited shares.now.part × (0 < shares.now.size) }
+        ensures { IfOk result (λ taken. All (λ one. IfOk one
+            (AreOfShares output (J.lexicon (arc_value judge.entry.now)) shares.entry.now))
+            taken.items) }
+    { take_first(rt, alloc, judge, output, shares, runs, last) };
+    let (theirs, taken) = join(rt, beside, others);
+    let mut taken = taken?;
+    taken.push(theirs)?;
+    Ok(taken)
 }
 
 /// So many runs of shares one after another, which are nearly as long as each other.
