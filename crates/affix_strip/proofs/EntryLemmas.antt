@@ -304,16 +304,17 @@ pub way-last : (entries : List Entry) (word : List ℕ) (start : Option ℕ) (bo
 way-last entries word start bound way from = sym (way.reaches bound from).1
 
 -- ---- one entry more
-pub half-none : (remainder : ℕ) (half : Half) → half.last.entries ≡ [] → half.earlier.items ≡ []
-    → HasHalf remainder [] half
-half-none remainder half last earlier = record {
+pub half-none : (remainder : ℕ) (half : Half) → half.remainder ≡ remainder
+    → half.last.entries ≡ [] → half.earlier.items ≡ [] → HasHalf remainder [] half
+half-none remainder half is_for last earlier = record {
+  is_for = is_for;
   count = ap length earlier;
   last = λ hash is. ap (lookup (nat_eq hash)) last;
   earlier = λ place. ap (λ items. slice_get items place) earlier;
   hashes = λ hash is none. ap (lookup (nat_eq hash)) last;
 }
 
-pub half-more : (entries : List Entry) (entry : Entry) (before noted : Half)
+own-more : (entries : List Entry) (entry : Entry) (before noted : Half)
     (earlier : Vec (Option ℕ) Global) (old : Option ℕ) → HasHalf before.remainder entries before
     → Notes before noted (hash_of entry.word) (length entries) old
     → earlier.items ≡ noted.earlier.items ++ old ∷ []
@@ -324,7 +325,8 @@ pub half-more : (entries : List Entry) (entry : Entry) (before noted : Half)
       earlier = earlier;
       hashes = noted.hashes;
     }
-half-more entries entry before noted earlier old holds notes pushes = record {
+own-more entries entry before noted earlier old holds notes pushes = record {
+  is_for = notes.remainder;
   count = ap length pushed ∙ longer;
   last = λ hash is.
       notes.last hash is
@@ -399,6 +401,28 @@ half-more entries entry before noted earlier old holds notes pushes = record {
         ∙ ap (option_map (last-in before.remainder (entries ++ entry ∷ []) place))
         (sym (slice_get_past (entries ++ entry ∷ []) place
         (omega (arith, more, length-append entries (entry ∷ [])))))
+
+pub half-more : (remainder : ℕ) (entries : List Entry) (entry : Entry) (before noted : Half)
+    (earlier : Vec (Option ℕ) Global) (old : Option ℕ) → HasHalf remainder entries before
+    → Notes before noted (hash_of entry.word) (length entries) old
+    → earlier.items ≡ noted.earlier.items ++ old ∷ []
+    → HasHalf remainder (entries ++ entry ∷ [])
+    record {
+      remainder = noted.remainder;
+      last = noted.last;
+      earlier = earlier;
+      hashes = noted.hashes;
+    }
+half-more remainder entries entry before noted earlier old holds notes pushes =
+    subst (λ r. HasHalf r (entries ++ entry ∷ [])
+    record {
+      remainder = noted.remainder;
+      last = noted.last;
+      earlier = earlier;
+      hashes = noted.hashes;
+    }) holds.is_for
+    (own-more entries entry before noted earlier old
+    (subst (λ r. HasHalf r entries before) (sym holds.is_for) holds) notes pushes)
 
 -- ---- a word of two parts
 pub joined-none : (word front back : List ℕ) → pointwise nat_eq (take (length front) word) front

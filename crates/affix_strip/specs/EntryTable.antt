@@ -31,6 +31,7 @@ last_where test entries (suc place) =
 -- word has it, and at each place of such an entry the last one below it of the same hash, and what
 -- the filter excludes has no place
 pub record HasHalf (remainder : ℕ) (entries : List Entry) (half : Half) : Type 0 where
+  pub is_for : half.remainder ≡ remainder
   pub count : length half.earlier.items ≡ length entries
   pub last : (hash : ℕ) → hash % 2 ≡ remainder → get nat_eq half.last hash
       ≡ last_where (has_hash hash) entries (length entries)

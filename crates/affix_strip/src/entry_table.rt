@@ -1,12 +1,13 @@
 //! Entries by a hash of their words, in two halves, so that two threads can make them.
 
-ghost use Rattle.std.specs.Prelude.{◌≡◌, ◌++◌, [], ◌^◌, ◌<◌, ◌%◌, ℕ, List, false, length, IfOk};
+ghost use Rattle.std.specs.Prelude.{◌≡◌, ◌++◌, [], ◌∷◌, ◌^◌, ◌<◌, ◌%◌, ℕ, List, false, length};
+ghost use Rattle.std.specs.Prelude.{IfOk, OnOk};
 ghost use Rattle.spell_types.specs.declared.Entry.{Entry};
-ghost use Rattle.affix_strip.specs.Hashes.{IsHashed};
+ghost use Rattle.affix_strip.specs.Hashes.{IsHashed, hash_of};
 ghost use Rattle.affix_strip.specs.EntryTable.{HasEntries, HasHalf, AreEntriesOf};
 
 use crate::half::{Half, Places};
-use crate::hashed::{Hashed, fold};
+use crate::hashed::{Hashed, fold, hash_of};
 use lists::NoMemory;
 use spell_types::Entries;
 use std::alloc::Global;
@@ -26,13 +27,30 @@ impl EntryTable {
         requires { length entries.now < 2 ^ 32 }
         ensures { IfOk result (HasEntries entries.now) }
     {
-        let even = Half::new(alloc, entries, 0)?;
-        let odd = Half::new(alloc, entries, 1)?;
-        Ok(EntryTable { even, odd })
+        let even = Half::empty(alloc, entries.len(), 0)?;
+        let odd = Half::empty(alloc, entries.len(), 1)?;
+        let mut table = EntryTable { even, odd };
+        for place in 0..entries.len() {
+            table.add(hash_of(entries.at(place).word()), place as u32)?;
+        }
+        Ok(table)
     }
 
-    /// The same, made in two threads, of which the caller's is one. Where no thread can be made, the
-    /// caller makes all of it.
+    /// Adds the entry with a place, which is the one behind the entries so far, by the hash of its
+    /// word.
+    fn add(&mut self, hash: u64, place: u32) -> Result<(), NoMemory>
+        ensures { OnOk result
+            ((entries : List Entry) (entry : Entry) → length entries ≡ place
+            → hash ≡ hash_of entry.word → HasEntries entries self.old
+            → HasEntries (entries ++ entry ∷ []) self.new) }
+    {
+        self.even.add(hash, place)?;
+        self.odd.add(hash, place)?;
+        Ok(())
+    }
+
+    /// The same, made in two threads, of which the caller's is one. Each computes all hashes. Where
+    /// no thread can be made, the caller makes all of it.
     pub(crate) fn in_threads<R: Threads + Sync>(
         rt: &R,
         alloc: Global,

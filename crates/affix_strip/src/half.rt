@@ -18,7 +18,7 @@ use indexmap::IndexMap;
 use key_filter::KeyFilter;
 use lists::NoMemory;
 use smallvec::SmallVec;
-use spell_types::{Entries, EntryRef, is_spelled};
+use spell_types::{Entries, is_spelled};
 use std::alloc::Global;
 
 /// Places of entries. Most words have one or two.
@@ -41,37 +41,44 @@ pub(crate) struct Half {
 }
 
 impl Half {
+    /// The half of no entries for hashes that leave this remainder, with room for the half of so many.
+    pub(crate) fn empty(alloc: Global, count: usize, remainder: u64) -> Result<Half, NoMemory>
+        ensures { IfOk result (HasHalf remainder []) }
+    {
+        let room = room_of(count);
+        let last = IndexMap::with_capacity(alloc, room)?;
+        let earlier = Vec::with_capacity(alloc, count)?;
+        let hashes = KeyFilter::new(alloc, room)?;
+        Ok(Half {
+            remainder,
+            last,
+            earlier,
+            hashes,
+        })
+    }
+
     /// The half of these entries for hashes that leave this remainder. It fails only where memory is
     /// wanting.
     pub(crate) fn new(alloc: Global, entries: &Entries, remainder: u64) -> Result<Half, NoMemory>
         requires { length entries.now < 2 ^ 32 }
         ensures { IfOk result (HasHalf remainder entries.now) }
     {
-        let room = room_of(entries.len());
-        let last = IndexMap::with_capacity(alloc, room)?;
-        let earlier = Vec::with_capacity(alloc, entries.len())?;
-        let hashes = KeyFilter::new(alloc, room)?;
-        let mut half = Half {
-            remainder,
-            last,
-            earlier,
-            hashes,
-        };
+        let mut half = Half::empty(alloc, entries.len(), remainder)?;
         for place in 0..entries.len() {
-            half.add(&entries.at(place), place as u32)?;
+            half.add(hash_of(entries.at(place).word()), place as u32)?;
         }
         Ok(half)
     }
 
-    /// Adds the entry with a place, which is the one behind the entries so far.
-    fn add(&mut self, entry: &EntryRef<'_>, place: u32) -> Result<(), NoMemory>
-        ensures has { OnOk result
-            ((entries : List Entry) → length entries ≡ place
-            → HasHalf self.old.remainder entries self.old
-            → HasHalf self.old.remainder (entries ++ entry.now ∷ []) self.new) }
-        ensures same { OnOk result (self.new.remainder ≡ self.old.remainder) }
+    /// Adds the entry with a place, which is the one behind the entries so far, by the hash of its
+    /// word.
+    pub(crate) fn add(&mut self, hash: u64, place: u32) -> Result<(), NoMemory>
+        ensures { OnOk result
+            ((remainder : ℕ) (entries : List Entry) (entry : Entry) → length entries ≡ place
+            → hash ≡ hash_of entry.word → HasHalf remainder entries self.old
+            → HasHalf remainder (entries ++ entry ∷ []) self.new) }
     {
-        let earlier = self.note(hash_of(entry.word()), place)?;
+        let earlier = self.note(hash, place)?;
         self.earlier.push(earlier)?;
         Ok(())
     }

@@ -5,7 +5,9 @@ ghost use Rattle.std.specs.Prelude.{◌≡◌, ◌≤◌, false, length, IfOk, O
 ghost use Rattle.affix_strip.specs.Heads.{AreCutWithin, AreHeads, AreStripsWithin, IsNotedHead};
 ghost use Rattle.affix_strip.specs.Heads.{IsHeaded, IsUnheaded, KeepsHeads, MayHeads, NoneHeads};
 ghost use Rattle.affix_strip.specs.Heads.{cut_of};
+ghost use Rattle.affix_strip.specs.Tables.{IsBarring};
 
+use crate::barring::Barring;
 use crate::edges::{Edge, Those};
 use crate::hashed::{START, fold};
 use crate::rule_flags::{carry_few, flags_of_classes};
@@ -32,10 +34,11 @@ pub(crate) struct Heads {
 
 impl Heads {
     /// What the forms of a dictionary's forbidden words begin with.
-    pub(crate) fn new(alloc: Global, lexicon: &Lexicon) -> Result<Heads, NoMemory>
+    pub(crate) fn new(alloc: Global, lexicon: &Lexicon, barring: Barring) -> Result<Heads, NoMemory>
+        requires { IsBarring lexicon.now barring }
         ensures { IfOk result (IsHeaded lexicon.now) }
     {
-        let heads = filter_of(alloc, lexicon)?;
+        let heads = filter_of(alloc, lexicon, barring)?;
         let prefixes = Edge::new(alloc, Side::Prefix, Those::All, &lexicon.affixes.rules)?;
         Ok(Heads { heads, prefixes })
     }
@@ -52,7 +55,12 @@ impl Heads {
 }
 
 /// The hashes of the heads of a dictionary's forbidden words, if the numbers fit.
-fn filter_of(alloc: Global, lexicon: &Lexicon) -> Result<Option<KeyFilter>, NoMemory>
+fn filter_of(
+    alloc: Global,
+    lexicon: &Lexicon,
+    barring: Barring,
+) -> Result<Option<KeyFilter>, NoMemory>
+    requires { IsBarring lexicon.now barring }
     ensures { IfOk result (MayHeads lexicon.now) }
 {
     let rules = &lexicon.affixes.rules;
@@ -61,8 +69,7 @@ fn filter_of(alloc: Global, lexicon: &Lexicon) -> Result<Option<KeyFilter>, NoMe
     match longest_cut(rules, &classes, longest) {
         None => Ok(None),
         Some(most) => {
-            let forbidden = lexicon.affixes.signs.forbidden;
-            let heads = heads_of(alloc, &lexicon.entries, forbidden, most)?;
+            let heads = heads_of(alloc, lexicon, barring, most)?;
             Ok(Some(heads))
         }
     }
@@ -86,18 +93,22 @@ fn has_head(heads: &KeyFilter, word: &[char]) -> bool
 }
 
 /// The hashes of the heads of the forbidden entries, if suffixes take off so many characters at
-/// most. Without a flag for them there are none.
+/// most. Where no entry is forbidden there are none.
 fn heads_of(
     alloc: Global,
-    entries: &Entries,
-    forbidden: Option<Flag>,
+    lexicon: &Lexicon,
+    barring: Barring,
     most: usize,
 ) -> Result<KeyFilter, NoMemory>
-    ensures { IfOk result (AreHeads entries.now forbidden most) }
+    requires { IsBarring lexicon.now barring }
+    ensures { IfOk result
+        (AreHeads lexicon.now.entries lexicon.now.affixes.signs.forbidden most) }
 {
-    if forbidden.is_none() {
+    if let Barring::Nowhere = barring {
         return KeyFilter::new(alloc, 0);
     }
+    let entries = &lexicon.entries;
+    let forbidden = lexicon.affixes.signs.forbidden;
     let count = count_of(entries, forbidden);
     let mut heads = KeyFilter::new(alloc, count.saturating_mul(ROOM))?;
     for place in 0..entries.len() {

@@ -76,7 +76,7 @@ impl Tables {
             seconds,
             has_seconds,
             barring,
-            heads: Heads::new(alloc, lexicon)?,
+            heads: Heads::new(alloc, lexicon, barring)?,
             longest: longest_of(lexicon),
             inside: Inside::new(alloc, lexicon)?,
         })

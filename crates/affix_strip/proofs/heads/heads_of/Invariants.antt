@@ -6,4 +6,5 @@ use Rattle.affix_strip.proofs.heads.heads_of.Given as goal
 
 abbrev pub invariant-loop-place : goal.invariant-loop-place
 invariant-loop-place l = (at : ℕ) (entry : Entry) → at < l.place
-    → slice_get l.entries at ≡ Some entry → IsNotedHead l.forbidden l.most l.heads entry
+    → slice_get l.lexicon.entries at ≡ Some entry
+    → IsNotedHead l.lexicon.affixes.signs.forbidden l.most l.heads entry
