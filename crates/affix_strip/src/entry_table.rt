@@ -1,4 +1,4 @@
-//! Entries by a hash of their words, in two halves, so that two threads can make them.
+//! Entries by a hash of their words, in two halves, which two threads may make.
 
 ghost use Rattle.std.specs.Prelude.{◌≡◌, ◌++◌, [], ◌∷◌, ◌^◌, ◌<◌, ◌%◌, ℕ, List, false, length};
 ghost use Rattle.std.specs.Prelude.{IfOk, OnOk};
@@ -11,7 +11,6 @@ use crate::hashed::{Hashed, fold, hash_of};
 use lists::NoMemory;
 use spell_types::Entries;
 use std::alloc::Global;
-use std::thread::{Threads, join};
 
 /// The entries of a dictionary by a hash of their words. They are not kept: each call is given
 /// those that the table was made of.
@@ -49,27 +48,14 @@ impl EntryTable {
         Ok(())
     }
 
-    /// The same, made in two threads, of which the caller's is one. Each computes all hashes. Where
-    /// no thread can be made, the caller makes all of it.
-    pub(crate) fn in_threads<R: Threads + Sync>(
-        rt: &R,
-        alloc: Global,
-        entries: &Entries,
+    /// The table of two halves, each as far as there was memory for it.
+    pub(crate) fn of(
+        even: Result<Half, NoMemory>,
+        odd: Result<Half, NoMemory>,
     ) -> Result<EntryTable, NoMemory>
-        requires { length entries.now < 2 ^ 32 }
-        ensures { IfOk result (HasEntries entries.now) }
+        ensures { (entries : List Entry) → IfOk even (HasHalf 0 entries)
+            → IfOk odd (HasHalf 1 entries) → IfOk result (HasEntries entries) }
     {
-        let (even, odd) = join(
-            rt,
-            || -> Result<Half, NoMemory>
-                requires { length entries.now < 2 ^ 32 }
-                ensures { IfOk result (HasHalf 0 entries.entry.now) }
-            { Half::new(alloc, entries, 0) },
-            || -> Result<Half, NoMemory>
-                requires { length entries.now < 2 ^ 32 }
-                ensures { IfOk result (HasHalf 1 entries.entry.now) }
-            { Half::new(alloc, entries, 1) },
-        );
         Ok(EntryTable {
             even: even?,
             odd: odd?,

@@ -12,6 +12,7 @@ ghost use Rattle.spell_types.specs.Sanity.{IsSane};
 ghost use Rattle.affix_strip.specs.Found.{derivations_of, derivation_cmp, AreInOrder};
 ghost use Rattle.affix_strip.specs.Inside.{StandsInside};
 
+mod at_once;
 mod barring;
 mod edges;
 mod entry_table;
@@ -64,8 +65,8 @@ impl Stems {
         Ok(Stems { dictionary })
     }
 
-    /// The same, in three threads, of which the caller's is one. Where no thread can be made, the
-    /// caller does its work.
+    /// The same, in three threads, while the caller waits. It does the work of a thread that cannot be
+    /// started.
     pub fn in_threads<R: Threads + Sync>(
         rt: &R,
         alloc: Global,

@@ -16,6 +16,7 @@ ghost use Rattle.affix_strip.specs.Parts.{AtSome, Shows, From, FromAll, RuleFrom
 ghost use Rattle.affix_strip.specs.Peeling.{may_undo, may_undo_at, fits_on, ArePeeled};
 ghost use Rattle.affix_strip.specs.Tables.{AreTablesOf, IsReady, may_be_outer, may_undo_outer};
 
+use crate::at_once::tables_at_once;
 use crate::barring::{Barring, barring_of};
 use crate::entry_table::EntryTable;
 use crate::half::Places;
@@ -31,7 +32,7 @@ use affix_tables::AffixTables;
 use lists::NoMemory;
 use spell_types::{Derivation, Lexicon, Place, Rule, Side, licensed, sets_have_their_flags};
 use std::alloc::Global;
-use std::thread::{Threads, join};
+use std::thread::Threads;
 
 /// A dictionary, and tables of its rules and entries.
 #[derive(Drop)]
@@ -44,7 +45,7 @@ pub(crate) struct IndexedLexicon {
 
 /// What else is found out once of a dictionary.
 #[derive(Drop)]
-struct Tables {
+pub(crate) struct Tables {
     /// The rules by what they add.
     rules: AffixTables,
     /// Which rules may be second suffixes, at their places.
@@ -62,7 +63,7 @@ struct Tables {
 
 impl Tables {
     /// The tables of a dictionary, beside that of its entries.
-    fn new(alloc: Global, lexicon: &Lexicon) -> Result<Tables, NoMemory>
+    pub(crate) fn new(alloc: Global, lexicon: &Lexicon) -> Result<Tables, NoMemory>
         requires { length lexicon.now.affixes.rules < 2 ^ 32 }
         ensures { IfOk result (λ made. (by_word : EntryTable)
             → HasEntries lexicon.now.entries by_word → AreTablesOf lexicon.now made by_word) }
@@ -100,7 +101,7 @@ impl IndexedLexicon {
         })
     }
 
-    /// The same, with the tables made in three threads, of which the caller's is one.
+    /// The same, with the tables made in three threads, while the caller waits.
     pub(crate) fn in_threads<R: Threads + Sync>(
         rt: &R,
         alloc: Global,
@@ -111,7 +112,7 @@ impl IndexedLexicon {
         ensures lexicon { IfOk result (λ made. made.lexicon ≡ lexicon) }
         ensures ready { IfOk result (λ made. IsReady made) }
     {
-        let (by_word, tables) = tables_in_threads(rt, alloc, &lexicon);
+        let (by_word, tables) = tables_at_once(rt, alloc, &lexicon);
         Ok(IndexedLexicon {
             lexicon,
             by_word: by_word?,
@@ -641,34 +642,6 @@ impl IndexedLexicon {
         self.by_word
             .places_of(alloc, &self.lexicon.entries, front, back)
     }
-}
-
-/// All tables of a dictionary. The table of its entries, which takes longest, is made in two threads
-/// beside this one.
-fn tables_in_threads<R: Threads + Sync>(
-    rt: &R,
-    alloc: Global,
-    lexicon: &Lexicon,
-) -> (Result<EntryTable, NoMemory>, Result<Tables, NoMemory>)
-    requires rules { length lexicon.now.affixes.rules < 2 ^ 32 }
-    requires entries { length lexicon.now.entries < 2 ^ 32 }
-    ensures entries { IfOk result.0 (HasEntries lexicon.now.entries) }
-    ensures tables { IfOk result.1 (λ made. (by_word : EntryTable)
-        → HasEntries lexicon.now.entries by_word → AreTablesOf lexicon.now made by_word) }
-{
-    join(
-        rt,
-        || -> Result<EntryTable, NoMemory>
-            requires { length lexicon.now.entries < 2 ^ 32 }
-            ensures { IfOk result (HasEntries lexicon.entry.now.entries) }
-        { EntryTable::in_threads(rt, alloc, &lexicon.entries) },
-        || -> Result<Tables, NoMemory>
-            requires { length lexicon.now.affixes.rules < 2 ^ 32 }
-            ensures { IfOk result (λ made. (by_word : EntryTable)
-                → HasEntries lexicon.entry.now.entries by_word
-                → AreTablesOf lexicon.entry.now made by_word) }
-        { Tables::new(alloc, lexicon) },
-    )
 }
 
 /// Shows the derivations with one of these prefixes, this first suffix and one of these second

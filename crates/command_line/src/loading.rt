@@ -112,8 +112,8 @@ pub fn judge_made(alloc: Global, parts: Parts) -> Result<Arc<Speller>, NoMemory>
     judge_of(&dictionary)
 }
 
-/// The same, made in three threads, of which the caller's is one. Where no thread can be made, the
-/// caller does its work.
+/// The same, made in three threads, while the caller waits. It does the work of a thread that
+/// cannot be started.
 pub fn judge_in_threads<R: Threads + Sync>(
     rt: &R,
     alloc: Global,

@@ -28,8 +28,8 @@ use std::thread::Threads;
 /// What is to be printed of a document, by the judge's dictionary; or what is wrong first: a line
 /// that is not UTF-8, then the number of the paragraphs, then the length of one.
 ///
-/// So many workers share the paragraphs, each in a thread. The caller's thread is one of them, and
-/// does the work of a thread that cannot be started. Without workers it does all.
+/// Two workers or more share the paragraphs, each in a thread, and the caller's waits for them. It does
+/// the work of a thread that cannot be started, and all of it where there are fewer workers.
 #[tactic(auto, unfolding(crate::specs::Documents::document_due))]
 pub fn report<R: Threads + Sync, J: Judge + Drop + Send + Sync>(
     rt: &R,

@@ -44,8 +44,9 @@ struct Run {
 /// What a thread gives: for each place the report on the share there, if the thread took it.
 type Taken = Result<Vec<Option<Report>>, NoMemory>;
 
-/// Counts a part in so many threads, of which the caller's is one. Each asks the judge through a
-/// memory of its own. Where a thread cannot be started, the caller does its work.
+/// Counts a part in so many threads, while the caller waits, or in the caller's, if it would be one.
+/// Each asks the judge through a memory of its own. The caller does the work of a thread that cannot
+/// be started.
 pub fn count_in_threads<R: Threads + Sync, J: Judge + Drop + Send + Sync>(
     rt: &R,
     alloc: Global,
@@ -126,9 +127,9 @@ fn take_in_threads<R: Threads + Sync, J: Judge + Drop + Send + Sync>(
     take_first(rt, alloc, judge, output, shares, runs.as_slice(), threads)
 }
 
-/// What the threads give that begin with the first so many runs, of which this one has the first of
-/// all. It starts each of the others: where threads start threads at the same time, two of these may
-/// come to one processor while another one is idle.
+/// What threads give that begin with the first so many runs. This one starts all of them, and then
+/// waits: the system may put the first of them on the processor of this one, and threads that start
+/// others at the same time may put two on one, also where another one is idle.
 #[cycle(taking)]
 fn take_first<R: Threads + Sync, J: Judge + Drop + Send + Sync>(
     rt: &R,
@@ -145,10 +146,8 @@ fn take_first<R: Threads + Sync, J: Judge + Drop + Send + Sync>(
         (λ one. IfOk one (AreOfShares output (J.lexicon (arc_value judge.now)) shares.now))
         taken.items) }
 {
-    if threads < 2 {
-        let mut taken = Vec::new(alloc);
-        taken.push(take_shares(alloc, judge, output, shares, runs, 0))?;
-        return Ok(taken);
+    if threads == 0 {
+        return Ok(Vec::new(alloc));
     }
     let last = threads - 1;
     let beside = move || -> Taken

@@ -63,8 +63,8 @@ impl OwnDictionary {
         })
     }
 
-    /// The same as `new`, in three threads, of which the caller's is one. Where no thread can be made,
-    /// the caller does its work.
+    /// The same as `new`, in three threads, while the caller waits. It does the work of a thread that
+    /// cannot be started.
     pub fn in_threads<R: Threads + Sync>(
         rt: &R,
         alloc: Global,

@@ -58,8 +58,8 @@ impl Speller {
         Ok(beside.with_stems(stems))
     }
 
-    /// The same, in three threads, of which the caller's is one. Where no thread can be made, the
-    /// caller does its work.
+    /// The same, in three threads, while the caller waits. It does the work of a thread that cannot be
+    /// started.
     pub fn build_in_threads<R: Threads + Sync>(
         rt: &R,
         alloc: Global,
