@@ -1,53 +1,44 @@
-# What the launcher `affedit` builds the program with, from its sources. It has the names `top` and `program`, and `fail`, of the launcher.
-# Standard error tells of a build, and how long it took. Launches at once take turns.
-# shellcheck shell=bash disable=SC2154
+# How the launcher `affedit` builds the program from its sources, where neither out/ nor dist/ has one of them. Needs `top`, `tools` and
+# `fail` of the launcher, and sources.bash. Launches at once take turns. Standard error reports the progress of a build.
+# shellcheck shell=bash disable=SC2034,SC2154
 
-# Where `rt` and the gate put what they build.
-built=$top/crates/affedit/out/affedit
+# shellcheck source=tools/launcher/proving.bash
+. "$tools/proving.bash"
 
-# Whether the program is older than what it is made of.
-is_older() {
-    [ -n "$(find "$top/crates.txt" "$top"/crates/*/src "$top"/crates/*/specs "$top"/crates/*/proofs -newer "$1" -print -quit 2> /dev/null)" ]
-}
-
-is_current() {
-    [ -x "$1" ] && ! is_older "$1"
-}
-
-# Whether what was built answers as it has to, so that nothing half written is taken.
-is_whole() {
-    local data=$top/crates/affedit/data
-    [ "$("$built" check "$data/a.aff" "$data/a.dic" "$data/text" 2> /dev/null)" = '0 of 2' ]
-}
-
-# Builds the program beside the one that is there, whose place it takes when it is whole.
+# Builds out/affedit, and sets `taken`. A program that is there is replaced only by one that was built and run.
 build() {
     local log=$top/out/log began=$SECONDS status=0
-    mkdir -p "$top/out" 2> /dev/null || true
     [ -w "$top/out" ] || fail "not built: $top/out cannot be written"
     exec 9> "$top/out/lock"
     flock 9
     # Another launch may have built it meanwhile.
-    if is_current "$program"; then
+    if take affedit; then
         exec 9>&-
         return
     fi
-    # Sources that change from here on are newer than the program.
-    touch "$top/out/began"
-    if ! { is_current "$built" && is_whole; }; then
-        [ -n "$(command -v rt)" ] || fail "not built: there is no command rt, which is the Rattle kit's"
-        echo "affedit: proving and building the program; from nothing this takes many minutes" >&2
-        # What is built is run once by rt, without words, which it answers with status 2.
-        (cd "$top/crates/affedit" && rt run) > "$log" 2>&1 < /dev/null 9>&- || status=$?
-        if [ "$status" != 2 ] || ! is_whole; then
-            tail -n 20 "$log" >&2
-            fail "not built; all that was said is in $log"
-        fi
-        echo "affedit: built in $((SECONDS - began)) s" >&2
+    [ -n "$(command -v rt)" ] || fail "$(why_nothing_is_there); to build one, the command rt of the Rattle kit is needed, which is not installed"
+    echo "affedit: $(why_nothing_is_there): proving and building one; if nothing was proved before this takes about half an hour" >&2
+    make_room
+    build_in "$room" "$log" affedit || status=$?
+    if [ "$status" != 0 ]; then
+        tail -n 20 "$log" >&2
+        fail "not built; all that was said is in $log"
     fi
-    cp "$built" "$program.new"
-    touch -r "$top/out/began" "$program.new"
-    mv "$program.new" "$program"
+    place "$room/affedit" affedit "$room/MADE" "$room/stamp"
+    rm -rf "$room"
+    trap - EXIT
     exec 9>&-
+    taken=$top/out/affedit
+    echo "affedit: built in $((SECONDS - began)) s" >&2
 }
 
+# Why a program has to be built, in words.
+why_nothing_is_there() {
+    if [ ! -e "$top/dist/affedit" ] || [ ! -e "$top/dist/MADE" ]; then
+        echo 'there is no program in dist/'
+    elif [ "$(value_of sources "$top/dist/MADE")" != "$(digest_of_sources)" ]; then
+        echo 'the sources are not those of the program in dist/'
+    else
+        echo 'dist/affedit is not the file that dist/MADE names'
+    fi
+}

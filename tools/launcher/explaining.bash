@@ -32,7 +32,7 @@ help() {
     done < <(rows commands)
     cat << 'HELP'
 affedit --help, affedit -h, affedit --version
-        prints this, or what the program was made of
+        prints this, or the version, the kit that proved the program, and the digest of its sources
 
 AFF and DIC are the files of a dictionary, in UTF-8. FILE is a text; standard input is the file /dev/stdin.
 SCRIPT is a file. Each line is blank, or `K TEXT`: the number of a session, 1 to 16, one space, and a line of the input of `edit`.
@@ -54,14 +54,21 @@ manual_page() {
     if [ -e "$tools/building.bash" ]; then echo docs/affedit.1; else echo affedit\(1\); fi
 }
 
-# What tools/install left says of an installed program, and else what there is.
+# version: the number of the version, the kit that proved and built the program, and the digest of the sources that it was built from. Where
+# no program of these sources is built, there is no line `kit`.
 version() {
-    if [ -e "$top/VERSION" ]; then
-        cat "$top/VERSION"
-        return
+    local made=$top/MADE digest
+    echo "affedit $(cat "$top/VERSION")"
+    if [ ! -e "$made" ]; then
+        # shellcheck source=tools/launcher/sources.bash
+        . "$tools/sources.bash"
+        digest=$(digest_of_sources)
+        for made in "$top/out/affedit.made" "$top/dist/MADE" ''; do
+            [ "$(value_of sources "$made")" != "$digest" ] || break
+        done
+        [ -n "$made" ] || { echo "sources $digest"; return; }
     fi
-    echo "commit      $(git -C "$top" describe --always --dirty 2> /dev/null || echo unknown)"
-    echo "toolchain   $(rt version 2> /dev/null || echo 'no command rt')"
+    grep -E '^(kit|sources) ' "$made"
 }
 
 # plain TEXT: a text for a terminal: bytes that are not printed are question marks, and a long text is cut.
