@@ -233,7 +233,7 @@ Returns a request and its result, where it is complete."
       (let ((file (match-string 1 last)) (line (match-string 2 last)) (why (match-string 3 last)))
         (format "%s:%s: %s%s" (if (equal file "own") affedit--own (concat affedit--pair "." file)) line why
                 (if (equal why "OtherEncoding")
-                    "; tools/prepare-dictionary makes one that is read (docs/DICTIONARIES.md)"
+                    "; affedit-prepare-dictionary (in a checkout tools/prepare-dictionary) makes one that is read"
                   "")))
     last))
 

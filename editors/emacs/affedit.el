@@ -17,11 +17,17 @@
 
 (defgroup affedit nil "Marks of misspelled words, by Affedit." :group 'text)
 
-(defcustom affedit-program
-  (let ((launcher (expand-file-name "../../affedit" (file-name-directory
-                                                      (file-truename (or load-file-name buffer-file-name default-directory))))))
-    (if (file-executable-p launcher) launcher "affedit"))
-  "The launcher: that of the checkout that this file stands in, or what is found by the name `affedit'."
+(defun affedit--default-program ()
+  "The launcher of the checkout or of the installation that this file belongs to; without one, `affedit'."
+  (let ((here (file-name-directory (file-truename (or load-file-name buffer-file-name default-directory)))))
+    ;; HERE is TOP/editors/emacs, or PREFIX/share/emacs/site-lisp.
+    (or (cl-find-if (lambda (launcher) (and (file-regular-p launcher) (file-executable-p launcher)))
+                    (list (expand-file-name "../../affedit" here) (expand-file-name "../../../bin/affedit" here)))
+        "affedit")))
+
+(defcustom affedit-program (affedit--default-program)
+  "The launcher.
+Without another value it is that of the checkout or of the installation that this file belongs to, else `affedit' on the PATH."
   :type 'file)
 
 (defcustom affedit-dictionary "en_US"

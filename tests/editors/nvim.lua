@@ -504,7 +504,7 @@ local function try_ends()
     local real = service.options.program
     service.options.program = work .. '/none'
     affedit.run('restart')
-    expect_told('a program that is not there is told', 'ENOENT')
+    expect_told('a program that is not there is told', 'no program ' .. vim.pesc(work .. '/none') .. ': ENOENT')
     keys('ofoxx wrold')
     vim.cmd('Affedit status')
     expect_told('and the status says so', 'ENOENT')

@@ -28,7 +28,7 @@ function M.check()
             else
                 fault(('the program does not read it: status %d, %s'):format(vim.v.shell_error, vim.trim(output)), {
                     'status 125: run the launcher `affedit` once in a shell, which builds the program',
-                    'tools/prepare-dictionary makes a dictionary that is read; docs/DICTIONARIES.md has the causes',
+                    'affedit-prepare-dictionary (in a checkout tools/prepare-dictionary) makes a dictionary that is read; DICTIONARIES.md has the causes',
                 })
             end
         end

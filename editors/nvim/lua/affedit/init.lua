@@ -4,11 +4,18 @@ local marks = require('affedit.marks')
 local service = require('affedit.service')
 local M = {}
 
--- The launcher of the checkout that this file stands in, or what is found by the name `affedit`.
+-- The launcher of the checkout or of the installation that this file belongs to; without one, what is found by the name `affedit`.
 local function default_program()
-    local here = vim.fn.resolve(debug.getinfo(1, 'S').source:sub(2))
-    local launcher = vim.fn.fnamemodify(here, ':h:h:h:h:h:h') .. '/affedit'
-    return vim.fn.executable(launcher) == 1 and launcher or 'affedit'
+    local here = vim.fn.resolve(vim.fn.fnamemodify(debug.getinfo(1, 'S').source:sub(2), ':p'))
+    local folder = vim.fn.fnamemodify(here, ':h:h:h')
+    -- TOP/editors/nvim, or PREFIX/share/nvim/site.
+    local checkout, prefix = vim.fn.fnamemodify(folder, ':h:h'), vim.fn.fnamemodify(folder, ':h:h:h')
+    for _, launcher in ipairs({ checkout .. '/affedit', prefix .. '/bin/affedit' }) do
+        if vim.fn.executable(launcher) == 1 then
+            return launcher
+        end
+    end
+    return 'affedit'
 end
 
 local is_set = false

@@ -75,7 +75,7 @@ function M.start(words, ended)
         self.input:close()
         self.output:close()
         self.watch:close()
-        return nil, tostring(pid)
+        return nil, ('no program %s: %s'):format(words[1], pid)
     end
     self.handle, self.pid = handle, pid
     self.output:read_start(function(_, data)

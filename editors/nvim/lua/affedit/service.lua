@@ -34,7 +34,7 @@ local function causes(last)
     local files = { aff = pair.aff, dic = pair.dic, own = M.options.own }
     local file, line, why = (last or ''):match('^(%l+) (%d+) (%a+)$')
     if files[file] then
-        local hint = why == 'OtherEncoding' and '; tools/prepare-dictionary makes one that is read (docs/DICTIONARIES.md)' or ''
+        local hint = why == 'OtherEncoding' and '; affedit-prepare-dictionary (in a checkout tools/prepare-dictionary) makes one that is read' or ''
         return ('%s:%s: %s%s'):format(files[file], line, why, hint)
     end
     return last
