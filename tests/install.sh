@@ -1,145 +1,165 @@
 #!/usr/bin/env bash
-# What tools/install puts into a folder of its own, and what tools/package packs: that it is all there, runs without the sources, and explains itself.
-# The package is listed and, by root, installed below a folder of its own. Prints what differs; the status is 0 where nothing does.
+# What tools/install puts below a prefix, what tools/uninstall leaves there, and what tools/package packs: that it is all there, runs without the sources,
+# explains itself, and has one version; that a program in C and the plugins of the editors work by it; and what is refused.
+# It is installed from a copy of this checkout in a folder with spaces, which has the builds in dist/ and nothing else, as after a clone. The only
+# commands there are those of /usr/bin and /bin, so the kit is none of them. What this machine has not is named in lines `skipped: ..`.
+# Prints what differs; the status is 0 if nothing does.
 set -euo pipefail
+shopt -s nullglob
 top=$(cd "$(dirname "$0")/.." && pwd)
+# Where another user may look in.
 work=$(mktemp -d -p /tmp)
-trap 'rm -rf "$work"' EXIT
-unset AFFEDIT_QUIET
+trap 'chmod -R u+w "$work"; rm -rf "$work"' EXIT
+chmod 755 "$work"
+unset AFFEDIT_NO_BUILD AFFEDIT_QUIET DESTDIR SOURCE_DATE_EPOCH DICPATH VIMINIT XDG_CACHE_HOME XDG_CONFIG_HOME XDG_DATA_HOME XDG_STATE_HOME
+export HOME=$work/home LC_ALL=C.UTF-8
+mkdir "$HOME"
 failed=0
+copy=$work/a\ copy
+version=$(cat "$top/VERSION")
+bare=(env -i PATH=/usr/bin:/bin)
+# shellcheck source=tests/install/checks.bash
+. "$top/tests/install/checks.bash"
+# shellcheck source=tests/install/package.bash
+. "$top/tests/install/package.bash"
 
-cat > "$work/files" << 'FILES'
-bin/affedit
-bin/affedit-in-color
-bin/affedit-ispell-face
-bin/affedit-lint-dictionary
-bin/affedit-prepare-dictionary
-bin/affedit-without-addresses
-include/affedit.h
-lib/affedit/VERSION
-lib/affedit/affedit
-lib/affedit/docs/CONSOLE.md
-lib/affedit/docs/DICTIONARIES.md
-lib/affedit/docs/PIPE.md
-lib/affedit/examples/in-color
-lib/affedit/examples/ispell-face
-lib/affedit/examples/sample.aff
-lib/affedit/examples/sample.dic
-lib/affedit/examples/sample.txt
-lib/affedit/examples/without-addresses
-lib/affedit/out/affedit
-lib/affedit/tools/dictionary_grammar.py
-lib/affedit/tools/dictionary_mending.py
-lib/affedit/tools/launcher/causes
-lib/affedit/tools/launcher/commands
-lib/affedit/tools/launcher/explaining.bash
-lib/affedit/tools/launcher/statuses
-lib/affedit/tools/lint-dictionary
-lib/affedit/tools/prepare-dictionary
-lib/libaffedit.a
-lib/pkgconfig/affedit.pc
-share/man/man1/affedit.1
-FILES
-
-# same WHAT FILE: the file has what stands on standard input.
-same() { diff - "$2" || { echo "$1 differs"; failed=1; }; }
-
-# expect WHAT STATUS COMMAND..: the command ends so, and prints what stands on standard input, on standard error too.
-expect() {
-    local what=$1 wanted=$2 status=0
-    shift 2
-    cat > "$work/wanted"
-    "$@" > "$work/out" 2>&1 || status=$?
-    if [ "$status" != "$wanted" ] || ! diff "$work/wanted" "$work/out"; then
-        echo "$what: status $status, wanted $wanted"
-        failed=1
-    fi
+# The copy, with the builds of these sources, which are made first if there are none.
+copy_checkout() {
+    local status=0 program
+    "$top/affedit" make 1 1 > /dev/null || status=$?
+    [ "$status" -le 1 ] || { echo "there is no program to install: status $status"; exit 1; }
+    # shellcheck source=tools/launcher/sources.bash
+    . "$top/tools/launcher/sources.bash"
+    take affedit
+    program=$taken
+    mkdir -p "$copy/dist"
+    cp "$program" "$copy/dist/affedit"
+    cp "$("$top/tools/library")" "$copy/dist/libaffedit.a"
+    (cd "$top" && cp -r --parents affedit VERSION CHANGELOG.md crates.txt crates/*/{src,specs,proofs} bindings docs editors examples include tools "$copy")
+    { echo 'kit of a test'; echo "sources $(digest_of_sources)"; } > "$copy/dist/MADE"
+    (cd "$copy/dist" && sha256sum affedit libaffedit.a | sed 's/\(.*\)  \(.*\)/\2 \1/' >> MADE)
 }
 
-# runs WHAT PREFIX: what is installed there runs from another folder, and no command but those of the system and its own is found.
-runs() {
-    local what=$1 sample=$2/lib/affedit/examples/sample PATH=$2/bin:/usr/bin:/bin
-    (cd "$2" && find . ! -type d | sed 's|^\./||' | LC_ALL=C sort) | same "$what: the files" <(sed "$3" "$work/files")
-    ! grep -rqIF "$top" "$2" || { echo "$what: it names the folder of the sources"; failed=1; }
-    cd "$work"
-    expect "$what: the sample" 1 affedit check "$sample.aff" "$sample.dic" "$sample.txt" << 'MARKS'
-2 30 35 citys
-1 of 15
-MARKS
-    expect "$what: a wrong word" 2 affedit chek "$sample.aff" "$sample.dic" "$sample.txt" << 'SAID'
-affedit: words
-affedit: `chek` is no command; the nearest is `check`
-affedit: the form is: affedit check AFF DIC FILE [--workers N] [--own OWN]
-affedit: `affedit --help` says what they do
-SAID
-    printf 'SET UTF-8\nREP 2\nREP a b\n' > bad.aff
-    expect "$what: a fault" 3 affedit edit bad.aff "$sample.dic" << 'SAID'
-aff 2 TableShort
-bad.aff:2: the table announces more rows than it has (TableShort)
-affedit: affedit-lint-dictionary shows the line; affedit-prepare-dictionary mends such files
-SAID
-    affedit --help > help
-    "$top/affedit" --help | sed 's|docs/affedit\.1|affedit(1)|' | same "$what: the help" help
-    affedit --version > version
-    same "$what: the version" version < "$2/lib/affedit/VERSION"
-    { affedit check "$sample.aff" "$sample.dic" "$sample.txt" || true; } | affedit-without-addresses "$sample.txt" > without || true
-    same "$what: a script" without <<< $'2 30 35 citys\n1 of 15'
-    { affedit check "$sample.aff" "$sample.dic" "$sample.txt" || true; } | affedit-in-color "$sample.txt" > colored || true
-    grep -qF $'\e[4;31mcitys\e[0m' colored || { echo "$what: no word in color"; failed=1; }
-    if [ -n "$(command -v python3)" ]; then
-        expect "$what: preparing a dictionary" 0 affedit-prepare-dictionary bad.aff "$sample.dic" made << 'SAID'
-bad.aff:2: REP announces 2 rows and has 1: the count mended
-made.aff, made.dic: written
-SAID
-        affedit-lint-dictionary bad.aff "$sample.dic" > lint || true
-        [ "$(head -n 1 lint)" = 'bad.aff:2: TableShort' ] || { echo "$what: the linter says $(head -n 1 lint)"; failed=1; }
-    fi
-    rm -f made.aff made.dic
-    if [ -n "$(command -v cc)" ] && [ -n "$(command -v pkg-config)" ]; then
-        # shellcheck disable=SC2046
-        cc example.c $(PKG_CONFIG_PATH=$2/lib/pkgconfig pkg-config --cflags --libs affedit) -o example
-        expect "$what: a program in C" 0 ./example "$sample.aff" "$sample.dic" city citys << 'SAID'
-city: generated
-citys: not generated
-SAID
-    fi
+install_it() { "${bare[@]}" "$copy/tools/install" "$@"; }
+uninstall_it() { "${bare[@]}" "$copy/tools/uninstall" "$@"; }
+
+# whole WHAT PREFIX: the files are those that are wanted, and the list of what is to be removed names them.
+whole() {
+    files_below "$2" > "$work/found"
+    { cat "$top/tests/install/files"; echo lib/affedit/FILES; } | LC_ALL=C sort | same "$1: the files" "$work/found"
+    grep -v '/$' "$2/lib/affedit/FILES" | same "$1: the list" "$work/found"
 }
 
+# refuses WHAT TEXT COMMAND..: the command ends with 1, says that nothing is installed, and why.
+refuses() {
+    local status=0
+    "${@:3}" > "$work/out" 2>&1 || status=$?
+    { [ "$status" = 1 ] && grep -qF 'nothing is installed' "$work/out" && grep -qF -- "$2" "$work/out"; } ||
+        wrong "$1: status $status, said: $(cat "$work/out")"
+}
+
+copy_checkout
 # What docs/LIBRARY.md shows of a program in C.
 awk '/^    #include <affedit.h>/ { inside = 1 } inside && /^[^ ]/ { exit } inside { print substr($0, 5) }' "$top/docs/LIBRARY.md" > "$work/example.c"
+[ "$(grep -m 1 '^## [0-9]' "$top/CHANGELOG.md")" = "## $version" ] || wrong 'the changelog begins with another version'
+grep -m 1 '^## ' "$top/CHANGELOG.md" | grep -qxF -e "## $version" -e '## Unreleased' || wrong 'the changelog has another first section'
 
-"$top/tools/install" "$work/prefix" > "$work/said"
-runs 'what is installed' "$work/prefix" ''
-mv "$work/prefix" "$work/moved"
-runs 'what is installed, in another place' "$work/moved" ''
+# A prefix that is not there yet, in another place afterwards, and removed.
+prefix=$work/a\ prefix
+expect 'tools/install' 0 install_it "$prefix" <<< "installed: $prefix/bin/affedit"
+whole 'what is installed' "$prefix"
+runs 'what is installed' "$prefix"
+mv "$prefix" "$work/moved"
+runs 'what is installed, in another place' "$work/moved"
+expect 'tools/uninstall' 0 uninstall_it "$work/moved" <<< "removed: $work/moved/bin/affedit"
+[ ! -e "$work/moved" ] || wrong "tools/uninstall leaves: $(find "$work/moved" | head -n 3)"
 
-# Nothing is installed where there is no program.
-mkdir -p "$work/sources/tools"
-cp "$top/affedit" "$work/sources"
-cp -r "$top/tools/launcher" "$top/tools/install" "$work/sources/tools"
-status=0
-AFFEDIT_NO_BUILD=1 "$work/sources/tools/install" "$work/none" > "$work/out" 2>&1 || status=$?
-[ "$status" = 1 ] && [ ! -e "$work/none" ] || { echo "without a program: status $status"; failed=1; }
+# A prefix with files of others. An older installation is replaced.
+mkdir -p "$prefix/bin" "$prefix/share"
+chmod 700 "$prefix/bin"
+touch "$prefix/share/letter"
+install_it "$prefix" > /dev/null
+mkdir "$prefix/lib/affedit/old" "$prefix/lib/affedit/older"
+touch "$prefix/lib/affedit/old/file" "$prefix/lib/affedit/older"/{file,notes} "$prefix/bin/affedit-not-ours"
+printf 'lib/affedit/%s\n' old/ old/file older/ older/file >> "$prefix/lib/affedit/FILES"
+ln -sf /nowhere "$prefix/bin/affedit"
+expect 'an installation over an older one' 0 install_it "$prefix" << SAID
+kept, since it is not empty: $prefix/lib/affedit/older
+installed: $prefix/bin/affedit
+SAID
+for name in old older/file; do
+    [ ! -e "$prefix/lib/affedit/$name" ] || wrong "$name of an older installation is left"
+done
+runs 'an installation over an older one' "$prefix"
+[ "$(stat -c %a "$prefix/bin")" = 700 ] || wrong 'tools/install changes the mode of a folder that was there'
+rm "$prefix/lib/affedit/older/notes"
+echo a > "$prefix/lib/affedit/notes"
+uninstall_it "$prefix" > "$work/said"
+files_below "$prefix" | same 'tools/uninstall, with files of others' <(printf '%s\n' bin/affedit-not-ours lib/affedit/notes share/letter)
+(cd "$prefix" && find . -type d | LC_ALL=C sort) | same 'tools/uninstall, with folders of others' <(printf '%s\n' . ./bin ./lib ./lib/affedit ./share)
 
-if [ -z "$(command -v dpkg-deb)" ]; then
-    echo 'no package was made, since there is no dpkg-deb' >&2
-    exit "$failed"
-fi
-package=$("$top/tools/package" "$work")
-dpkg-deb --contents "$package" | awk '$1 !~ /^d/ { if ($2 != "root/root") print "owner", $2; print $6 }' | sed 's|^\./usr/||' | LC_ALL=C sort > "$work/listed"
-sed 's|affedit\.1$|affedit.1.gz|' "$work/files" | same 'the listing of the package' "$work/listed"
-dpkg-deb --info "$package" > "$work/info"
-grep -q '^ Package: affedit$' "$work/info" || { echo 'the package has no name'; failed=1; }
+# Lists that are none, or name what is not below the prefix.
+expect 'tools/uninstall, again' 1 uninstall_it "$prefix" << SAID
+tools/uninstall: there is no $prefix/lib/affedit/FILES, which tools/install writes; nothing is removed
+SAID
+for line in ../affedit /etc/affedit share/../../affedit '' . / share//letter ./share/letter; do
+    printf 'share/letter\n%s\n' "$line" > "$prefix/lib/affedit/FILES"
+    expect "a list with $line" 1 uninstall_it "$prefix" << SAID
+tools/uninstall: a line of $prefix/lib/affedit/FILES is no path below $prefix: $line
+SAID
+    refuses "an installation over a list with $line" 'is no path below' install_it "$prefix"
+done
+[ -e "$prefix/share/letter" ] || wrong 'a file was removed by a list that is refused'
+
+# Below DESTDIR, from another folder.
+cd "$work"
+expect 'with DESTDIR' 0 "${bare[@]}" 'DESTDIR=a tree' "$copy/tools/install" /usr <<< "installed: $work/a tree/usr/bin/affedit"
+whole 'with DESTDIR' "$work/a tree/usr"
+"${bare[@]}" 'DESTDIR=a tree' "$copy/tools/uninstall" /usr > "$work/said"
+[ -z "$(ls -A 'a tree')" ] || wrong 'tools/uninstall leaves something below DESTDIR'
+
+# Places that cannot be written, and by a user who cannot write into the checkout.
+touch "$work/file"
+refuses 'a prefix below a file' "$work/file is no folder" install_it "$work/file/prefix"
+mkdir -p "$work/taken/bin/affedit"
+refuses 'a folder in the place of a file' "$work/taken/bin/affedit is a folder" install_it "$work/taken"
+[ -z "$(files_below "$work/taken")" ] || wrong 'something was installed beside a folder in the place of a file'
+somebody=()
 if [ "$(id -u)" = 0 ]; then
-    mkdir -p "$work/root" "$work/database/updates" "$work/database/info"
-    : > "$work/database/status"
-    : > "$work/database/available"
-    # dpkg looks for commands of root.
-    PATH=$PATH:/usr/local/sbin:/usr/sbin:/sbin
-    options=(--instdir="$work/root" --admindir="$work/database" --force-depends --log="$work/log")
-    dpkg "${options[@]}" --install "$package" > "$work/said" 2>&1 || { cat "$work/said"; failed=1; }
-    runs 'the package' "$work/root/usr" 's|affedit\.1$|affedit.1.gz|'
-    dpkg "${options[@]}" --remove affedit > "$work/said" 2>&1 || { cat "$work/said"; failed=1; }
-    [ -z "$(find "$work/root" ! -type d)" ] || { echo 'the package leaves files behind'; failed=1; }
+    somebody=(setpriv --reuid 65534 --regid 65534 --clear-groups)
+fi
+mkdir "$work/closed" "$work/open"
+chmod 555 "$work/closed"
+chmod 777 "$work/open"
+refuses 'a prefix that cannot be written' "$work/closed cannot be written" "${bare[@]}" "${somebody[@]}" "$copy/tools/install" "$work/closed/prefix"
+rm -rf "$copy/out"
+chmod 555 "$copy"
+"${bare[@]}" "${somebody[@]}" "$copy/tools/install" "$work/open/prefix" > "$work/said"
+whole 'from a checkout that cannot be written' "$work/open/prefix"
+chmod 755 "$copy"
+
+# The plugins in the checkout, as their README.md has it, and the provider for Enchant.
+printf "vim.opt.runtimepath:append('%s/editors/nvim')\nrequire('affedit').setup({})\n" "$copy" > init.lua
+try_nvim 'the checkout' "$copy/affedit" "$copy/examples/sample"
+try_emacs 'the checkout' "$copy/affedit" "$copy/examples/sample" "EMACSLOADPATH=$copy/editors/emacs:"
+if has 'the provider for Enchant' 'gcc and pkg-config' cc pkg-config; then
+    if ! pkg-config --exists enchant-2; then
+        echo 'skipped: the provider for Enchant: needs the package libenchant-2-dev'
+    else
+        expect 'the provider for Enchant' 0 "${bare[@]}" "$copy/bindings/enchant/build" <<< "$copy/out/enchant_affedit.so"
+    fi
+fi
+
+try_package
+
+# Without a build of these sources, and without the kit, nothing is installed.
+if [ -z "$("${bare[@]}" bash -c 'command -v rt')" ]; then
+    rm -rf "$copy/out"
+    echo '# changed' >> "$copy/crates.txt"
+    refuses 'a source that is changed' 'the sources are not those of the program in dist/' install_it "$work/none"
+    refuses 'a source that is changed' 'the command rt of the Rattle kit is needed' "${bare[@]}" "$copy/tools/package" "$work"
+    rm -r "$copy/dist"
+    refuses 'no build' 'there is no program in dist/' install_it "$work/none"
+    [ ! -e "$work/none" ] || wrong 'without a build something is installed'
 fi
 exit "$failed"

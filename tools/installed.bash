@@ -35,8 +35,9 @@ remove_folders() {
     LC_ALL=C sort -r | while IFS= read -r name; do
         folder=$1/${name%/}
         [ "$name" != ./ ] || folder=$1
-        [ -d "$folder" ] && [ ! -L "$folder" ] || continue
-        rmdir --ignore-fail-on-non-empty -- "$folder"
-        [ ! -d "$folder" ] || echo "kept, since it is not empty: $folder"
+        if [ -d "$folder" ] && [ ! -L "$folder" ]; then
+            rmdir --ignore-fail-on-non-empty -- "$folder"
+            [ ! -d "$folder" ] || echo "kept, since it is not empty: $folder"
+        fi
     done
 }

@@ -1,0 +1,124 @@
+# What tests/install.sh and tests/install/package.bash share: whether what is installed below a prefix is whole, runs, and is found.
+# Needs `top`, `work`, `copy` (the checkout that it was installed from), `version` and `failed`.
+# shellcheck shell=bash disable=SC2034,SC2154
+
+# has WHAT PACKAGE COMMAND..: whether the commands are there; else it says once what is skipped.
+skipped=''
+has() {
+    local what=$1 package=$2 name
+    shift 2
+    for name in "$@"; do
+        if [ -z "$(command -v "$name")" ]; then
+            [[ $skipped == *"|$what|"* ]] || echo "skipped: $what: needs the package $package"
+            skipped+="|$what|"
+            return 1
+        fi
+    done
+}
+
+wrong() {
+    echo "$1"
+    failed=1
+}
+
+# same WHAT FILE: the file has what stands on standard input.
+same() { diff - "$2" || wrong "$1 differs"; }
+
+# expect WHAT STATUS COMMAND..: the command ends so, and prints what stands on standard input, on standard error too.
+expect() {
+    local what=$1 wanted=$2 status=0
+    shift 2
+    cat > "$work/wanted"
+    "$@" > "$work/out" 2>&1 < /dev/null || status=$?
+    { [ "$status" = "$wanted" ] && diff "$work/wanted" "$work/out"; } || wrong "$what: status $status, wanted $wanted"
+}
+
+# files_below FOLDER: what is there, but for folders.
+files_below() { (cd "$1" && find . ! -type d -printf '%P\n') | LC_ALL=C sort; }
+
+# runs WHAT PREFIX: what is installed there runs from another folder, and no command but those of the system and its own is found.
+runs() {
+    local what=$1 sample=$2/lib/affedit/examples/sample PATH=$2/bin:/usr/bin:/bin
+    ! grep -rqIF -e "$top" -e "$copy" "$2" || wrong "$what: it names the folder of the sources"
+    cd "$work" || return
+    expect "$what: the sample" 1 affedit check "$sample.aff" "$sample.dic" "$sample.txt" << 'MARKS'
+2 30 35 citys
+1 of 15
+MARKS
+    expect "$what: a wrong word" 2 affedit chek "$sample.aff" "$sample.dic" "$sample.txt" << 'SAID'
+affedit: words
+affedit: `chek` is no command; the nearest is `check`
+affedit: the form is: affedit check AFF DIC FILE [--workers N] [--own OWN]
+affedit: `affedit --help` says what they do
+SAID
+    printf 'SET UTF-8\nREP 2\nREP a b\n' > bad.aff
+    expect "$what: a fault" 3 affedit edit bad.aff "$sample.dic" << 'SAID'
+aff 2 TableShort
+bad.aff:2: the table announces more rows than it has (TableShort)
+affedit: affedit-lint-dictionary shows the line; affedit-prepare-dictionary mends such files
+SAID
+    affedit --help > help
+    "$copy/affedit" --help | sed 's|docs/affedit\.1|affedit(1)|' | same "$what: the help" help
+    expect "$what: the version" 0 affedit --version < <(echo "affedit $version"; grep -E '^(kit|sources) ' "$copy/dist/MADE")
+    scripts "$1" "$sample"
+    if has 'a C program by pkg-config' 'gcc and pkg-config' cc pkg-config; then
+        export PKG_CONFIG_PATH=$2/lib/pkgconfig
+        eval "cc example.c $(pkg-config --cflags --libs affedit) -o example"
+        expect "$what: a program in C" 0 ./example "$sample.aff" "$sample.dic" city citys <<< $'city: generated\ncitys: not generated'
+        expect "$what: the version of the library" 0 pkg-config --modversion affedit <<< "$version"
+        unset PKG_CONFIG_PATH
+    fi
+    if has 'the manual page that is installed' mandoc mandoc; then
+        mandoc -T ascii "$2"/share/man/man1/affedit.1* > page || true
+        grep -q 'mark the words of a text' page || wrong "$what: no manual page"
+    fi
+    editors "$1" "$2" "$sample"
+}
+
+# scripts WHAT SAMPLE: the scripts affedit-NAME, which PATH finds.
+scripts() {
+    local sample=$2
+    affedit check "$sample.aff" "$sample.dic" "$sample.txt" > marks || true
+    if has 'affedit-in-color and affedit-without-addresses' perl perl; then
+        affedit-without-addresses "$sample.txt" < marks > without || true
+        same "$1: a script" without <<< $'2 30 35 citys\n1 of 15'
+        affedit-in-color "$sample.txt" < marks > colored || true
+        grep -qF $'\e[4;31mcitys\e[0m' colored || wrong "$1: no word in color"
+    fi
+    if has 'affedit-prepare-dictionary and affedit-lint-dictionary' python3 python3; then
+        expect "$1: preparing a dictionary" 0 affedit-prepare-dictionary bad.aff "$sample.dic" made << 'SAID'
+bad.aff:2: REP announces 2 rows and has 1: the count mended
+made.aff, made.dic: written
+SAID
+        affedit-lint-dictionary bad.aff "$sample.dic" > lint || true
+        [ "$(head -n 1 lint)" = 'bad.aff:2: TableShort' ] || wrong "$1: the linter says $(head -n 1 lint)"
+    fi
+    rm -f made.aff made.dic
+}
+
+# editors WHAT PREFIX SAMPLE: the plugins that are installed are found, and find their launcher, if the editor looks below the prefix.
+editors() {
+    echo "require('affedit').setup({})" > init.lua
+    try_nvim "$1" "$2/bin/affedit" "$3" "XDG_DATA_DIRS=$2/share"
+    try_emacs "$1" "$2/bin/affedit" "$3" "EMACSLOADPATH=$2/share/emacs/site-lisp:"
+}
+
+# try_nvim WHAT LAUNCHER SAMPLE SETTING..: Neovim, with the init.lua that is here.
+try_nvim() {
+    has 'the plugin for Neovim' neovim nvim || return 0
+    expect "$1: Neovim" 0 env "SAMPLE=$3" "TRY=$top/tests/install/nvim.lua" "${@:4}" timeout 120 nvim --headless -i NONE -u init.lua -c "lua dofile(vim.env.TRY)" << SAID
+$2
+1 marks in 2 lines
+affedit: no program /nowhere/affedit: ENOENT: no such file or directory
+SAID
+}
+
+# try_emacs WHAT LAUNCHER SAMPLE SETTING..
+try_emacs() {
+    has 'the plugin for Emacs' emacs-nox emacs || return 0
+    expect "$1: Emacs" 0 env "SAMPLE=$3" "${@:4}" timeout 120 emacs -Q --batch -l "$top/tests/install/emacs.el" << SAID
+$2
+1 marks in 3 lines
+No program /nowhere/affedit
+SAID
+}
