@@ -2,7 +2,7 @@
 # What tools/install puts below a prefix, what tools/uninstall leaves there, and what tools/package packs: that it is all there, runs without the sources,
 # explains itself, and has one version; that a program in C and the plugins of the editors work by it; and what is refused.
 # It is installed from a copy of this checkout in a folder with spaces, which has the builds in dist/ and nothing else, as after a clone. The only
-# commands there are those of /usr/bin and /bin, so the kit is none of them. What this machine has not is named in lines `skipped: ..`.
+# commands there are those of /usr/bin and /bin, so the kit is none of them. What is missing on this machine is named in lines `skipped: ..`.
 # Prints what differs; the status is 0 if nothing does.
 set -euo pipefail
 shopt -s nullglob
@@ -157,7 +157,9 @@ if [ -z "$("${bare[@]}" bash -c 'command -v rt')" ]; then
     rm -rf "$copy/out"
     echo '# changed' >> "$copy/crates.txt"
     refuses 'a source that is changed' 'the sources are not those of the program in dist/' install_it "$work/none"
-    refuses 'a source that is changed' 'the command rt of the Rattle kit is needed' "${bare[@]}" "$copy/tools/package" "$work"
+    if has 'the package' dpkg dpkg dpkg-deb; then
+        refuses 'a package of a source that is changed' 'the command rt of the Rattle kit is needed' "${bare[@]}" "$copy/tools/package" "$work"
+    fi
     rm -r "$copy/dist"
     refuses 'no build' 'there is no program in dist/' install_it "$work/none"
     [ ! -e "$work/none" ] || wrong 'without a build something is installed'

@@ -25,7 +25,7 @@ try_package() {
     (cd "$root" && dpkg-deb --control "$package" "$work/control" && md5sum --quiet -c "$work/control/md5sums") || wrong 'the package: its sums'
     zcat "$root/usr/share/doc/affedit/changelog.gz" | same 'the changelog of the package' "$copy/CHANGELOG.md"
     runs 'the package' "$root/usr"
-    expect 'tools/uninstall, where dpkg installed' 1 "${bare[@]}" "$copy/tools/uninstall" "$root/usr" << SAID
+    expect 'tools/uninstall, of what dpkg installed' 1 "${bare[@]}" "$copy/tools/uninstall" "$root/usr" << SAID
 tools/uninstall: there is no $root/usr/lib/affedit/FILES, which tools/install writes; nothing is removed
 SAID
     dpkg "${options[@]}" --purge affedit > "$work/said" 2>&1 || { cat "$work/said"; wrong 'the package cannot be purged'; }
