@@ -142,9 +142,9 @@ chmod 755 "$copy"
 printf "vim.opt.runtimepath:append('%s/editors/nvim')\nrequire('affedit').setup({})\n" "$copy" > init.lua
 try_nvim 'the checkout' "$copy/affedit" "$copy/examples/sample"
 try_emacs 'the checkout' "$copy/affedit" "$copy/examples/sample" "EMACSLOADPATH=$copy/editors/emacs:"
-if has 'the provider for Enchant' 'gcc and pkg-config' cc pkg-config; then
+if has_compiler 'the provider for Enchant'; then
     if ! pkg-config --exists enchant-2; then
-        echo 'skipped: the provider for Enchant: needs the package libenchant-2-dev'
+        skip 'the provider for Enchant' libenchant-2-dev
     else
         expect 'the provider for Enchant' 0 "${bare[@]}" "$copy/bindings/enchant/build" <<< "$copy/out/enchant_affedit.so"
     fi
@@ -157,7 +157,7 @@ if [ -z "$("${bare[@]}" bash -c 'command -v rt')" ]; then
     rm -rf "$copy/out"
     echo '# changed' >> "$copy/crates.txt"
     refuses 'a source that is changed' 'the sources are not those of the program in dist/' install_it "$work/none"
-    if has 'the package' dpkg dpkg dpkg-deb; then
+    if has 'the package' dpkg dpkg-deb; then
         refuses 'a package of a source that is changed' 'the command rt of the Rattle kit is needed' "${bare[@]}" "$copy/tools/package" "$work"
     fi
     rm -r "$copy/dist"

@@ -2,19 +2,22 @@
 # Needs `top`, `work`, `copy` (the checkout that it was installed from), `version` and `failed`.
 # shellcheck shell=bash disable=SC2034,SC2154
 
-# has WHAT PACKAGE COMMAND..: whether the commands are there; else it says once what is skipped.
+# has WHAT PACKAGE COMMAND: whether the command is there; else it says once what is skipped.
 skipped=''
 has() {
-    local what=$1 package=$2 name
-    shift 2
-    for name in "$@"; do
-        if [ -z "$(command -v "$name")" ]; then
-            [[ $skipped == *"|$what|"* ]] || echo "skipped: $what: needs the package $package"
-            skipped+="|$what|"
-            return 1
-        fi
-    done
+    [ -z "$(command -v "$3")" ] || return 0
+    skip "$1" "$2"
+    return 1
 }
+
+# skip WHAT PACKAGE
+skip() {
+    [[ $skipped == *"|$1|"* ]] || echo "skipped: $1: needs the package $2"
+    skipped+="|$1|"
+}
+
+# has_compiler WHAT
+has_compiler() { has "$1" gcc cc && has "$1" pkg-config pkg-config; }
 
 wrong() {
     echo "$1"
@@ -61,7 +64,7 @@ SAID
     "$copy/affedit" --help | sed 's|docs/affedit\.1|affedit(1)|' | same "$what: the help" help
     expect "$what: the version" 0 affedit --version < <(echo "affedit $version"; grep -E '^(kit|sources) ' "$copy/dist/MADE")
     scripts "$1" "$sample"
-    if has 'a C program by pkg-config' 'gcc and pkg-config' cc pkg-config; then
+    if has_compiler 'a C program by pkg-config'; then
         export PKG_CONFIG_PATH=$2/lib/pkgconfig
         eval "cc example.c $(pkg-config --cflags --libs affedit) -o example"
         expect "$what: a program in C" 0 ./example "$sample.aff" "$sample.dic" city citys <<< $'city: generated\ncitys: not generated'

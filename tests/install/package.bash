@@ -3,7 +3,7 @@
 
 try_package() {
     local package again root=$work/root options
-    has 'the package' dpkg dpkg dpkg-deb || return 0
+    has 'the package' dpkg dpkg-deb || return 0
     mkdir "$work/package" "$work/again" "$root" "$work/database" "$work/database"/{updates,info}
     package=$("${bare[@]}" SOURCE_DATE_EPOCH=1000000000 "$copy/tools/package" "$work/package")
     [ "$package" = "$work/package/affedit_${version}_$(dpkg --print-architecture).deb" ] || wrong "the name of the package: $package"
