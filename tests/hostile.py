@@ -19,8 +19,11 @@ import sys
 import tempfile
 import time
 
+sys.dont_write_bytecode = True
+
+import program  # noqa: E402
+
 TOP = os.path.dirname(os.path.dirname(os.path.abspath(__file__)))
-PROGRAMS = [os.path.join(TOP, 'crates/affedit/out/affedit'), os.path.join(TOP, 'out/affedit')]
 # No file that is made is larger, but for those that are to pass a limit.
 MOST = 200_000
 # The last line of each status that a command may end with, but for 6 and 7, which nothing here brings about.
@@ -218,10 +221,7 @@ def main():
     parser.add_argument('--first', type=int, default=0, help='the number of the first run')
     parser.add_argument('--limit', type=int, default=60, help='seconds')
     asked = parser.parse_args()
-    program = next((path for path in PROGRAMS if os.access(path, os.X_OK)), None)
-    if program is None:
-        sys.exit('tests/hostile.py: the program is not built; any run of ./affedit builds it')
-    runs = Runs(program, asked.seed, asked.limit)
+    runs = Runs(program.found() or sys.exit(1), asked.seed, asked.limit)
     for number in range(asked.first, asked.first + asked.runs):
         runs.run(number)
     print(f'seed {asked.seed}, {asked.runs} runs, the longest {runs.longest:.2f} s, {runs.wrong} wrong')

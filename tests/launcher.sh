@@ -142,9 +142,7 @@ expect 'a folder that is read only' 125 'cannot be written' "${as_other[@]}" env
 
 # ---- what ended a run, said to people: by the program itself, which the gate has built, in a folder without the part that builds
 
-real=$top/crates/affedit/out/affedit
-[ -x "$real" ] || real=$top/out/affedit
-[ -x "$real" ] || { echo "the program is not built: no row of what ended a run was run"; exit 1; }
+real=$("$top/tests/program") || { echo 'no row of what ended a run was run'; exit 1; }
 mkdir -p "$work/real/out" "$work/real/tools/launcher" "$work/in/folder"
 cp "$top/affedit" "$work/real/affedit"
 cp "$top"/tools/launcher/{explaining.bash,causes,commands,statuses} "$work/real/tools/launcher"

@@ -5,9 +5,7 @@
 # a minute. Rows of the launcher are in tests/launcher.sh. Prints what went wrong; the status is 0 where nothing did.
 set -euo pipefail
 top=$(cd "$(dirname "$0")/.." && pwd)
-program=$top/crates/affedit/out/affedit
-[ -x "$program" ] || program=$top/out/affedit
-[ -x "$program" ] || { echo "the program is not built; any run of ./affedit builds it"; exit 1; }
+program=$("$top/tests/program")
 # Where another user may look in.
 work=$(mktemp -d -p /tmp)
 trap 'rm -rf "$work"' EXIT

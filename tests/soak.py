@@ -14,7 +14,6 @@ import collections
 import os
 import random
 import shutil
-import subprocess
 import sys
 import tempfile
 import time
@@ -23,11 +22,11 @@ sys.dont_write_bytecode = True
 
 import console_files  # noqa: E402
 import console_wrong  # noqa: E402
+import program  # noqa: E402
 from console_lines import Writer, opening  # noqa: E402
 from console_model import MARK, Model, Wrong, compare, lines_of  # noqa: E402
 from console_talk import Marks, Output, Talk  # noqa: E402
 
-TOP = os.path.dirname(os.path.dirname(os.path.abspath(__file__)))
 # One of so many dialogues begins with as many paragraphs as there may be.
 CROWDED = 150
 CROWD = 20_000
@@ -214,7 +213,7 @@ def spoil(options):
 def options_of(words):
     parser = argparse.ArgumentParser(description=__doc__, formatter_class=argparse.RawDescriptionHelpFormatter)
     parser.add_argument('seconds', nargs='?', type=float, default=float(os.environ.get('SOAK_SECONDS', '5')), help='how long it goes on')
-    parser.add_argument('--program', default=os.environ.get('SOAK_PROGRAM'), help='the program; without it the one that ./affedit runs')
+    parser.add_argument('--program', default=os.environ.get('SOAK_PROGRAM'), help='the program; without it the one that tests/program finds')
     parser.add_argument('--workers', default='none,0,1,4,16', help='numbers of workers, by turns; `none` is without the option')
     parser.add_argument('--seed', type=int, default=int(time.time()))
     parser.add_argument('--first', type=int, default=0, help='the number of the first dialogue')
@@ -224,11 +223,7 @@ def options_of(words):
     parser.add_argument('--limit', type=float, default=60, help='for how many seconds the program may be silent')
     options = parser.parse_args(words)
     options.workers = options.workers.split(',')
-    if not options.program:
-        # The launcher builds the program where it is missing; the program itself is talked to.
-        subprocess.run([os.path.join(TOP, 'affedit'), 'make', '1', '1'], stdout=subprocess.DEVNULL, check=False)
-        options.program = os.path.join(TOP, 'out', 'affedit')
-    options.program = os.path.abspath(options.program)
+    options.program = os.path.abspath(options.program or program.found() or sys.exit(1))
     return options
 
 

@@ -29,6 +29,7 @@ sys.dont_write_bytecode = True
 import console_files as files  # noqa: E402
 import team_ends  # noqa: E402
 import team_every  # noqa: E402
+import program  # noqa: E402
 from console_model import MARK, Wrong  # noqa: E402
 from team_history import Undecided  # noqa: E402
 from team_lines import sessions_of  # noqa: E402
@@ -37,7 +38,6 @@ from team_script import Writer, some_pairs  # noqa: E402
 from team_simulator import Simulator  # noqa: E402
 from team_trial import decide, try_table, try_wrong  # noqa: E402
 
-TOP = os.path.dirname(os.path.dirname(os.path.abspath(__file__)))
 # One of so many runs of the program is of files that end it before a session starts.
 SPOILT = 5
 
@@ -169,7 +169,7 @@ class Team:
 def options_of(words):
     parser = argparse.ArgumentParser(description=__doc__, formatter_class=argparse.RawDescriptionHelpFormatter)
     parser.add_argument('seconds', nargs='?', type=float, default=float(os.environ.get('TEAM_SECONDS', '5')), help='how long it goes on')
-    parser.add_argument('--program', default=os.environ.get('TEAM_PROGRAM'), help='the program; without it the one that ./affedit runs')
+    parser.add_argument('--program', default=os.environ.get('TEAM_PROGRAM'), help='the program; without it the one that tests/program finds')
     parser.add_argument('--workers', default='0,1,4,16', help='numbers of workers, by turns')
     parser.add_argument('--seed', type=int, default=int(time.time()))
     parser.add_argument('--first', type=int, default=0, help='the number of the first script')
@@ -185,11 +185,7 @@ def options_of(words):
     if options.wrong:
         options.sessions, options.lines = min(options.sessions, 4), min(options.lines, 14)
     if not options.simulated:
-        if not options.program:
-            # The launcher builds the program where it is missing; the program itself is run.
-            subprocess.run([os.path.join(TOP, 'affedit'), 'make', '1', '1'], stdout=subprocess.DEVNULL, check=False)
-            options.program = os.path.join(TOP, 'out', 'affedit')
-        options.program = os.path.abspath(options.program)
+        options.program = os.path.abspath(options.program or program.found() or sys.exit(1))
     return options
 
 
