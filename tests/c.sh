@@ -1,21 +1,19 @@
 #!/usr/bin/env bash
-# Whether a program in C is answered as it has to be by the library that tools/library builds: 102,000 words of three made languages, of which is known
+# Whether a program in C is answered as it has to be by the library for C that tests/program finds: 102,000 words of three made languages, of which is known
 # which are generated; the marks of the same words, with a personal list, beside those of `check`; each cause of a fault; bytes of all kinds as words,
 # texts and files; handles; 8 threads with a handle each; and each allocation refused in turn. The program is built with the sanitizers of addresses and
-# of undefined behaviour, and run once more by valgrind, where they are installed. Prints what differs; the status is 0 where nothing does.
+# of undefined behaviour, and run once more by valgrind, if they are installed. Prints what differs, and what was skipped; the status is 0 if nothing
+# differs.
 set -euo pipefail
 top=$(cd "$(dirname "$0")/.." && pwd)
-if [ -z "$(command -v cc)" ]; then
-    echo 'the library for C was not tried, since there is no C compiler' >&2
-    exit 0
-fi
+# shellcheck source=tests/skips.bash
+. "$top/tests/skips.bash"
+needs cc python3
+program=$("$top/tests/program")
+library=$("$top/tests/program" libaffedit.a)
 work=$(mktemp -d -p /tmp)
 trap 'rm -rf "$work"' EXIT
 failed=0
-# Any run builds what is missing; that of `make` reads no file.
-"$top/affedit" make 1 1 > /dev/null || [ $? -eq 1 ]
-program=$top/out/affedit
-library=$("$top/tools/library")
 cd "$work"
 
 # Allocations go through the test's own functions, which may refuse one.
@@ -24,15 +22,14 @@ build() {
         -Wl,--wrap=malloc -Wl,--wrap=realloc -pthread -o "$1"
 }
 build plain
-sanitizers=(-fsanitize=address,undefined -fno-sanitize-recover=undefined)
-if echo 'int main(void) { return 0; }' | cc "${sanitizers[@]}" -x c - -o empty 2> /dev/null && ./empty; then
-    build calls "${sanitizers[@]}"
+if has_sanitizers; then
+    build calls -fsanitize=address,undefined -fno-sanitize-recover=undefined
 else
-    echo 'the library for C was tried without sanitizers, which this compiler lacks' >&2
+    skip 'the library for C with sanitizers' "the package $(sanitizers)"
     cp plain calls
 fi
 # Names that C++ keeps, and headers that a header needs.
-if [ -n "$(command -v c++)" ]; then
+if has 'the header in C++' c++; then
     c++ -Wall -Wextra -Werror -fsyntax-only -x c++ "$top/include/affedit.h"
 fi
 cc -std=c99 -Wall -Wextra -Wpedantic -Werror -fsyntax-only -x c "$top/include/affedit.h"
@@ -120,10 +117,7 @@ for file in aff dic own; do
     [ "$(cat got)" = 'limit 16777216' ] || { echo "a large .$file file: $(cat got)"; failed=1; }
 done
 
-if [ -z "$(command -v valgrind)" ]; then
-    echo 'the library for C was not run by valgrind, which is not installed' >&2
-    exit "$failed"
-fi
+has 'the library for C by valgrind' valgrind || exit "$failed"
 watched=(valgrind -q --error-exitcode=9 --leak-check=full --show-leak-kinds=all --errors-for-leak-kinds=all ./plain)
 head -n 40 alphabet.text > few.text
 runs 'valgrind: the handles' "${watched[@]}" handles

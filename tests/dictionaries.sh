@@ -1,8 +1,14 @@
 #!/usr/bin/env bash
-# What tools/prepare-dictionary makes of small dictionaries: each kind of change, each reason to refuse, and bad input. Prints what
-# differs; the status is 0 where nothing does.
+# What tools/prepare-dictionary makes of small dictionaries: each kind of change, each reason to refuse, and bad input. Needs
+# Python 3, and is skipped without. Prints what differs; the status is 0 where nothing does.
 set -euo pipefail
 top=$(cd "$(dirname "$0")/.." && pwd)
+# shellcheck source=tests/skips.bash
+. "$top/tests/skips.bash"
+needs python3
+# Nothing is built here.
+export AFFEDIT_NO_BUILD=1
+"$top/tests/program" > /dev/null
 work=$(mktemp -d)
 trap 'chmod -R u+w "$work"; rm -rf "$work"' EXIT
 failed=0

@@ -1,10 +1,13 @@
 #!/usr/bin/env bash
 # The plugins of editors/ in Neovim and in Emacs: after each of many edits the marks that they show are compared with what `check` prints of
-# the buffer's text, and then what is shown and told where something is wrong. An editor that is not installed is named, and left out.
+# the buffer's text, and then what is shown and told where something is wrong. An editor that is not installed is skipped, and reported.
 # Words: EDITS, how many random edits of each size of text, 100 without it; SEED, what they are drawn from. The status is 0 where nothing
 # differs, and no process is left. PROGRAM, of the environment, is another launcher. No check depends on how quick the machine is.
 set -euo pipefail
 top=$(cd "$(dirname "$0")/.." && pwd)
+# shellcheck source=tests/skips.bash
+. "$top/tests/skips.bash"
+[ -n "$(command -v nvim)$(command -v emacs)" ] || skip_all 'the package neovim or emacs-nox'
 work=$(mktemp -d)
 nvim='' emacs=''
 trap 'kill $nvim $emacs 2> /dev/null || true; rm -rf "$work"' EXIT
@@ -18,37 +21,27 @@ export HOME=$work/home
 mkdir "$HOME"
 unset DICPATH VIMINIT NVIM_LISTEN_ADDRESS XDG_CACHE_HOME XDG_CONFIG_HOME XDG_STATE_HOME
 
-# The program is built here, and not within an editor.
+# Nothing is built here.
+export AFFEDIT_NO_BUILD=1
+[ "$PROGRAM" != "$top/affedit" ] || "$top/tests/program" > /dev/null
 status=0
 "$PROGRAM" check "$top/examples/sample.aff" "$top/examples/sample.dic" "$top/examples/sample.txt" > /dev/null || status=$?
 if [ "$status" != 1 ]; then
     echo "there is no program to try the editors with: status $status" >&2
     exit 1
 fi
-export AFFEDIT_NO_BUILD=1
-
-# has WHAT COMMAND..: whether the commands are there; says so where they are not.
-has() {
-    local what=$1 name
-    shift
-    for name in "$@"; do
-        if [ -z "$(command -v "$name")" ]; then
-            echo "$what is left out: there is no command $name"
-            return 1
-        fi
-    done
-}
 
 # The two editors run at once.
-if has Neovim nvim; then
+if has 'the plugin in Neovim' nvim; then
     mkdir "$work/nvim"
-    WORK=$work/nvim timeout -k 10 "$limit" nvim --headless --clean -i NONE -c "luafile $top/tests/editors/nvim.lua" -c 'cquit 3' \
+    # shellcheck disable=SC2016
+    WORK=$work/nvim timeout -k 10 "$limit" nvim --headless --clean -i NONE -c 'exe "luafile" fnameescape($TOP . "/tests/editors/nvim.lua")' -c 'cquit 3' \
         < /dev/null > "$work/nvim-report" 2> "$work/nvim-said" &
     nvim=$!
 fi
 
 # The mode is compiled, as its README.md has it. Emacs draws nothing without a terminal, so that it gets one.
-if has Emacs emacs script stty; then
+if has 'the mode in Emacs' emacs script stty; then
     mkdir "$work/emacs" "$work/compiled"
     cp "$top"/editors/emacs/*.el "$work/compiled"
     status=0
@@ -86,6 +79,9 @@ if [ -n "$emacs" ]; then
         failed=1
     fi
 fi
+
+# The editors ask for suggestions if they can.
+[ -z "$nvim$emacs" ] || has 'suggestions in editors' hunspell || true
 
 # What was started here has the folder in its words. It ends with its editor, but perhaps a moment later.
 left() { grep -lsF -- "$work/" /proc/[0-9]*/cmdline || true; }

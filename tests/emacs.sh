@@ -1,13 +1,15 @@
 #!/usr/bin/env bash
 # Emacs's own ispell.el and flyspell over `examples/ispell-face`, with the sample's dictionary, in batch mode: which words are marked,
-# where, and which are asked about; and a personal word that is kept. Needs Emacs, and says so where there is none; the program is ./affedit, or
+# where, and which are asked about; and a personal word that is kept. Needs Emacs and Python 3, and is skipped without; the program is ./affedit, or
 # that of AFFEDIT. Prints what differs; the status is 0 where nothing does.
 set -euo pipefail
-if [ -z "$(command -v emacs)" ]; then
-    echo 'ispell-face was not tried with Emacs, which is not installed' >&2
-    exit 0
-fi
 top=$(cd "$(dirname "$0")/.." && pwd)
+# shellcheck source=tests/skips.bash
+. "$top/tests/skips.bash"
+needs emacs python3
+# Nothing is built here.
+export AFFEDIT_NO_BUILD=1
+[ -n "${AFFEDIT-}" ] || "$top/tests/program" > /dev/null
 work=$(mktemp -d)
 trap 'rm -rf "$work"' EXIT
 cat > "$work/try.el" << 'LISP'

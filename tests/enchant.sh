@@ -1,33 +1,29 @@
 #!/usr/bin/env bash
 # Whether Enchant is answered by its provider (bindings/enchant) as it has to be: which dictionaries there are, which words of a text `enchant-2 -l`
 # lists beside those that `check` marks, what an editor is told of a faulty file, words of a session, and the order of providers. The module is in a
-# folder of the test's own, which is mounted over Enchant's in a namespace of the test's own. Where Enchant is not installed, or there may be no
-# such namespace, standard error says so and the status is 0. Prints what differs; the status is 0 where nothing does.
+# folder of the test's own, which is mounted over Enchant's in a namespace of the test's own. If Enchant is not installed, or there may be no
+# such namespace, all is skipped. Prints what differs; the status is 0 where nothing does.
 set -euo pipefail
 top=$(cd "$(dirname "$0")/.." && pwd)
-skip() {
-    echo "the provider for Enchant was not tried, since $1" >&2
-    exit 0
-}
-for command in cc pkg-config enchant-2 enchant-lsmod-2; do
-    [ -n "$(command -v $command)" ] || skip "there is no $command"
-done
-pkg-config --exists enchant-2 glib-2.0 gmodule-2.0 || skip 'the headers of Enchant 2 are not installed'
+# shellcheck source=tests/skips.bash
+. "$top/tests/skips.bash"
+needs cc pkg-config enchant-2 enchant-lsmod-2
+has_enchant_headers || skip_all 'the package libenchant-2-dev'
 modules=$(pkg-config --variable=libdir enchant-2)/enchant-2
-[ -d "$modules" ] || skip "there is no folder $modules"
+[ -d "$modules" ] || skip_all 'the package libenchant-2-2'
 if unshare -m true 2> /dev/null; then
     apart=(unshare -m)
 elif unshare -rm true 2> /dev/null; then
     apart=(unshare -rm)
 else
-    skip 'no namespace may be made'
+    skip_all 'a namespace of mounts, which this system refuses; root has one'
 fi
+program=$("$top/tests/program")
+# The provider is compiled around the library, which is not built here.
+"$top/tests/program" libaffedit.a > /dev/null
 work=$(mktemp -d -p /tmp)
 trap 'rm -rf "$work"' EXIT
 failed=0
-# Any run builds what is missing; that of `make` reads no file.
-"$top/affedit" make 1 1 > /dev/null || [ $? -eq 1 ]
-program=$top/out/affedit
 module=$("$top/bindings/enchant/build")
 cd "$work"
 mkdir modules named settings settings/affedit settings/hunspell
@@ -83,7 +79,7 @@ en_WW: $work/named/en_WW.aff:1: the file is in another encoding than UTF-8
 en_UU: $work/named/en_UU.aff: the file has more than 16,777,216 bytes
 en_VV: there is none
 en_YY:$answers" ./host en_XX en_ZZ en_WW en_UU en_VV en_YY
-if [ -n "$(command -v valgrind)" ]; then
+if has 'the provider for Enchant by valgrind' valgrind; then
     by env G_SLICE=always-malloc valgrind -q --error-exitcode=9 --leak-check=full --show-leak-kinds=definite --errors-for-leak-kinds=definite \
         ./host en_XX en_ZZ en_VV > said || { echo "valgrind: status $?"; tail -n 20 said; failed=1; }
 fi
@@ -100,5 +96,7 @@ if [ -f "$modules/enchant_hunspell.so" ]; then
     wants 'an order for one' 'en_XX (affedit)' enchant-lsmod-2 -lang en_XX
     cp named/en_ZZ.dic named/en_XX.dic
     wants 'a fault' 'en_XX (hunspell)' enchant-lsmod-2 -lang en_XX
+else
+    skip 'the order of providers for Enchant' 'the package libenchant-2-2'
 fi
 exit "$failed"

@@ -1,9 +1,15 @@
 #!/usr/bin/env bash
-# What README.md shows, what docs/LIBRARY.md shows of two sessions, and the scripts in `examples/` on a text with addresses, by the programs that are
-# built. And whether the documents say the same of commands and statuses. Prints what differs; the status is 0 where nothing does.
+# What README.md shows, and the scripts in `examples/` on a text with addresses, by the program that tests/program finds. And whether the
+# documents say the same of commands and statuses. What needs Perl or Python 3 is skipped without. Prints what differs; the status is 0 if
+# nothing does.
 # shellcheck disable=SC2016,SC2317
 set -euo pipefail
 top=$(cd "$(dirname "$0")/.." && pwd)
+# shellcheck source=tests/skips.bash
+. "$top/tests/skips.bash"
+# Nothing is built here.
+export AFFEDIT_NO_BUILD=1
+"$top/tests/program" > /dev/null
 work=$(mktemp -d)
 trap 'rm -rf "$work"' EXIT
 cd "$top"
@@ -101,10 +107,12 @@ for crate in crates/*/; do
 done
 
 # The row that docs/CONTRIBUTING.md shows, run by the program.
-awk '/^### A row without a proof/ { inside = 1 } /^## / { inside = 0 } inside && /^    / { print substr($0, 5) }' docs/CONTRIBUTING.md | sed "s|tests/rows|$top/tests/rows|" > "$work/row.sh"
+awk '/^### A row without a proof/ { inside = 1 } /^## / { inside = 0 } inside && /^    / { print substr($0, 5) }' docs/CONTRIBUTING.md | sed 's|tests/rows|"$TOP/tests/rows"|' > "$work/row.sh"
 [ "$(wc -l < "$work/row.sh")" = 2 ] || { echo 'docs/CONTRIBUTING.md shows no row'; failed=1; }
-tried() { (cd "$work" && bash row.sh); }
-expect 'a row without a proof' 0 tried <<< '2 runs, 0 left to `rt try --test`, 0 failed'
+tried() { (cd "$work" && TOP=$top bash row.sh); }
+if has 'a row without a proof' python3; then
+    expect 'a row without a proof' 0 tried <<< '2 runs, 0 left to `rt try --test`, 0 failed'
+fi
 
 # The dialogue for plugins in docs/CONSOLE.md: what is sent stands behind `> `.
 awk '/^## For authors/ { inside = 1 } inside && /^    / { print substr($0, 5) }' docs/CONSOLE.md > "$work/block"
@@ -156,17 +164,14 @@ expect 'a personal list' 0 ./affedit check examples/sample.aff examples/sample.d
 
 # What the linter tells of one.
 printf 'citys\n*\n' > "$work/words"
-expect 'a bad personal list' 1 tools/lint-dictionary examples/sample.aff examples/sample.dic "$work/words" << TOLD
+if has 'what the linter says of a personal list' python3; then
+    expect 'a bad personal list' 1 tools/lint-dictionary examples/sample.aff examples/sample.dic "$work/words" << TOLD
 $work/words:2: EmptyWord
     the line:    *
     a bad line:  \`*\`; \`word/\`; with \`IGNORE -\`, \`--\`
     mended:      \`*word\`; \`word/model\` or \`word\`; the line left out
 TOLD
-
-# The block of docs/LIBRARY.md behind the example's name, and what the example prints.
-awk '/^# / { found = 0 } /^`examples\/two-writers`/ { found = 1 } found && /^    / { print substr($0, 5) }' docs/LIBRARY.md > "$work/block"
-[ -s "$work/block" ] || { echo 'docs/LIBRARY.md has no block behind the example'; failed=1; }
-expect 'two writers' 0 examples/two-writers < "$work/block"
+fi
 
 printf '\xef\xbb\xbfwho reads https://example.org/citys, name@citys.net or the\n~/citys/orders --citys, x86 and the citys\n' > "$work/text"
 expect 'all marks' 1 check "$work/text" << 'MARKS'
@@ -185,6 +190,8 @@ expect 'all marks' 1 check "$work/text" << 'MARKS'
 2 36 41 citys
 13 of 18
 MARKS
+# Two scripts are in Perl, and are the last that is tried.
+has 'the scripts in-color and without-addresses' perl || exit "$failed"
 expect 'without addresses' 1 without "$work/text" << 'MARKS'
 1 52 54 or
 2 28 31 and
