@@ -12,7 +12,7 @@ work=$(mktemp -d)
 nvim='' emacs=''
 trap 'kill $nvim $emacs 2> /dev/null || true; rm -rf "$work"' EXIT
 failed=0
-# The most seconds that an editor gets.
+# The most seconds that an editor gets. It stays in the group of processes of this script, so that who ends that ends the editor.
 limit=1800
 
 export TOP=$top EDITS=${1:-100} SEED=${2:-1} PROGRAM=${PROGRAM:-$top/affedit} TERM=xterm LC_ALL=C.UTF-8
@@ -35,7 +35,7 @@ fi
 if has 'the plugin in Neovim' nvim; then
     mkdir "$work/nvim"
     # shellcheck disable=SC2016
-    WORK=$work/nvim timeout -k 10 "$limit" nvim --headless --clean -i NONE -c 'exe "luafile" fnameescape($TOP . "/tests/editors/nvim.lua")' -c 'cquit 3' \
+    WORK=$work/nvim timeout --foreground -k 10 "$limit" nvim --headless --clean -i NONE -c 'exe "luafile" fnameescape($TOP . "/tests/editors/nvim.lua")' -c 'cquit 3' \
         < /dev/null > "$work/nvim-report" 2> "$work/nvim-said" &
     nvim=$!
 fi
@@ -52,7 +52,7 @@ if has 'the mode in Emacs' emacs script stty; then
         head -n 5 "$work/emacs-said"
         failed=1
     fi
-    WORK=$work/emacs COMPILED=$work/compiled REPORT=$work/emacs-report timeout -k 10 "$limit" \
+    WORK=$work/emacs COMPILED=$work/compiled REPORT=$work/emacs-report timeout --foreground -k 10 "$limit" \
         script -qec "stty rows 30 cols 100; exec emacs -nw -Q -l '$top/tests/editors/emacs.el'" /dev/null < /dev/null > "$work/emacs-said" 2>&1 &
     emacs=$!
 fi

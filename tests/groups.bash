@@ -12,11 +12,18 @@ passed=0 failed=0 skipped=0
 printed=$(mktemp -d)
 declare -A process_of=() began_at=()
 
-# Each process of `process_of` is a `timeout`, which hands a signal on to all processes of its group, and kills what is left after 10 seconds.
+# end_groups: ends all groups that run. Each process of `process_of` is a `timeout`, which hands a signal on to all processes of its group, and
+# kills them after 10 seconds.
 end_groups() {
+    local process
     {
-        [ ${#process_of[@]} = 0 ] || kill "${process_of[@]}" || true
+        for process in "${process_of[@]}"; do
+            kill "$process" || true
+        done
         wait
+        for process in "${process_of[@]}"; do
+            kill -s KILL -- "-$process" || true
+        done
     } 2> /dev/null
     rm -rf "$printed"
 }
