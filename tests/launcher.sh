@@ -1,7 +1,6 @@
 #!/usr/bin/env bash
-# The launcher `affedit`. First its endings over a folder with no sources to prove and a command `rt` made for this, which needs no proof and
-# builds nothing real. Then what it says to people behind a run, and that nothing stands between the program and its input, its output
-# and its signals, by the program that the gate has built. Prints what went wrong; the status is 0 where nothing did.
+# What the launcher `affedit` says to people after a run, and that nothing stands between the program and its input, its output and its signals.
+# tests/building.sh tries where it gets its program from. Prints what went wrong; the status is 0 if nothing did.
 # shellcheck disable=SC2015,SC2016
 set -euo pipefail
 unset AFFEDIT_NO_BUILD AFFEDIT_QUIET
@@ -10,44 +9,7 @@ top=$(cd "$(dirname "$0")/.." && pwd)
 work=$(mktemp -d -p /tmp)
 trap 'chmod -R u+w "$work"; rm -rf "$work"' EXIT
 chmod 755 "$work"
-mkdir "$work/bin"
 failed=0
-
-# A folder with the launcher and sources that are as old as can be.
-folder() {
-    rm -rf "$work/here"
-    mkdir -p "$work/here/crates/affedit/src" "$work/here/crates/affedit/data" "$work/here/tools"
-    cp "$top/affedit" "$work/here/affedit"
-    cp -r "$top/tools/launcher" "$work/here/tools/launcher"
-    touch "$work/here/crates/affedit/data"/{a.aff,a.dic,text}
-    touch -d 2000-01-01 "$work/here/crates.txt" "$work/here/crates/affedit/src" "$work/here/crates/affedit/src/main.rt"
-}
-
-# Puts this into the source, and makes all that was built older than it.
-change() {
-    echo "$1" > "$work/here/crates/affedit/src/main.rt"
-    touch -d 2001-01-01 "$work/here/out/affedit" "$work/here/crates/affedit/out/affedit"
-}
-
-# The program that is made in place of the real one: it says which source it was made of, and ends with status 2.
-cat > "$work/bin/rt" << 'RT'
-#!/usr/bin/env bash
-[ "${1:-}" = run ] || { echo made for a test; exit 0; }
-echo build >> "$COUNT"
-sleep 0.3
-grep -q broken src/main.rt && { echo 'a proof is open'; exit 1; }
-mkdir -p out
-cat > out/affedit << PROGRAM
-#!/usr/bin/env bash
-[ "\${1:-}" = check ] && { echo "$(grep -q wrong src/main.rt && echo 1 || echo 0) of 2"; exit 0; }
-echo "affedit: words $(cat src/main.rt)"
-exit 2
-PROGRAM
-chmod +x out/affedit
-exec out/affedit
-RT
-chmod +x "$work/bin/rt"
-export COUNT=$work/count
 
 # expect WHAT STATUS TEXT COMMAND..: the status is that, and the text stands in what the command says on both outputs.
 expect() {
@@ -59,88 +21,14 @@ expect() {
         failed=1
     fi
 }
-launch() { PATH=$work/bin:$PATH "$work/here/affedit" "$@"; }
-builds() { [ "$(wc -l < "$COUNT")" = "$1" ] || { echo "$2: $(wc -l < "$COUNT") builds, wanted $1"; failed=1; }; }
 
-folder
-: > "$COUNT"
-expect 'no rt' 125 'no command rt' env PATH=/usr/bin:/bin "$work/here/affedit" word
-expect 'nothing may be built, nothing is there' 125 'is not there' env AFFEDIT_NO_BUILD=1 "PATH=$work/bin:$PATH" "$work/here/affedit" word
-expect 'a first launch' 2 'affedit: words' launch word
-expect 'a second one' 2 'affedit: words' launch word
-builds 1 'two launches one after the other'
-
-change newer
-expect 'nothing may be built, what is there is old' 2 'affedit: words' env AFFEDIT_NO_BUILD=1 "$work/here/affedit" word
-builds 1 'nothing may be built'
-expect 'a source is newer' 2 'affedit: words newer' launch word
-builds 2 'a source is newer'
-
-change broken
-expect 'a broken source' 125 'a proof is open' launch word
-change wrong
-expect 'a program that answers otherwise than it has to' 125 'not built' launch word
-expect 'the program from before is still there' 2 'affedit: words newer' env AFFEDIT_NO_BUILD=1 "$work/here/affedit" word
-
-folder
-: > "$COUNT"
-launch word > "$work/one" 2>&1 & one=$!
-launch word > "$work/two" 2>&1 & two=$!
-wait "$one" && status=0 || status=$?
-[ "$status" = 2 ] || { echo "two at once: status $status"; failed=1; }
-wait "$two" && status=0 || status=$?
-[ "$status" = 2 ] || { echo "two at once: status $status"; failed=1; }
-builds 1 'two launches at once'
-
-# What is built half is not taken, and what `rt` built elsewhere is.
-folder
-: > "$COUNT"
-mkdir -p "$work/here/crates/affedit/out"
-printf '#!/bin/sh\nexit 0\n' > "$work/here/crates/affedit/out/affedit"
-chmod +x "$work/here/crates/affedit/out/affedit"
-expect 'a half built program' 2 'affedit: words' launch word
-builds 1 'a half built program'
-rm -rf "$work/here/out"
-expect 'a program that was built elsewhere' 2 'affedit: words' launch word
-builds 1 'a program that was built elsewhere'
-
-# Help is printed where nothing is built, on standard output alone.
-folder
-: > "$COUNT"
-for word in --help -h; do
-    expect "$word" 0 'the launcher has no program to run' launch "$word"
-    expect "$word, of a command" 0 'affedit forms AFF DIC' launch "$word"
-    [ -z "$(launch "$word" 2>&1 > /dev/null)" ] || { echo "$word: something on standard error"; failed=1; }
-done
-expect 'version' 0 'made for a test' launch --version
-[ -z "$(launch --version 2>&1 > /dev/null)" ] || { echo '--version: something on standard error'; failed=1; }
-builds 0 'help and version'
-# A wrong word is told before a build, and once.
-expect 'a wrong word before a build' 2 'is no command' launch word
-builds 1 'a wrong word before a build'
-[ "$(launch chek 2>&1 > /dev/null | grep -c 'is no command')" = 1 ] || { echo 'a wrong word is not told once'; failed=1; }
-rm -rf "$work/here/out" "$work/here/crates/affedit/out"
-[ "$(launch chek 2>&1 > /dev/null | grep -c 'is no command')" = 1 ] || { echo 'a wrong word before a build is not told once'; failed=1; }
-expect 'no words' 2 'affedit check AFF DIC FILE' launch
-expect 'no words, by the program' 2 'affedit: words' launch
-# Without the part that builds, what is there is run, old or not.
-change newer
-rm "$work/here/tools/launcher/building.bash"
-expect 'the part that builds is not there' 2 'affedit: words' launch word
-builds 2 'the part that builds is not there'
-rm -rf "$work/here/out"
-expect 'and no program either' 125 'is not there' launch word
-
-# A folder that cannot be written, by a user who has no right to.
-folder
+# A user who has fewer rights.
 as_other=()
 if [ "$(id -u)" = 0 ]; then
     as_other=(setpriv --reuid=65534 --regid=65534 --clear-groups)
 fi
-chmod -R a+rX,a-w "$work/here" "$work/bin"
-expect 'a folder that is read only' 125 'cannot be written' "${as_other[@]}" env "PATH=$work/bin:$PATH" "$work/here/affedit" word
 
-# ---- what ended a run, said to people: by the program itself, which the gate has built, in a folder without the part that builds
+# ---- what ended a run, said to people: by the program itself, in a folder without the part that builds
 
 real=$("$top/tests/program") || { echo 'no row of what ended a run was run'; exit 1; }
 mkdir -p "$work/real/out" "$work/real/tools/launcher" "$work/in/folder"
