@@ -8,8 +8,8 @@ it keeps with its script. It prints a seed; `--seed S --first K --scripts 1` is 
 time it tries all outputs of small scripts (team_every.py).
 
 `team.py --wrong` turns outputs in each of the ways of team_wrong.py and team_wrong_looks.py, and ends with status 1 where none is refused
-of those that one of them makes, or where one is accepted that nothing can explain. Where the program prints nothing that a way can turn,
-the simulator does. At last it has simulators that go wrong, of which some output has to be refused.
+of those that one of them makes, or where one is accepted that nothing can explain. If the program prints few outputs that a way can turn,
+the simulator prints more. At last it has simulators that go wrong, of which some output has to be refused.
 
 Each of them begins with the outputs of team_table.py, which were written by hand.
 """

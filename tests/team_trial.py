@@ -37,16 +37,17 @@ def try_table():
 
 
 def turned(way, *teams):
-    """Outputs that a way has turned, each with its script: of the first of these that has some, for nobody can say what threads do."""
+    """Outputs that a way has turned, each with its script. If few of the first team can be turned, those of the next one follow: nobody
+    can say what threads do."""
+    made = 0
     for team in teams:
-        is_made = False
         for number in range(TRIES):
             script = team.script(number)
             printed = team_wrong.Printed(output := team.output(script))
             if way(printed, calls_of(script.sessions, output, files.fault_of)[0], script.random) is not False:
-                is_made = True
+                made += 1
                 yield script, printed.output()
-        if is_made:
+        if made >= ENOUGH:
             return
 
 
