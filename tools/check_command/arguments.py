@@ -6,31 +6,26 @@ from .faults import WORDS, Fault, shown
 
 HELP = """\
 affedit-check [-d NAME[,NAME..]] [-p OWN] [OPTION..] [FILE..]
-affedit-check -D
-affedit-check [-p OWN] --add WORD..
-
-Marks the words of files that a Hunspell dictionary does not have: FILE:LINE:COLUMN: WORD.
-FILE may be a folder; `-` or no FILE is standard input. Files are UTF-8.
-
-  -d NAME[,NAME..]    the dictionary, or several of which one has to have the word; NAME may
-                      be a path with a slash. Else that of $AFFEDIT_LANG, else of the locale
-  -D                  list the dictionaries that are found, with their paths
-  -p OWN              own words, in place of .affedit-words from each file's folder upwards
-                      and of $XDG_CONFIG_HOME/affedit/words
-  --add WORD          append WORD to the nearest of these lists; may be given several times
-  --format FORMAT     text, json (a line for each mark) or github (annotations)
-  -l                  print the words alone
-  --count             print how many marks each file has, and a total
-  --all               check addresses, paths, e-mail addresses and code of Markdown too
-  --hidden            do not pass over hidden files and folders
-  --exclude GLOB      pass over files and folders by name or path; may be given several times
-  --help, --version   print this, or what the program was made of
-
-Exit status: 0 no marks, 1 marks, 2 wrong words, 3 the dictionary or a list is refused, 4 a
-file is not UTF-8, 5 a file or dictionary is missing or unreadable, 6 output failed, 7 out of
-memory, 8 a run of bytes without a blank is too long, 125 no program. The highest counts.
-After 4, 5 of a file to check, and 8 all other files have been checked.
-Manual: affedit-check(1). Example: affedit-check -d en_US README.md docs
+Marks words that a Hunspell dictionary does not have, as FILE:LINE:COLUMN: WORD.
+A FILE may be a folder; `-` or none is standard input. Files are UTF-8.
+  -d NAME[,NAME..]  the dictionary, or several: one of them has to have the word.
+                    A name, or a path with a slash. Else $AFFEDIT_LANG or the locale
+  -D                list the dictionaries that are found, with their paths
+  -p OWN            a list of own words. Else .affedit-words of the file's folder and
+                    of all above, and $XDG_CONFIG_HOME/affedit/words
+  --add WORD        append WORD to the nearest of these lists
+  --format FORMAT   text, json (a line a mark) or github (annotations)
+  -l                print the words alone
+  --count           print how many marks each file has, and the total
+  --all             check addresses, paths and e-mail addresses too, and in .md files
+                    code and the targets of links
+  --hidden          check hidden files and folders too
+  --exclude GLOB    pass over files and folders with such a name or path
+  --help, --version
+Exit status: 0 no marks, 1 marks. 2 the command line is wrong, 3 a dictionary or
+list is refused, 4 a file is not UTF-8, 5 a file is missing or cannot be read,
+6 output failed, 7 out of memory, 8 a run without blanks is too long, 125 no program.
+Example: affedit-check -d en_US README.md docs      The manual: man affedit-check
 """
 FORMATS = ('text', 'json', 'github')
 SHORT = 'd:p:Dlh'
@@ -56,7 +51,7 @@ class Settings:
         elif option in ('--add', '--exclude'):
             (self.added if option == '--add' else self.excluded).append(value)
         elif option in ('--format', '-l', '--count'):
-            self.take_format(value if value else option.strip('-'), option)
+            self.take_format(value if option == '--format' else option.strip('-'), option)
         elif option == '--all':
             self.takes_all = True
         elif option == '--hidden':

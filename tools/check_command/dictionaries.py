@@ -75,6 +75,16 @@ def there_are():
     return f'there are {", ".join(map(shown, found))}'
 
 
+def absolute(base):
+    """The path of a dictionary from the root on, which is no option. The program takes names of files that are UTF-8."""
+    path = os.path.abspath(base)
+    try:
+        path.encode()
+    except UnicodeEncodeError:
+        raise Fault(FILES, f'the path of the dictionary {shown(path)} is not UTF-8') from None
+    return path
+
+
 def locale_names():
     """The names that a locale could have, the best first."""
     value = next(filter(None, map(os.environ.get, ('LC_ALL', 'LC_MESSAGES', 'LANG'))), '')
@@ -91,11 +101,11 @@ def chosen(named):
         wanted = named.split(',')
         if not all(wanted):
             raise Fault(WORDS, f'-d {shown(named)}: a name is empty')
-        return [(os.path.basename(name), find(name)) for name in dict.fromkeys(wanted)]
+        return [(os.path.basename(name), absolute(find(name))) for name in dict.fromkeys(wanted)]
     there = names()
     tried = locale_names()
     for name in tried:
         if name in there:
-            return [(name, there[name])]
+            return [(name, absolute(there[name]))]
     cause = f'the locale {shown(tried[0])} has none' if tried else 'the locale has no language'
     raise Fault(FILES, f'no dictionary: {cause}. Name one with -d NAME or AFFEDIT_LANG: {there_are()}')

@@ -14,7 +14,7 @@ BEFORE = b'\'"*_(['
 BEHIND = b'.,;:!?)]}\'"*_`'
 # What a chunk holds that has an address, a path or an e-mail address.
 SIGNS = (b'/', b'@', b'www.', b'\\')
-ROOTED = re.compile(rb'(?:~[A-Za-z0-9_-]*|\.\.?|\$[A-Z_]+|[A-Za-z]:)?[/\\]')
+ROOTED = re.compile(rb'(?:~[A-Za-z0-9_-]*|\.\.?|\$[A-Z_]+)?/|[A-Za-z]:[/\\]|\\\\')
 EXTENSION = re.compile(rb'\.[A-Za-z][A-Za-z0-9]{0,9}(?::[0-9]+)*\Z')
 
 
@@ -92,7 +92,9 @@ def spans_of_pieces(chunk, base):
     """START and END of the paths, names of hosts and e-mail addresses of a run, with a base added."""
     for found in PIECE.finditer(chunk):
         piece = found[0]
-        start = len(piece) - len(piece.lstrip(BEFORE))
+        # Of `--own=a/b` only the value may be a path.
+        start = piece.rfind(b'=') + 1
+        start = len(piece) - len(piece[start:].lstrip(BEFORE))
         end = len(piece.rstrip(BEHIND))
         if start < end and is_no_prose(piece[start:end]):
             yield base + found.start() + start, base + found.start() + end
@@ -105,8 +107,6 @@ def is_no_prose(piece):
         return bool(name and host)
     if piece.startswith(b'www.'):
         return True
-    if b'=' in piece:
-        piece = piece[piece.rindex(b'=') + 1:]
     if b'/' not in piece and b'\\' not in piece:
         return False
     rooted = ROOTED.match(piece)
