@@ -1,9 +1,9 @@
 #!/usr/bin/env python3
 """Tests tools/affedit-check by the program as it is built: tests/check_command.py [TREES].
 
-So many random trees of files, or 300, have the marks that `affedit check` finds in each file alone. Then come formats, filters, own words,
-names of dictionaries, the cache, the ways to end, completion and the hook for git. $AFFEDIT names another program in place of the launcher's. Prints what differs, and
-what is skipped; the status is 1 if anything differs.
+So many random trees of files, or 300, have the marks that `affedit check` finds in each file alone. The others test formats, filters, own
+words, names of dictionaries, the cache, the ways to end, completion and the hook for git. $AFFEDIT names another program than the launcher.
+Prints what differs, and what is skipped; the status is 1 if anything differs.
 """
 
 import sys

@@ -49,7 +49,7 @@ def test_once(tester):
     write(cache.folder, 'x y.dic', DIC + b'teh\n')
     tester.holds('another one', 'converted from ISO8859-2', cache.ends('another one', (0, '')))
     tester.same('another one: two entries', 2, len(cache.entries()))
-    tester.same('the first one is still there', '', tester.ends('nothing is left aside', (0, ''), ['-d', os.path.join(cache.folder, 'x y')], env=cache.env))
+    tester.same('both are kept', '', tester.ends('both are kept', (0, ''), cache.words, env=cache.env))
     tester.same('no folder is left', [], [name for name in os.listdir(tester.top) if name.startswith('affedit-check-')])
 
 
@@ -172,7 +172,8 @@ def test_tool(tester):
     """The tool that prepares is the one of the repository, with the same program."""
     cache = Cache(tester)
     cache.ends('prepared')
-    done = subprocess.run([os.path.join(TOP, 'tools', 'prepare-dictionary'), 'x y.aff', 'x y.dic', 'out'], cwd=cache.folder, stdout=subprocess.DEVNULL,
+    tool = os.path.join(TOP, 'tools', 'prepare-dictionary')
+    done = subprocess.run([tool, 'x y.aff', 'x y.dic', 'out'], cwd=cache.folder, stdout=subprocess.DEVNULL,
                           env={**cache.env, 'AFFEDIT': PROGRAM}, check=False)
     tester.same('tools/prepare-dictionary', 0, done.returncode)
     for end in ('aff', 'dic'):

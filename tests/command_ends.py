@@ -97,7 +97,8 @@ def test_output(tester):
     done = subprocess.run(['sh', '-c', script, 'sh', *words], cwd=folder, env=env, stdin=subprocess.DEVNULL, stderr=subprocess.PIPE, check=False)
     tester.same('a closed output', (6, b'affedit-check: standard output is closed\n'), (done.returncode, done.stderr))
     script = '{ "$@"; echo "$?" >&2; } | head -n 1 > /dev/null'
-    done = subprocess.run(['sh', '-c', script, 'sh', *words, 'a', 'a', 'a'], cwd=folder, env=env, stdin=subprocess.DEVNULL, stderr=subprocess.PIPE, check=False)
+    piped = ['sh', '-c', script, 'sh', *words, 'a', 'a', 'a']
+    done = subprocess.run(piped, cwd=folder, env=env, stdin=subprocess.DEVNULL, stderr=subprocess.PIPE, check=False)
     tester.same('a closed pipe', b'1\n', done.stderr)
     for words_of in (['--help'], ['-D'], ['--version']):
         with open('/dev/full', 'wb') as full:

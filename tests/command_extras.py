@@ -8,7 +8,7 @@ from command_runs import COMMAND, SAMPLE, TOP, write
 
 COMPLETION = os.path.join(TOP, 'tools', 'completion')
 ASK = 'source "$1"; shift; COMP_WORDS=("$@"); COMP_CWORD=$(($# - 1)); _affedit_check; printf "%s\\n" "${COMPREPLY[@]}"'
-# Words behind the command, and what the last of them is completed to.
+# Words of a command line, and what the last of them is completed to.
 ROWS = (
     (['-d', 'aa'], ['aa_BB', 'aa_CC']),
     (['-d', 'zz,aa_C'], ['zz,aa_CC']),

@@ -13,8 +13,9 @@ PAIRS = (
     ("SET UTF-8\nWORDCHARS -.’\nICONV 1\nICONV ’ '\n", "6\nhello\nwork\ndon't\nfoo-bar\nthe\netc\n"),
     ('SET UTF-8\nWORDCHARS \u0301\u00a0\ufeff\u2028\nIGNORE \u0301\nBREAK 2\nBREAK x\nBREAK ^y\n', '4\nhello\nwork\nthe\n日本\n'),
 )
-PIECES = (*'hello work works the cat wrold teh don\'t don’t foo-bar foo- -bar etc. 12 2nd x1 é É ß 日本 😀 a\u0301 \u0301 a\ufeffb \u00a0'.split(' '), '\ufeff',
-          "'", '’', '-', '.', '\u2028', '\x85', '\x0b', '\x0c', '\r', '\x1b', 'hellox', 'ywork', 'https://a.b/c', 'x' * 120)
+PIECES = (*'hello work works the cat wrold teh don\'t don’t foo-bar foo- -bar etc. 12 2nd x1 é É ß 日本 😀 a\u0301'.split(' '),
+          '\u0301', 'a\ufeffb', '\u00a0', '\ufeff', "'", '’', '-', '.', '\u2028', '\x85', '\x0b', '\x0c', '\r', '\x1b', 'hellox', 'ywork',
+          'https://a.b/c', 'x' * 120)
 GAPS = (' ', ' ', ' ', '\n', '\n', '\t', '', '', '\r\n', '\r\r\n', '\n\n', '  ', ',')
 NAMES = ('a', 'b.txt', 'c d', 'e\nf', b'g\xff\xfe', 'h:1:2', '.hidden', '-dash', 'é.md', '*', "it's", 'k%,:', '\x1b[31m', 'Z', '日本')
 

@@ -46,7 +46,7 @@ class Settings:
         """Takes an option."""
         if option in ('-d', '-p'):
             if not value:
-                raise Fault(WORDS, f'{option} has an empty name behind it')
+                raise Fault(WORDS, f'{option} is followed by an empty name')
             setattr(self, 'dictionaries' if option == '-d' else 'own', value)
         elif option in ('--add', '--exclude'):
             (self.added if option == '--add' else self.excluded).append(value)

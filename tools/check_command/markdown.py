@@ -70,7 +70,7 @@ class Blocks:
             self.fence = fence[1]
             self.code.append((start, end))
         elif self.after_blank and width >= self.indent + 4:
-            # The next line may be code too: it counts as behind a blank line.
+            # The next line may be code too: it counts as one after a blank line.
             self.code.append((start, end))
             return
         else:
@@ -79,7 +79,7 @@ class Blocks:
                 self.paragraph[1] = end
             else:
                 self.paragraph = [start, end]
-        # Behind a heading code may follow at once.
+        # Code may follow a heading at once.
         self.after_blank = HEADING.match(line) is not None
         if self.after_blank:
             self.close()

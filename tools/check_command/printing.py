@@ -56,7 +56,7 @@ class Printer:
         self.stream.flush()
 
     def end(self, words):
-        """What stands behind all marks."""
+        """Prints what comes after all marks."""
 
 
 class JsonPrinter(Printer):

@@ -11,7 +11,7 @@ PIECE = re.compile(rb'[^()\[\]{}|,;`]+')
 SCHEME = b'abcdefghijklmnopqrstuvwxyzABCDEFGHIJKLMNOPQRSTUVWXYZ0123456789+.-'
 # Signs around an address that are none of it.
 BEFORE = b'\'"*_(['
-BEHIND = b'.,;:!?)]}\'"*_`'
+AFTER = b'.,;:!?)]}\'"*_`'
 # What a chunk holds that has an address, a path or an e-mail address.
 SIGNS = (b'/', b'@', b'www.', b'\\')
 ROOTED = re.compile(rb'(?:~[A-Za-z0-9_-]*|\.\.?|\$[A-Z_]+)?/|[A-Za-z]:[/\\]|\\\\')
@@ -34,7 +34,7 @@ class Filter:
     def is_dropped(self, start, end):
         if start >= self.line_end:
             self.read_line(start)
-        return holds(self.starts, self.ends, start, end) or holds(*self.code, start, end)
+        return holds(self.starts, self.ends, start, end) or holds(self.code[0], self.code[1], start, end)
 
     def read_line(self, place):
         """Finds what is no prose in the line of a place."""
@@ -77,7 +77,7 @@ def spans_of_chunk(chunk):
 
 
 def end_of_address(chunk, place):
-    """The end of an address: a bracket that closes more than the address opens is none of it, nor are signs behind it."""
+    """The end of an address: a bracket that closes more than the address opens is none of it, nor are signs at its end."""
     for opening, closing in ((b'(', b')'), (b'[', b']')):
         depth = 0
         for found in re.finditer(rb'[' + re.escape(opening + closing) + rb']', chunk[place:]):
@@ -85,7 +85,7 @@ def end_of_address(chunk, place):
             if depth < 0:
                 chunk = chunk[:place + found.start()]
                 break
-    return max(len(chunk.rstrip(BEHIND.replace(b')', b''))), place + 3)
+    return max(len(chunk.rstrip(AFTER.replace(b')', b''))), place + 3)
 
 
 def spans_of_pieces(chunk, base):
@@ -95,7 +95,7 @@ def spans_of_pieces(chunk, base):
         # Of `--own=a/b` only the value may be a path.
         start = piece.rfind(b'=') + 1
         start = len(piece) - len(piece[start:].lstrip(BEFORE))
-        end = len(piece.rstrip(BEHIND))
+        end = len(piece.rstrip(AFTER))
         if start < end and is_no_prose(piece[start:end]):
             yield base + found.start() + start, base + found.start() + end
 

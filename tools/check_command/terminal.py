@@ -46,22 +46,22 @@ class TerminalPrinter(Printer):
         name = shown(file.path)
         for mark in marks_of(file):
             yield f'{bold}{name}:{mark.line}:{mark.column}:{end} {red}{shown(mark.word)}{end}\n'
-            before, word, behind = self.window(file.data, mark)
-            yield f'    {before}{red}{word}{end}{behind}\n'
+            before, word, after = self.window(file.data, mark)
+            yield f'    {before}{red}{word}{end}{after}\n'
             yield f'    {" " * width_of(before)}{red}{"~" * max(1, width_of(word))}{end}\n'
 
     def window(self, data, mark):
-        """What of the line stands before the word, the word, and what stands behind it: as much as has room."""
+        """What of the line stands before the word, the word, and what stands after it: as much as has room."""
         room = self.columns - 5
         start, end = mark.first + mark.start, mark.first + mark.end
         last = data.find(b'\n', end, end + 4 * room)
-        behind = data[end:last if last >= 0 else end + 4 * room].decode(errors='ignore').rstrip('\r')
+        after = data[end:last if last >= 0 else end + 4 * room].decode(errors='ignore').rstrip('\r')
         before = data[max(mark.first, start - 4 * room):start].decode(errors='ignore')
-        before, word, behind = plain(before), plain(data[start:end].decode()), plain(behind)
+        before, word, after = plain(before), plain(data[start:end].decode()), plain(after)
         half = max(0, (room - width_of(word)) // 2)
-        free = room - width_of(word) - min(half, width_of(behind))
+        free = room - width_of(word) - min(half, width_of(after))
         before = front_cut(before, max(0, free))
-        return before, word, back_cut(behind, max(0, room - width_of(word) - width_of(before)))
+        return before, word, back_cut(after, max(0, room - width_of(word) - width_of(before)))
 
 
 def front_cut(text, room):
