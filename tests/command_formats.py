@@ -7,7 +7,7 @@ import re
 import select
 import subprocess
 
-from command_runs import COMMAND, SAMPLE, write
+from command_runs import COMMAND, PROGRAM, SAMPLE, write
 
 # Lines of a file with the word, line and column of each mark; `\t` and wide characters stand before some.
 TEXT = 'The citys was reread\n\twrold 日本 wurk, é teh\r\n\ntext text\u00e9\n'
@@ -124,12 +124,25 @@ def test_terminal(tester, folder):
     tester.same('a long line at a terminal', (True, True, True), found)
 
 
+def test_progress(tester, folder):
+    """A line that says how far a slow run is: at a terminal, and not in a pipe."""
+    slow = os.fsdecode(write(folder, 'slow', f'#!/bin/sh\nsleep 3\nexec "{PROGRAM}" "$@"\n'))
+    os.chmod(slow, 0o755)
+    env = tester.environment(TERM='xterm', AFFEDIT=slow, NO_COLOR='1')
+    words = ['-d', os.path.join(folder, 'd'), 'a b.txt', '-l']
+    shown = at_terminal(words, folder, env)
+    line = '\r0 files checked, 0.0 MB\x1b[K'
+    tester.same('a slow run at a terminal', (True, '\r\x1b[Kcitys\nwurk\nteh\ntexté\n'), (line in shown, shown.replace(line, '')))
+    tester.same('a slow run in a pipe', b'', tester.run(words, folder=folder, env=env)[2])
+
+
 def test(tester):
     folder = tester.folder()
     write(folder, 'd.aff', PAIR[0])
     write(folder, 'd.dic', PAIR[1])
     write(folder, 'a b.txt', '\n' + TEXT)
     write(folder, 'none', '')
-    tester.ends('the sample', (1, f'{SAMPLE}.txt:2:31: citys\n'), ['-d', SAMPLE, SAMPLE + '.txt'])
-    for part in (test_lines, test_json, test_github, test_vim, test_terminal):
+    env = tester.environment(AFFEDIT=None)
+    tester.ends('the sample, by the launcher', (1, f'{SAMPLE}.txt:2:31: citys\n'), ['-d', SAMPLE, SAMPLE + '.txt'], env=env)
+    for part in (test_lines, test_json, test_github, test_vim, test_terminal, test_progress):
         part(tester, folder)

@@ -7,8 +7,21 @@ import tempfile
 
 TOP = os.path.dirname(os.path.dirname(os.path.realpath(__file__)))
 COMMAND = os.path.join(TOP, 'tools', 'affedit-check')
-PROGRAM = os.environ.get('AFFEDIT') or os.path.join(TOP, 'affedit')
 SAMPLE = os.path.join(TOP, 'examples', 'sample')
+
+
+def program():
+    """The path of the program: that of $AFFEDIT, or the one that the launcher runs, which builds it if it is missing."""
+    named = os.environ.get('AFFEDIT')
+    if named:
+        return named
+    launcher, built = os.path.join(TOP, 'affedit'), os.path.join(TOP, 'out', 'affedit')
+    env = {'PATH': os.environ.get('PATH') or '/usr/bin:/bin', 'AFFEDIT_QUIET': '1'}
+    subprocess.run([launcher, 'make', '1', '1'], stdin=subprocess.DEVNULL, stdout=subprocess.DEVNULL, env=env, check=False)
+    return built if os.path.exists(built) else launcher
+
+
+PROGRAM = program()
 
 
 class Tester:

@@ -100,11 +100,13 @@ def check(settings, teller, progress, printer, stream):
         dictionaries = [Dictionary(name, base, program, cache, teller) for name, base in chosen(settings.dictionaries)]
         checking = Checking(Speller(dictionaries, lists), lists, teller, progress, settings.takes_all)
         files = Files(settings, teller, stream)
+        progress.start()
+        exits.callback(progress.stop)
         for file in checking.run(files.each(settings.files)):
             if file.marks:
-                progress.clear()
-            printer.file(file)
-        progress.clear()
+                with progress.paused():
+                    printer.file(file)
+        progress.stop()
         printer.end(checking.words)
 
 

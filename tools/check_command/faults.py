@@ -1,5 +1,6 @@
 """Errors, their exit statuses, and how names of files are printed."""
 
+import contextlib
 import os
 import re
 
@@ -40,20 +41,18 @@ def cause_of(error):
 class Teller:
     """Says on standard error what is wrong, and keeps the highest status of it."""
 
-    def __init__(self, stream, progress=None):
+    def __init__(self, stream, progress):
         self.stream, self.progress = stream, progress
         self.status = 0
 
     def say(self, text):
         """Prints a line with the name of the command."""
-        if self.progress:
-            self.progress.clear()
-        try:
+        if self.stream is None:
+            return
+        # If standard error is closed or full, the status still says it.
+        with self.progress.paused(), contextlib.suppress(OSError, ValueError):
             self.stream.write(os.fsencode(f'affedit-check: {text}\n'))
             self.stream.flush()
-        except (OSError, ValueError, AttributeError):
-            # Standard error is closed or full: the status still says it.
-            self.progress = None
 
     def fault(self, status, text):
         """Prints an error, and keeps its status."""

@@ -1,8 +1,10 @@
 """What is shown at a terminal: marks in colour with their line, and how far a long run is."""
 
+import contextlib
 import os
 import re
 import shutil
+import threading
 import time
 import unicodedata
 
@@ -11,7 +13,7 @@ from .printing import Printer, marks_of
 
 BOLD, RED, PLAIN = '\x1b[1m', '\x1b[1;31m', '\x1b[0m'
 SLOW = 2.0
-OFTEN = 0.2
+OFTEN = 0.5
 # Signs that turn the direction of a line, and what else has no width, would hide what is marked.
 HIDDEN = re.compile('[\u200b-\u200f\u2028-\u202e\u2060-\u206f\ufeff]')
 
@@ -88,29 +90,50 @@ class Progress:
     def __init__(self, stream):
         self.stream = stream
         self.is_terminal = stream is not None and stream.isatty() and os.environ.get('TERM', '') not in ('', 'dumb')
-        self.begun = self.last = time.monotonic()
+        self.begun = time.monotonic()
         self.files, self.size = 0, 0
         self.is_shown = False
+        # Held while anything is printed, so that the line never stands in the midst of it.
+        self.lock = threading.RLock()
+        self.ended = threading.Event()
+
+    def start(self):
+        """Begins to show the line, from a thread beside."""
+        if self.is_terminal:
+            threading.Thread(target=self.show, daemon=True).start()
 
     def count(self, size):
-        """Counts a file that is checked, and says so from time to time."""
+        """Counts a file that is checked."""
         self.files += 1
         self.size += size
-        if self.is_terminal:
-            now = time.monotonic()
-            if now - self.begun > SLOW and now - self.last > OFTEN:
-                self.last, self.is_shown = now, True
-                self.write(f'\r{self.files:,} files checked, {self.size / 1e6:,.1f} MB\x1b[K')
 
-    def clear(self):
-        """Takes the line away before something else is printed."""
-        if self.is_shown:
-            self.is_shown = False
-            self.write('\r\x1b[K')
+    def show(self):
+        """Shows the line until the run ends."""
+        while not self.ended.wait(OFTEN):
+            if time.monotonic() - self.begun > SLOW:
+                with self.lock:
+                    if not self.ended.is_set():
+                        self.is_shown = True
+                        self.write(f'\r{self.files:,} files checked, {self.size / 1e6:,.1f} MB\x1b[K')
+
+    @contextlib.contextmanager
+    def paused(self):
+        """Takes the line away while something else is printed."""
+        with self.lock:
+            if self.is_shown:
+                self.is_shown = False
+                self.write('\r\x1b[K')
+            yield
+
+    def stop(self):
+        """Takes the line away for good."""
+        self.ended.set()
+        with self.paused():
+            return
 
     def write(self, text):
         try:
             self.stream.write(text.encode())
             self.stream.flush()
-        except OSError:
-            self.is_terminal = False
+        except (OSError, ValueError):
+            self.ended.set()
