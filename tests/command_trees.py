@@ -46,7 +46,7 @@ def large_text(random_of):
     if random_of.random() < 0.5:
         lines = [random_of.choice(('teh', 'hello', '', 'é wrold')) for _ in range(random_of.randrange(20_001, 45_000))]
         return random_of.choice(('\n', '\r\n')).join(lines).encode()
-    words = [random_of.choice(('hello', 'wrold', 'é', 'a' * 3_000, '日本')) for _ in range(random_of.randrange(9_000, 14_000))]
+    words = [random_of.choice(('hello', 'wrold', 'é', 'a' * 3_000, '日本')) for _ in range(random_of.randrange(400, 1_200))]
     return ('teh\n' + random_of.choice((' ', '\t')).join(words) + '\nteh').encode()
 
 
