@@ -23,6 +23,7 @@ class Asker:
         pairs = [(rolled.choice(self.parts), rolled.choice(self.parts)) for _ in range(40) if self.parts]
         # Neighbours that are written together otherwise than one behind the other.
         self.joined = [pair for pair in pairs if any(joint != PLAIN for joint in joints_of(dictionary, *pair))]
+        self.twofold = [one for one in self.parts if one.second]
         self.entry_words = [entry.word for entry in dictionary.entries]
         self.alphabet = sorted(set(''.join(self.entry_words + self.forms) + OUTSIDE[:1]))
 
@@ -63,6 +64,8 @@ class Asker:
         parts = [rolled.choice(self.parts) for _ in range(rolled.choice((2, 2, 2, 2, 3, 3, 4)))]
         if self.joined and rolled.random() < 0.5:
             parts[:2] = rolled.choice(self.joined)
+        elif self.twofold and rolled.random() < 0.4:
+            parts[0] = rolled.choice(self.twofold)
         word, off = '', 0
         for left, right in zip(parts, parts[1:]):
             joints = joints_of(self.dictionary, left, right)

@@ -139,21 +139,26 @@ class Counts:
 
     def __init__(self):
         self.words, self.ways, self.kinds = collections.Counter(), collections.Counter(), collections.Counter()
+        self.looked_at = 0
         self.with_option, self.changing, self.accepting, self.marking = (collections.Counter() for _ in range(4))
 
-    def add(self, trial):
-        """Counts what was tried by one dictionary."""
-        made = trial.made
-        self.kinds[f'FLAG {made.kind or "none"}'] += 1
-        self.kinds['AF'] += made.has_aliases
+    def add_words(self, trial):
+        """Counts a dictionary and the words that it was asked."""
+        self.kinds[f'FLAG {trial.made.kind or "none"}'] += 1
+        self.kinds['AF'] += trial.made.has_aliases
         self.kinds['refused as LeftOut'] += trial.left_out is not None
+        self.words['left out, with too many lists of parts'] += trial.hard
+        for word in trial.cut:
+            self.words['generated' if trial.verdicts.yields(word) else 'marked'] += 1
+
+    def add_ways(self, trial):
+        """Counts what was tried by one dictionary. That takes longer than the comparison."""
         if trial.left_out:
             return
-        self.words['too many lists of parts'] += trial.hard
-        verdicts = trial.verdicts
-        for word in trial.words:
+        made, verdicts = trial.made, trial.verdicts
+        self.looked_at += 1
+        for word in trial.cut:
             looked_up = verdicts.looked_up(word)
-            self.words['generated' if verdicts.accepts(looked_up) else 'marked'] += 1
             ways = set()
             with contextlib.suppress(TooManyLists):
                 ways.update(ways_of(verdicts, looked_up))
@@ -172,8 +177,8 @@ class Counts:
         option = SAME_OPTION.get(name, name)
         try:
             other = verdicts_of(trial.made.without(name))
-            accepting = sum(trial.verdicts.yields(word) and not other.yields(word) for word in trial.words)
-            marking = sum(not trial.verdicts.yields(word) and other.yields(word) for word in trial.words)
+            accepting = sum(trial.verdicts.yields(word) and not other.yields(word) for word in trial.cut)
+            marking = sum(not trial.verdicts.yields(word) and other.yields(word) for word in trial.cut)
         except (Wrong, TooManyLists):
             return
         self.with_option[option] += 1
@@ -189,7 +194,8 @@ class Counts:
         """The counts, by lines."""
         lines = ['words: ' + ', '.join(f'{count} {name}' for name, count in sorted(self.words.items()))]
         lines.append('dictionaries: ' + ', '.join(f'{count} {name}' for name, count in sorted(self.kinds.items())))
-        lines += ['words by how they are generated, or why they are marked:'] + [f'  {self.ways[way]:7} {way}' for way in WAYS]
-        lines += ['options: dictionaries with it; those with another verdict without it; words generated, and marked, only with it:']
+        lines += [f'words of {self.looked_at} dictionaries, by how they are generated, or why they are marked:']
+        lines += [f'  {self.ways[way]:7} {way}' for way in WAYS]
+        lines += ['options of these: dictionaries with it; those with another verdict without it; words generated, and marked, only with it:']
         lines += [f'  {self.with_option[one]:6} {self.changing[one]:6} {self.accepting[one]:7} {self.marking[one]:7} {one}' for one in OPTIONS]
         return '\n'.join(lines + [f'never seen: {one}' for one in self.never()])

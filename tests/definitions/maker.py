@@ -146,7 +146,7 @@ class Maker:
         rest = self.rolled.choice(('po:x', '# b', '1')) if condition and self.is_rolled(0.1) else ''
         carries = self.some_flags(OF_RULES, flags, carried)
         if 'permit' in self.topics and 'COMPOUNDPERMITFLAG' in self.signs and self.is_rolled(0.5):
-            carries |= {self.signs['COMPOUNDPERMITFLAG']}
+            carries |= {self.signs['COMPOUNDPERMITFLAG'], self.rolled.choice(flags)}
             strip, condition = '' if self.is_rolled(0.7) else strip, '.'
         return Rule(strip, add, carries, condition.replace('/', 'a'), rest)
 

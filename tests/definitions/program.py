@@ -19,8 +19,9 @@ def program_of():
     script = os.path.join(TOP, 'tests', 'program')
     if os.path.exists(script):
         done = subprocess.run([script], stdout=subprocess.PIPE, text=True, check=False)
-        if done.returncode == 0 and done.stdout.strip():
-            return done.stdout.strip().splitlines()[-1]
+        path = done.stdout.strip().split('\n')[-1]
+        if done.returncode == 0 and os.access(path, os.X_OK):
+            return path
     for path in (os.path.join(TOP, 'out', 'affedit'), os.path.join(TOP, 'dist', 'affedit')):
         if os.access(path, os.X_OK):
             return path

@@ -26,7 +26,7 @@ def compare(options, path):
     """Goes through the dictionaries, or up to the first difference where one is enough. Gives how many differ."""
     program, counts, began = Program(path), coverage.Counts(), time.time()
     done = differing = refused = 0
-    # Counting costs more than comparing, so that of many dictionaries some are counted.
+    # Looking at what was tried costs more than comparing, so of many dictionaries some 300 are looked at.
     every = max(options.dictionaries // 300, 1)
     for number in range(options.first, options.first + options.dictionaries):
         try:
@@ -43,9 +43,10 @@ def compare(options, path):
             print(f'seed {options.seed}, dictionary {number}: {told(trial, differs, program, not options.stop)}', flush=True)
             if options.stop:
                 break
+        counts.add_words(trial)
         if not options.stop and number % every == 0:
-            counts.add(trial)
-    print(f'{done} dictionaries, {differing} with a difference, seed {options.seed}, {time.time() - began:.0f} s, '
+            counts.add_ways(trial)
+    print(f'{done} dictionaries, {differing} with a difference, {refused} made that are none, seed {options.seed}, {time.time() - began:.0f} s, '
           f'{time.process_time():.0f} s of this processor')
     if not options.stop:
         print(counts.told())

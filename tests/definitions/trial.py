@@ -50,12 +50,14 @@ class Trial:
             self.verdicts = verdicts_of(made)
         except LeftOut as refused:
             self.left_out = refused.args[0]
-            self.text, self.lines, self.words, self.hard = 'a\n', b'', [], 0
+            self.text, self.lines, self.words, self.cut, self.hard = 'a\n', b'', [], [], 0
             return
         asker = Asker(rolled, made, self.verdicts)
         words = asker.words(WORDS)
         self.words = without_hard_ones(self.verdicts, words)
         self.hard = len(words) - len(self.words)
+        # The same as a text is cut into words.
+        self.cut = [one for word in self.words for _, _, one in texts.words_of(self.verdicts.dictionary, word)]
         self.text = asker.text(self.words)
         # Words that stand together in a text may make one that is hard.
         if len(without_hard_ones(self.verdicts, [self.text])) == 0:

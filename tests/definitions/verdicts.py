@@ -31,7 +31,7 @@ def sharp_lowered(text, pairs=MOST_PAIRS):
 
 def sharp_kept(word):
     """The same ways with the first character kept, which is then in no pair that is `ß`."""
-    return [word[0] + way[1:] for way in sharp_lowered(word) if not (word.startswith('SS') and way.startswith('ß'))]
+    return [word[:1] + way[1:] for way in sharp_lowered(word) if not (word.startswith('SS') and way.startswith('ß'))]
 
 
 def plain_spellings(word):
@@ -41,7 +41,7 @@ def plain_spellings(word):
     if begins_upper(word):
         spellings.append(low(word[0]) + word[1:])
     if not holds_lower(word):
-        spellings += [lowered(word), word[0] + lowered(word[1:])]
+        spellings += [lowered(word), word[:1] + lowered(word[1:])]
     return spellings
 
 
@@ -164,8 +164,8 @@ class Verdicts:
 
     def told_derivation(self, word):
         """The derivation that `pipe` answers by, of a word that is looked up: the least of those of all spellings that it covers. A
-        forbidden word has none, and neither has one of more than a hundred characters."""
-        if self.is_barred(word) or len(word) > MOST_CHARACTERS or word == '':
+        forbidden word has none, and neither has one of more than a hundred characters. The empty word may have one by FULLSTRIP."""
+        if self.is_barred(word) or len(word) > MOST_CHARACTERS:
             return None
         found = [one for spelling in covered_by(self.dictionary, word) for one in self.derivations_as(word, spelling)]
         return min(found, key=lambda one: one.places, default=None)
