@@ -41,7 +41,7 @@ files_below() { (cd "$1" && find . ! -type d -printf '%P\n') | LC_ALL=C sort; }
 
 # runs WHAT PREFIX: what is installed there runs from another folder, and no command but those of the system and its own is found.
 runs() {
-    local what=$1 sample=$2/lib/affedit/examples/sample PATH=$2/bin:/usr/bin:/bin
+    local page what=$1 sample=$2/lib/affedit/examples/sample PATH=$2/bin:/usr/bin:/bin
     ! grep -rqIF -e "$top" -e "$copy" "$2" || wrong "$what: it names the folder of the sources"
     cd "$work" || return
     expect "$what: the sample" 1 affedit check "$sample.aff" "$sample.dic" "$sample.txt" << 'MARKS'
@@ -71,9 +71,12 @@ SAID
         expect "$what: the version of the library" 0 pkg-config --modversion affedit <<< "$version"
         unset PKG_CONFIG_PATH
     fi
-    if has 'the manual page that is installed' mandoc mandoc; then
-        mandoc -T ascii "$2"/share/man/man1/affedit.1* > page || true
-        grep -q 'mark the words of a text' page || wrong "$what: no manual page"
+    if has 'the manual pages that are installed' mandoc mandoc; then
+        for page in affedit affedit-check; do
+            # mandoc reads only one file that is packed.
+            mandoc -T ascii "$2/share/man/man1/$page.1"* > page || true
+            grep -qF "${page^^}(1)" page || wrong "$what: no manual page of $page"
+        done
     fi
     editors "$1" "$2" "$sample"
 }
@@ -88,7 +91,9 @@ scripts() {
         affedit-in-color "$sample.txt" < marks > colored || true
         grep -qF $'\e[4;31mcitys\e[0m' colored || wrong "$1: no word in color"
     fi
-    if has 'affedit-prepare-dictionary and affedit-lint-dictionary' python3 python3; then
+    if has 'affedit-check, affedit-prepare-dictionary and affedit-lint-dictionary' python3 python3; then
+        expect "$1: by name" 1 env "DICPATH=${sample%/*}" affedit-check -d sample "$sample.txt" <<< "$sample.txt:2:31: citys"
+        expect "$1: the version, by affedit-check" 0 affedit-check --version < <(affedit --version)
         expect "$1: preparing a dictionary" 0 affedit-prepare-dictionary bad.aff "$sample.dic" made << 'SAID'
 bad.aff:2: REP announces 2 rows and has 1: the count mended
 made.aff, made.dic: written

@@ -33,4 +33,6 @@ SAID
 }
 
 # packed: the files of the package, from /usr.
-packed() { sed 's|affedit\.1$|affedit.1.gz|; s|changelog$|changelog.gz|' "$top/tests/install/files"; }
+packed() {
+    sed 's|\.1$|.1.gz|; s|changelog$|changelog.gz|; s|zsh/site-functions|zsh/vendor-completions|' "$top/tests/install/files" | LC_ALL=C sort
+}
