@@ -96,6 +96,8 @@ SPOILERS = {
 # These are seen by waiting for what does not come.
 LATE = {'a reply is missing', 'a dot is missing', 'the output ends early', 'replies are held back to the end', 'no worker works',
         'it does not end'}
+# Of these, those that are seen at once where what is missing would have been the end of the output.
+AT_ONCE_TOO = {'a reply is missing', 'a dot is missing'}
 
 
 def main():

@@ -205,7 +205,8 @@ def spoil(options):
         folder = tempfile.mkdtemp()
         seen = Soak(options, folder, [sys.executable, console_wrong.__file__, kind]).run()
         shutil.rmtree(folder)
-        is_right = (seen is None) if kind == 'nothing' else (seen is not None and (' for 3 s' in seen) == is_late)
+        is_at_once_too = kind in console_wrong.AT_ONCE_TOO
+        is_right = (seen is None) if kind == 'nothing' else (seen is not None and (is_at_once_too or (' for 3 s' in seen) == is_late))
         print(f'{"" if is_right else "NOT AS IT SHOULD BE: "}{kind}: {seen or "nothing was seen"}', flush=True)
         unseen += not is_right
     return unseen == 0
