@@ -36,6 +36,7 @@ cat src/lib.rt > "$2"
 RATTLE
 cat > "$work/kit/toolchain/bin/llvm-ar" << 'AR'
 #!/usr/bin/env bash
+cat > /dev/null
 cat libaffedit_c.a > libaffedit.a
 AR
 chmod +x "$work"/kit/bin/* "$work/kit/toolchain/bin/llvm-ar"
