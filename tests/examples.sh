@@ -31,26 +31,36 @@ check() { ./affedit check examples/sample.aff examples/sample.dic "$1"; }
 without() { { check "$1" || true; } | examples/without-addresses "$1"; }
 
 # Each block of README.md is a command that is run here, or what the command before it prints; or it is a picture: of the parts, or of a
-# terminal, as editors/README.md has it. The gate itself is not run from here.
+# terminal, as editors/README.md has it. The tests and the gate themselves are not run from here.
 declare -A ends=(
     ['./affedit check examples/sample.aff examples/sample.dic examples/sample.txt']=1
+    ['tools/affedit-check -d examples/sample examples/sample.txt']=1
+    ["echo 'Dear reader, the quikc brown fox jumps over the lazy dog.' | tools/affedit-check -d en_US"]=1
     ['./affedit forms examples/sample.aff examples/sample.dic | tail -n 3']=0
     ["printf 'ins 1 hello wrld\\nsettle\\nshow\\n' | ./affedit edit crates/affedit/data/a.aff crates/affedit/data/a.dic"]=0
 )
 terminal=$(awk '/^    / { print substr($0, 5) }' editors/README.md | head -n 2 | tr '\n' '\037')
 # The blocks, one a line, with a byte 1F where a line of a block ends.
+# can_run COMMAND: whether this machine has what a command of README.md needs; reports what is skipped if not.
+can_run() {
+    [[ $1 != *tools/affedit-check* ]] || has "README.md: $1" python3 || return
+    if [[ $1 == *'-d en_US' ]] && ! has_english; then
+        skip "README.md: $1" 'the package hunspell-en-us'
+        return 1
+    fi
+}
 mapfile -t blocks < <(awk '/^    / { printf "%s%s", inside ? "\037" : "", substr($0, 5); inside = 1; next } inside { print ""; inside = 0 } END { if (inside) print "" }' README.md)
 command=''
 for block in "${blocks[@]}"; do
     first=${block%%$'\037'*}
     if [ -n "${ends[$first]-}" ]; then
         command=$first
-        [ "$block" = "$first" ] || [ "$block" = "$first"$'\037''bash .ci/run' ] || { echo "README.md: a command that is not run: $block"; failed=1; }
+        [ "$block" = "$first" ] || { echo "README.md: a command that is not run: $block"; failed=1; }
     elif [ -n "$command" ]; then
-        expect "README.md: $command" "${ends[$command]}" bash -c "$command" <<< "${block//$'\037'/$'\n'}"
+        ! can_run "$command" || expect "README.md: $command" "${ends[$command]}" bash -c "$command" <<< "${block//$'\037'/$'\n'}"
         unset 'ends[$command]'
         command=''
-    elif [[ $first != +--* && $block != "${terminal%?}" ]]; then
+    elif [[ $first != +--* && $block != "${terminal%?}" && ! $block =~ ^bash\ (tests|\.ci)/run$ ]]; then
         echo "README.md: a block that is not run: $first"
         failed=1
     fi

@@ -61,3 +61,8 @@ sanitizers() {
 has_enchant_headers() {
     pkg-config --exists enchant-2 glib-2.0 gmodule-2.0 2> /dev/null
 }
+
+# has_english: whether Debian's English dictionary is there, by which README.md checks a line.
+has_english() {
+    [ -e /usr/share/hunspell/en_US.aff ] && [ -e /usr/share/hunspell/en_US.dic ]
+}
