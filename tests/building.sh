@@ -102,6 +102,15 @@ expect 'a source that is gone' 125 'there is no program in dist/' alone word
 echo low > "$here/crates/low/src/lib.rt"
 expect 'a source that is there again' 2 'affedit: words other' alone word
 builds 3 'sources that are as they were'
+mkdir "$here/crates/low/specs"
+echo low > "$here/crates/low/specs/Low.antt"
+expect 'a new folder of sources' 2 'affedit: words other' launch word
+builds 4 'a new folder of sources'
+# No source that stays is as new as the program any more.
+sleep 1.2
+expect 'the same folder later' 2 'affedit: words other' alone word
+rm -r "$here/crates/low/specs"
+expect 'a folder of sources that is gone' 125 'there is no program in dist/' alone word
 source_is broken
 expect 'a broken source' 125 'a proof is open' launch word
 expect 'the program from before is still there' 2 'affedit: words other' no_build word
@@ -217,6 +226,7 @@ PATH=$with_kit "$here/affedit" word > /dev/null 2>&1 || true
 mkdir -p "$here/crates/affedit/out"
 echo another > "$here/crates/affedit/out/affedit"
 refused 'another program of the gate' 'dist/ has other bytes than these sources give'
+expect 'no kit to compare by' 1 'the command rt of the Rattle kit is needed' env "PATH=$without_kit" "$here/tools/dist" --check
 expect 'another kit' 0 'dist/ was made by kit one, and this is kit two' env KIT_NAME=two "PATH=$with_kit" "$here/tools/dist" --check
 source_is broken
 expect 'sources that are not proved' 1 'a proof is open' dist

@@ -39,11 +39,16 @@ value_of() {
     sed -n "s/^$1 //p" "$2" 2> /dev/null || true
 }
 
-# is_untouched FILE: whether FILE exists, and no source was changed, renamed or removed since its time of change. The times of sources
-# are those of their inodes, which no command sets back.
+# is_untouched FILE: whether FILE exists, and no source was changed since FILE was: the times of sources are those of their inodes, which no
+# command sets back. A folder src/, specs/ or proofs/ that is removed is not seen.
 is_untouched() {
     [ -e "$1" ] &&
         [ -z "$(find "$top/crates.txt" "$top"/crates/*/{src,specs,proofs} -newercm "$1" -print -quit 2> /dev/null)" ]
+}
+
+# has_all_folders FILE: whether no crate has lost or got a folder since FILE was changed. One that has got its out/ counts too.
+has_all_folders() {
+    [ -z "$(find "$top"/crates "$top"/crates/* -maxdepth 0 -newercm "$1" -print -quit)" ]
 }
 
 # is_kept NAME DIGEST: whether dist/NAME was made of the sources with this digest, and is the file that dist/MADE names.
@@ -64,7 +69,7 @@ place() {
 take() {
     local to=$top/out/$1 digest stamp=$top/out/stamp.$$
     taken=$to
-    ! is_untouched "$to" || return 0
+    ! { is_untouched "$to" && has_all_folders "$to"; } || return 0
     # What is changed in the second before the digest is taken is looked at once more by the next call.
     if ! { mkdir -p "$top/out" && touch -d '1 second ago' "$stamp"; } 2> /dev/null; then
         taken=$top/dist/$1
