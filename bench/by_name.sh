@@ -3,8 +3,8 @@
 # tables in Markdown. The first has a row for each pair of files: whether it is read, with which marks of 500 of its own entries, whether
 # words are judged with a loss, and the wall seconds of the first run, which prepares it, and of the second one.
 # The second table has the times of affedit-check, `hunspell -l` and nuspell for a folder of 2,000 English texts, those of affedit-check for a
-# folder of 10,000 texts and for one text of the same bytes, and how many words each
-# marks; a program that is not there is left out, and one is stopped after 300 seconds. Packages are fetched and unpacked, not installed.
+# folder of 10,000 texts and for one text of the same bytes, and how many words each marks. A program that is not there is left out, and
+# one is stopped after 300 seconds. Packages are fetched and unpacked, not installed.
 # With a folder as its argument, packages are kept in it, and fetched only if they are not there. The status is 1 if a dictionary is not read.
 set -euo pipefail
 top=$(cd "$(dirname "$0")/.." && pwd)

@@ -11,17 +11,6 @@ trap 'chmod -R u+w "$work"; rm -rf "$work"' EXIT
 chmod 755 "$work"
 failed=0
 
-# expect WHAT STATUS TEXT COMMAND..: the status is that, and the text stands in what the command says on both outputs.
-expect() {
-    local what=$1 wanted=$2 text=$3 status=0 said
-    shift 3
-    said=$("$@" 2>&1) || status=$?
-    if [ "$status" != "$wanted" ] || [[ "$said" != *"$text"* ]]; then
-        echo "$what: status $status, wanted $wanted with '$text', said: $said"
-        failed=1
-    fi
-}
-
 # A user who has fewer rights.
 as_other=()
 if [ "$(id -u)" = 0 ]; then
@@ -295,7 +284,8 @@ SAID
 if [ "$(id -u)" = 0 ]; then
     install -m 600 a.dic secret
     chmod a+rx "$work/real" "$work/real/out" "$work/real/tools" "$work/real/tools/launcher"
-    expect 'a file that may not be read' 5 'affedit: you may not read the file `secret`' "${as_other[@]}" "$affedit" check a.aff secret text
+    said=$("${as_other[@]}" "$affedit" check a.aff secret text 2>&1) && status=0 || status=$?
+    [ "$status" = 5 ] && [[ $said == *'affedit: you may not read the file `secret`'* ]] || { echo "a file that may not be read: status $status, said: $said"; failed=1; }
 fi
 
 # Each cause of the program has its words, and no other has.
