@@ -415,9 +415,9 @@ printf '\n| test of desks | requests that failed in turn | of these in the calls
 # Behind a call that finds no memory both eyes see the board of before, and the same call passes then. Another test takes all memory that is
 # taken before the calls, and makes none: what is left are the requests within the calls.
 while read -r before test; do
-    refuse worker_tests "$before"
+    refuse desk_tests "$before"
     outside=$refused
-    refuse worker_tests "$test"
+    refuse desk_tests "$test"
     echo "| \`$test\` | $refused | $((refused - outside)) |"
     [ "$refused" -gt "$outside" ] || { echo "$test: no request is made in its calls"; wrong=1; }
 done << 'TESTS'

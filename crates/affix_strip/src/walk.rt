@@ -174,7 +174,7 @@ impl IndexedLexicon {
             Barring::Nowhere => Ok(false),
             Barring::AtEntries => {
                 let mut question = Question { test };
-                self.visit_bare(alloc, &[None], word, &mut question)
+                self.visit_without_suffix(alloc, &[None], word, &mut question)
             }
             Barring::AtForms => {
                 if !self.tables.heads.may_begin(word) {
@@ -200,7 +200,7 @@ impl IndexedLexicon {
             × (form_of self.now.lexicon d ≡ Some word.now))
             (V.sees visitor.old) (V.sees visitor.new)) }
     {
-        if self.visit_bare(alloc, &[None], word, visitor)? {
+        if self.visit_without_suffix(alloc, &[None], word, visitor)? {
             return Ok(true);
         }
         let endings = peel(alloc, &self.tables.rules, Side::Suffix, word)?;
@@ -210,12 +210,12 @@ impl IndexedLexicon {
             return Ok(true);
         }
         let fronts = peel(alloc, &self.tables.rules, Side::Prefix, word)?;
-        self.visit_fronts(alloc, word, endings, fronts.as_slice(), visitor)
+        self.visit_prefix_groups(alloc, word, endings, fronts.as_slice(), visitor)
     }
 
     /// Shows the derivations of a word with a prefix. Given are the groups of suffixes, and those of
     /// prefixes, that may have made it.
-    fn visit_fronts<V: Visitor>(
+    fn visit_prefix_groups<V: Visitor>(
         &self,
         alloc: Global,
         word: &[char],
@@ -232,7 +232,7 @@ impl IndexedLexicon {
             (V.sees visitor.old) (V.sees visitor.new)) }
     {
         for front in fronts {
-            if self.visit_front(alloc, word, endings, front, visitor)? {
+            if self.visit_prefix_group(alloc, word, endings, front, visitor)? {
                 return Ok(true);
             }
         }
@@ -241,7 +241,7 @@ impl IndexedLexicon {
 
     /// Shows those of them that have a prefix of this group. One that leaves the word as it is has
     /// its groups of suffixes.
-    fn visit_front<V: Visitor>(
+    fn visit_prefix_group<V: Visitor>(
         &self,
         alloc: Global,
         word: &[char],
@@ -261,14 +261,20 @@ impl IndexedLexicon {
         let rest = front.text(&mut joined)?;
         let prefixes = self.undoable(alloc, Side::Prefix, rest, front.places())?;
         if rest == word {
-            return self.visit_with(alloc, prefixes.as_slice(), rest, endings, visitor);
+            return self.visit_groups_behind_prefixes(
+                alloc,
+                prefixes.as_slice(),
+                rest,
+                endings,
+                visitor,
+            );
         }
-        self.visit_behind(alloc, prefixes.as_slice(), rest, visitor)
+        self.visit_behind_prefixes(alloc, prefixes.as_slice(), rest, visitor)
     }
 
     /// Shows the derivations with one of these prefixes, or with none if that is among them, that
     /// have this word behind it. Given are the groups of suffixes that may have made the word.
-    fn visit_with<V: Visitor>(
+    fn visit_groups_behind_prefixes<V: Visitor>(
         &self,
         alloc: Global,
         prefixes: &[Option<u32>],
@@ -288,7 +294,7 @@ impl IndexedLexicon {
         if prefixes.is_empty() {
             return Ok(false);
         }
-        if self.visit_bare(alloc, prefixes, rest, visitor)? {
+        if self.visit_without_suffix(alloc, prefixes, rest, visitor)? {
             return Ok(true);
         }
         self.visit_suffixed(alloc, prefixes, endings, visitor)
@@ -296,7 +302,7 @@ impl IndexedLexicon {
 
     /// Shows the derivations with one of these prefixes, or with none if that is among them, that
     /// have this word behind it.
-    fn visit_behind<V: Visitor>(
+    fn visit_behind_prefixes<V: Visitor>(
         &self,
         alloc: Global,
         prefixes: &[Option<u32>],
@@ -312,7 +318,7 @@ impl IndexedLexicon {
         if prefixes.is_empty() {
             return Ok(false);
         }
-        if self.visit_bare(alloc, prefixes, rest, visitor)? {
+        if self.visit_without_suffix(alloc, prefixes, rest, visitor)? {
             return Ok(true);
         }
         let endings = peel(alloc, &self.tables.rules, Side::Suffix, rest)?;
@@ -337,15 +343,15 @@ impl IndexedLexicon {
             (λ d. Contains prefixes.now d.prefix) (with_first self.now.lexicon)) endings.now d)
             (V.sees visitor.old) (V.sees visitor.new)) }
     {
-        if self.visit_firsts(alloc, prefixes, &[None], endings, visitor)? {
+        if self.visit_first_suffix_groups(alloc, prefixes, &[None], endings, visitor)? {
             return Ok(true);
         }
-        self.visit_outers(alloc, prefixes, endings, visitor)
+        self.visit_second_suffix_groups(alloc, prefixes, endings, visitor)
     }
 
     /// Shows those of them that have a second suffix. Given are the groups of suffixes that may
     /// have made the word.
-    fn visit_outers<V: Visitor>(
+    fn visit_second_suffix_groups<V: Visitor>(
         &self,
         alloc: Global,
         prefixes: &[Option<u32>],
@@ -362,7 +368,7 @@ impl IndexedLexicon {
             return Ok(false);
         }
         for ending in endings {
-            if self.visit_outer(alloc, prefixes, ending, visitor)? {
+            if self.visit_second_suffix_group(alloc, prefixes, ending, visitor)? {
                 return Ok(true);
             }
         }
@@ -370,7 +376,7 @@ impl IndexedLexicon {
     }
 
     /// Shows those of them that have a second suffix of this group.
-    fn visit_outer<V: Visitor>(
+    fn visit_second_suffix_group<V: Visitor>(
         &self,
         alloc: Global,
         prefixes: &[Option<u32>],
@@ -389,12 +395,12 @@ impl IndexedLexicon {
         let mut joined = Vec::new(alloc);
         let inner = ending.text(&mut joined)?;
         let seconds = self.undoable_outer(alloc, inner, ending.places())?;
-        self.visit_inside(alloc, prefixes, seconds.as_slice(), inner, visitor)
+        self.visit_inside_second_suffixes(alloc, prefixes, seconds.as_slice(), inner, visitor)
     }
 
     /// Shows the derivations with one of these prefixes and one of these second suffixes that have
     /// this word inside of them.
-    fn visit_inside<V: Visitor>(
+    fn visit_inside_second_suffixes<V: Visitor>(
         &self,
         alloc: Global,
         prefixes: &[Option<u32>],
@@ -414,12 +420,12 @@ impl IndexedLexicon {
         }
         let endings = peel(alloc, &self.tables.rules, Side::Suffix, inner)?;
         undoing_leads_back();
-        self.visit_firsts(alloc, prefixes, seconds, endings.as_slice(), visitor)
+        self.visit_first_suffix_groups(alloc, prefixes, seconds, endings.as_slice(), visitor)
     }
 
     /// Shows the derivations with one of these prefixes that have this word behind it, and no
     /// suffix.
-    fn visit_bare<V: Visitor>(
+    fn visit_without_suffix<V: Visitor>(
         &self,
         alloc: Global,
         prefixes: &[Option<u32>],
@@ -449,7 +455,7 @@ impl IndexedLexicon {
 
     /// Shows the derivations with one of these prefixes, one of these second suffixes, and a first
     /// one. Given are the groups of suffixes that may have made the word inside.
-    fn visit_firsts<V: Visitor>(
+    fn visit_first_suffix_groups<V: Visitor>(
         &self,
         alloc: Global,
         prefixes: &[Option<u32>],
@@ -464,7 +470,7 @@ impl IndexedLexicon {
             (V.sees visitor.old) (V.sees visitor.new)) }
     {
         for ending in endings {
-            if self.visit_first(alloc, prefixes, seconds, ending, visitor)? {
+            if self.visit_first_suffix_group(alloc, prefixes, seconds, ending, visitor)? {
                 return Ok(true);
             }
         }
@@ -473,7 +479,7 @@ impl IndexedLexicon {
 
     /// Shows those of them that have a first suffix of this group. What it leaves is looked up
     /// once, and rules are looked at only where that is an entry's word.
-    fn visit_first<V: Visitor>(
+    fn visit_first_suffix_group<V: Visitor>(
         &self,
         alloc: Global,
         prefixes: &[Option<u32>],
@@ -498,12 +504,12 @@ impl IndexedLexicon {
         }
         let mut joined = Vec::new(alloc);
         let stem = ending.text(&mut joined)?;
-        self.visit_rules(prefixes, ending.places(), seconds, stem, entries, visitor)
+        self.visit_first_suffixes(prefixes, ending.places(), seconds, stem, entries, visitor)
     }
 
     /// Shows the derivations with one of these prefixes, one of these second suffixes, and as first
     /// suffix one of these rules that may be attached to this, that come from one of these entries.
-    fn visit_rules<V: Visitor>(
+    fn visit_first_suffixes<V: Visitor>(
         &self,
         prefixes: &[Option<u32>],
         firsts: &[u32],
@@ -518,7 +524,7 @@ impl IndexedLexicon {
             (V.sees visitor.old) (V.sees visitor.new)) }
     {
         for first in firsts {
-            if self.visit_rule(prefixes, *first, seconds, rest, entries, visitor)? {
+            if self.visit_first_suffix(prefixes, *first, seconds, rest, entries, visitor)? {
                 return Ok(true);
             }
         }
@@ -526,7 +532,7 @@ impl IndexedLexicon {
     }
 
     /// Shows those of them that have this first suffix.
-    fn visit_rule<V: Visitor>(
+    fn visit_first_suffix<V: Visitor>(
         &self,
         prefixes: &[Option<u32>],
         first: u32,
@@ -658,7 +664,7 @@ fn visit_prefixes<V: Visitor>(
         (V.sees visitor.old) (V.sees visitor.new)) }
 {
     for prefix in prefixes {
-        if visit_seconds(lexicon, *prefix, first, seconds, entries, visitor)? {
+        if visit_second_suffixes(lexicon, *prefix, first, seconds, entries, visitor)? {
             return Ok(true);
         }
     }
@@ -666,7 +672,7 @@ fn visit_prefixes<V: Visitor>(
 }
 
 /// Shows those of them that have this prefix.
-fn visit_seconds<V: Visitor>(
+fn visit_second_suffixes<V: Visitor>(
     lexicon: &Lexicon,
     prefix: Option<u32>,
     first: Option<u32>,

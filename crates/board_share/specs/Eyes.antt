@@ -65,6 +65,13 @@ CountsOne event old new = new.counts ≡ counted (kind_of event) old.counts
 abbrev pub CountsNothing : EyeSeen → EyeSeen → Type 0
 CountsNothing old new = new.counts ≡ old.counts
 
+-- claims and finishes may be counted, and no other event is
+pub record CountsChecks (old new : EyeSeen) : Type 0 where
+  pub edits : new.counts.edits ≡ old.counts.edits
+  pub loads : new.counts.loads ≡ old.counts.loads
+  pub asks : new.counts.asks ≡ old.counts.asks
+  pub checks : old.counts.checks ≤ new.counts.checks
+
 -- an eye that a desk starts with: it knows the opening board alone
 abbrev pub fresh_eye : Seen → ℕ → EyeSeen
 fresh_eye opening number = record {

@@ -4,3 +4,4 @@ pub mod Namings
 pub mod Fronts
 pub mod Events
 pub mod Endings
+pub mod Settled

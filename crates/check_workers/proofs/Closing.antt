@@ -21,7 +21,7 @@ use Rattle.edit_core.specs.declared.state.Standing.TheVariants.{Waiting, Held, P
 use Rattle.board_share.specs.declared.claim.ClaimFault.{ClaimFault}
 use Rattle.board_share.specs.declared.claim.ClaimFault.TheVariants as fault
 use Rattle.check_workers.specs.Ends.{IsCutShort, IsLastPoint, IsPassedOver, refusal_of}
-use Rattle.check_workers.specs.Settled.{is_open_for}
+use Rattle.board_share.specs.Settled.{is_open_for}
 use Rattle.check_workers.proofs.Shown.{found-as}
 
 none-is-some : {X Y : Type 0} (x : X) → None ≡ Some x → Y

@@ -6,7 +6,7 @@ use Rattle.spell_types.specs.declared.Lexicon.{Lexicon}
 use Rattle.board_share.specs.Events.{KnowsCheck}
 use Rattle.edit_core.specs.Runs.{IsCheckOf}
 use Rattle.board_share.specs.Eyes.{EyeSeen, IsLater, entries_in}
-use Rattle.check_workers.specs.Knowing.{CountsChecks}
+use Rattle.board_share.specs.Eyes.{CountsChecks}
 use Rattle.check_workers.proofs.Prefixes.{prefix-self, prefix-trans}
 
 all-few : (n : ℕ) → n ≤ n

@@ -14,8 +14,10 @@ use Rattle.edit_core.specs.declared.state.Standing.{Standing}
 use Rattle.board_share.specs.Eyes.{EyeSeen, IsLater, last_of}
 use Rattle.board_share.specs.declared.claim.ClaimFault.{ClaimFault}
 use Rattle.board_share.specs.declared.claim.ClaimFault.TheVariants as fault
-use Rattle.check_workers.specs.Settled.{AreClosedIn, IsClosedAt, IsClosedIn, IsSettled}
-use Rattle.check_workers.specs.Settled.{HasOpen, IsBoardFault, IsSettledFrom, is_open_for}
+use Rattle.board_share.specs.Settled.{AreClosedIn, IsClosedIn, IsSettled}
+use Rattle.check_workers.specs.Settling.{IsClosedAt}
+use Rattle.board_share.specs.Settled.{is_open_for}
+use Rattle.check_workers.specs.Settling.{HasOpen, IsBoardFault, IsSettledFrom}
 use Rattle.check_workers.specs.Ends.{IsCutShort}
 use Rattle.check_workers.proofs.Prefixes.{prefix-self, prefix-trans}
 

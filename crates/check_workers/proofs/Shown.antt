@@ -14,7 +14,7 @@ use Rattle.edit_core.specs.declared.state.Standing.TheVariants as standing
 use Rattle.edit_core.specs.declared.view.ParaView.{ParaView}
 use Rattle.board_share.specs.declared.claim.Claim.{Claim}
 use Rattle.check_workers.specs.Ends.{why_for, why_of}
-use Rattle.check_workers.specs.Settled.{HasOpen}
+use Rattle.check_workers.specs.Settling.{HasOpen}
 use Rattle.check_workers.specs.Showing.{is_open_in, is_parked_in}
 use Rattle.check_workers.specs.declared.ends.Why.{Why}
 use Rattle.check_workers.specs.declared.ends.Why.TheVariants.{Gone}

@@ -73,8 +73,8 @@ abbrev pub IsTurnFault : EyeSeen → EyeSeen → ClaimFault → Type 0
 IsTurnFault old new (fault.Spent point) = IsSpentWorking old new point
 IsTurnFault old new fault.NoMemory = Unit {0}
 
--- why a worker ends: a note is found in the bell, or an event of its own may not come any more
-abbrev pub IsWorkEnd : {T : Type 0} → EyeSeen → EyeSeen → WorkEnd T → Type 0
-IsWorkEnd old new (work.Closed note) = Unit {0}
+-- why a worker ends: its bell is closed, or an event of its own may not come any more
+abbrev pub IsWorkEnd : EyeSeen → EyeSeen → WorkEnd → Type 0
+IsWorkEnd old new work.Closed = Unit {0}
 IsWorkEnd old new (work.Spent point) = IsSpentWorking old new point
 IsWorkEnd old new work.NoMemory = Unit {0}

@@ -1,5 +1,5 @@
 -- What a worker is, and what it knows of the history.
-use Rattle.std.specs.Prelude.{◌≡◌, ℕ, ◌≤◌, List, Option, IfSome}
+use Rattle.std.specs.Prelude.{◌≡◌, ℕ, List, Option, IfSome}
 use Rattle.std.specs.Arc.{arc_value}
 use mathlib.Core.List.{IsPrefix}
 use Rattle.spell_types.specs.declared.Lexicon.{Lexicon}
@@ -46,10 +46,3 @@ pub record KnowsBoard (run : Run) (board : Seen) : Type 0 where
   pub front : List Entry
   pub begins : IsPrefix front run.entries
   pub board_is : last_board run.opening front ≡ board
-
--- claims and finishes may be counted, and no other event is
-pub record CountsChecks (old new : EyeSeen) : Type 0 where
-  pub edits : new.counts.edits ≡ old.counts.edits
-  pub loads : new.counts.loads ≡ old.counts.loads
-  pub asks : new.counts.asks ≡ old.counts.asks
-  pub checks : old.counts.checks ≤ new.counts.checks

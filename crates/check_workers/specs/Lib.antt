@@ -1,5 +1,4 @@
 pub mod Knowing
 pub mod Showing
 pub mod Ends
-pub mod Settled
-pub mod Bells
+pub mod Settling

@@ -1,52 +1,36 @@
 //! What workers wait at where nothing waits for them.
 
-ghost use Rattle.std.specs.Prelude.{◌≡◌, ◌==◌, ◌&&◌, Some, is_some, not};
-ghost use Rattle.std.specs.Option.{option_or};
-ghost use Rattle.check_workers.specs.Bells.{IsHeard};
+ghost use Rattle.std.specs.Prelude.{◌≡◌, ◌==◌, ◌&&◌, Option, None, Some, not, true, if◌then◌else◌};
 
-use lists::NoMemory;
-use std::alloc::Global;
-use std::sync::{Arc, Condvar, Mutex, Wait};
+use std::sync::{Condvar, Mutex, Wait};
 
-/// Workers wait at it until it rings. It is closed by a note, which ends them. A worker that was
-/// awake when it rang does not sleep through the ring.
+/// Workers wait at it until it rings. Closing it ends them. A worker that was awake when it rang does
+/// not sleep through the ring.
 #[derive(Drop)]
-pub struct Bell<T> {
-    rings: Mutex<Rings<T>>,
+pub struct Bell {
+    rings: Mutex<Rings>,
     rung: Condvar,
 }
 
 /// What has happened to a bell.
 #[derive(Drop)]
-struct Rings<T> {
+struct Rings {
     /// How often it rang. It begins again behind the greatest number.
     count: u64,
-    /// The note that closed it.
-    note: Option<Arc<T>>,
+    is_closed: bool,
 }
 
-/// What a worker hears.
-#[derive(Drop)]
-pub(crate) enum Heard<T> {
-    /// The bell is open, and rang so often.
-    Open { count: u64 },
-    /// It is closed by this note.
-    Closed { note: Arc<T> },
-    /// It is closed, and memory for the note could not be had.
-    NoMemory,
-}
-
-impl<T: Drop + Send + Sync> Bell<T> {
+impl Bell {
     /// A bell that is open.
-    pub fn new(_alloc: Global) -> Result<Bell<T>, NoMemory> {
+    pub fn new() -> Bell {
         let rings = Rings {
             count: 0,
-            note: None,
+            is_closed: false,
         };
-        Ok(Bell {
+        Bell {
             rings: Mutex::new(rings),
             rung: Condvar::new(),
-        })
+        }
     }
 
     /// Wakes each worker that waits.
@@ -55,14 +39,14 @@ impl<T: Drop + Send + Sync> Bell<T> {
         self.rung.notify_all();
     }
 
-    /// Leaves a note, and wakes each worker that waits. The first note stays.
-    pub fn close(&self, rt: &impl Wait, note: Arc<T>) {
-        self.rings.lock(rt).close(note);
+    /// Closes the bell, and wakes each worker that waits.
+    pub fn close(&self, rt: &impl Wait) {
+        self.rings.lock(rt).close();
         self.rung.notify_all();
     }
 
-    /// What happened to the bell so far.
-    pub(crate) fn hear(&self, rt: &impl Wait) -> Heard<T> {
+    /// How often the bell rang so far, or none where it is closed.
+    pub(crate) fn hear(&self, rt: &impl Wait) -> Option<u64> {
         self.rings.lock(rt).heard()
     }
 
@@ -75,42 +59,37 @@ impl<T: Drop + Send + Sync> Bell<T> {
     }
 }
 
-impl<T: Drop> Rings<T> {
+impl Rings {
     /// Counts a ring, whose number is not the one before.
     fn ring(&mut self)
         ensures rung { ¬ (self.new.count ≡ self.old.count) }
-        ensures note { self.new.note ≡ self.old.note }
+        ensures same { self.new.is_closed ≡ self.old.is_closed }
     {
         self.count = self.count.wrapping_add(1);
     }
 
-    /// Leaves a note, where there is none.
-    fn close(&mut self, note: Arc<T>)
-        ensures note { self.new.note ≡ option_or self.old.note (Some note) }
+    /// Closes it.
+    fn close(&mut self)
+        ensures closed { self.new.is_closed ≡ true }
         ensures count { self.new.count ≡ self.old.count }
     {
-        if self.note.is_none() {
-            self.note = Some(note);
-        }
+        self.is_closed = true;
     }
 
-    /// What has happened so far.
-    fn heard(&self) -> Heard<T>
-        ensures { IsHeard self.now result }
+    /// How often it rang, or none where it is closed.
+    fn heard(&self) -> Option<u64>
+        ensures { result ≡ (if self.now.is_closed then None else Some self.now.count) }
     {
-        let Some(note) = &self.note else {
-            return Heard::Open { count: self.count };
-        };
-        match Arc::try_clone(note) {
-            Ok(note) => Heard::Closed { note },
-            Err(_wanting) => Heard::NoMemory,
+        if self.is_closed {
+            return None;
         }
+        Some(self.count)
     }
 
     /// Whether nothing has happened behind so many rings.
     fn is_as_heard(&self, count: u64) -> bool
-        ensures { result ≡ (not (is_some self.now.note) && (self.now.count == count)) }
+        ensures { result ≡ (not self.now.is_closed && (self.now.count == count)) }
     {
-        self.note.is_none() && self.count == count
+        !self.is_closed && self.count == count
     }
 }

@@ -23,7 +23,7 @@ fn need_all<J: Judge + Drop + Send + Sync, D: Naming + Send + Sync, K: Sync>(
 }
 
 /// Asks it of a bell, which threads share, and of what a worker ends with.
-fn need_bell<T: Send + Sync>(bell: &Bell<T>, end: &WorkEnd<T>) {
+fn need_bell(bell: &Bell, end: &WorkEnd) {
     need_both(bell);
     need_both(end);
 }

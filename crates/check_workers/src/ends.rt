@@ -5,7 +5,6 @@ ghost use Rattle.check_workers.specs.declared.ends.CheckEnd.TheVariants.{NoMemor
 
 use lists::NoMemory;
 use std::alloc::AllocError;
-use std::sync::Arc;
 
 /// Why the check of a claim is not wanted any more. Of several causes the first in this order is
 /// told.
@@ -47,12 +46,12 @@ impl From<AllocError> for CheckEnd {
 }
 
 /// Why a worker ends.
-#[derive(Drop)]
-pub enum WorkEnd<T> {
-    /// The bell is closed, and this note was in it.
-    Closed { note: Arc<T> },
+#[derive(Clone, Copy, Debug, PartialEq, Eq)]
+pub enum WorkEnd {
+    /// The bell is closed.
+    Closed,
     /// The history has come to its last point, which is this one: 2^62.
     Spent { point: u64 },
-    /// Memory for a claim, for its check, for a finish or for the note could not be had.
+    /// Memory for a claim, for its check or for a finish could not be had.
     NoMemory,
 }

@@ -9,8 +9,9 @@ ghost use Rattle.edit_core.specs.declared.refusal.Refusal.TheVariants.{NoMemory 
 ghost use Rattle.board_share.specs.Events.{IsPublished};
 ghost use Rattle.board_share.specs.Eyes.{CountsNothing, CountsOne, IsLater, last_of};
 ghost use Rattle.check_workers.specs.Ends.{IsCutShort, IsPassedOver, refusal_of};
-ghost use Rattle.check_workers.specs.Knowing.{CountsChecks, KnowsClaim};
-ghost use Rattle.check_workers.specs.Settled.{is_open_for};
+ghost use Rattle.board_share.specs.Eyes.{CountsChecks};
+ghost use Rattle.check_workers.specs.Knowing.{KnowsClaim};
+ghost use Rattle.board_share.specs.Settled.{is_open_for};
 
 use crate::laws::finishes_close;
 use board_share::{Claim, ClaimFault, Desk, Eye, Naming, Told};

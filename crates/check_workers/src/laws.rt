@@ -8,7 +8,7 @@ ghost use Rattle.board_share.specs.Events.{IsClaimed, IsPublished, KnowsCheck};
 ghost use Rattle.board_share.specs.Eyes.{EyeSeen, IsLater, last_of};
 ghost use Rattle.board_share.specs.declared.told.Told.{Told};
 ghost use Rattle.board_share.specs.declared.claim.Claim.{Claim};
-ghost use Rattle.check_workers.specs.Settled.{is_open_for};
+ghost use Rattle.board_share.specs.Settled.{is_open_for};
 ghost use Rattle.check_workers.specs.Knowing.{KnowsClaim, KnowsLexicon};
 
 use edit_core::{fronts_are_runs, ids_name_paragraphs, runs_go_on, runs_only_grow};

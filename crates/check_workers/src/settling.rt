@@ -5,9 +5,11 @@ ghost use Rattle.std.specs.Arc.{arc_value};
 ghost use Rattle.edit_core.specs.Runs.{Run};
 ghost use Rattle.edit_core.specs.Views.{Shows, shown_in};
 ghost use Rattle.board_share.specs.Eyes.{IsLater, last_of};
-ghost use Rattle.check_workers.specs.Knowing.{CountsChecks, KnowsBoard, KnowsClaim};
-ghost use Rattle.check_workers.specs.Settled.{IsBoardFault, IsClosedAt, IsSettleFault, IsSettled};
-ghost use Rattle.check_workers.specs.Settled.{IsSettledFrom, told_at};
+ghost use Rattle.board_share.specs.Eyes.{CountsChecks};
+ghost use Rattle.check_workers.specs.Knowing.{KnowsBoard, KnowsClaim};
+ghost use Rattle.board_share.specs.Settled.{IsSettled};
+ghost use Rattle.check_workers.specs.Settling.{IsBoardFault, IsClosedAt, IsSettleFault};
+ghost use Rattle.check_workers.specs.Settling.{IsSettledFrom, told_at};
 ghost use Rattle.check_workers.specs.Showing.{is_open_in};
 
 use crate::finishing::finish_if_wanted;

@@ -10,7 +10,8 @@ ghost use Rattle.edit_core.specs.declared.refusal.Refusal.TheVariants.{NoMemory 
 ghost use Rattle.board_share.specs.Events.{IsClaimFault, IsClaimed, IsPublished, NoneWaits};
 ghost use Rattle.board_share.specs.Eyes.{CountsNothing, CountsOne, IsLater, counted, last_of};
 ghost use Rattle.check_workers.specs.Ends.{IsCheckEnd, IsCutShort};
-ghost use Rattle.check_workers.specs.Knowing.{CountsChecks, KnowsClaim};
+ghost use Rattle.board_share.specs.Eyes.{CountsChecks};
+ghost use Rattle.check_workers.specs.Knowing.{KnowsClaim};
 
 use crate::checks::check_through;
 use crate::ends::CheckEnd;

@@ -1,11 +1,10 @@
 //! A worker that goes on until its bell is closed.
 
 ghost use Rattle.std.specs.Prelude.{◌≡◌, IfErr};
-ghost use Rattle.board_share.specs.Eyes.{IsLater};
+ghost use Rattle.board_share.specs.Eyes.{CountsChecks, IsLater};
 ghost use Rattle.check_workers.specs.Ends.{IsTurnFault, IsWorkEnd};
-ghost use Rattle.check_workers.specs.Knowing.{CountsChecks};
 
-use crate::bell::{Bell, Heard};
+use crate::bell::Bell;
 use crate::ends::{CheckEnd, WorkEnd};
 use crate::worker::Worker;
 use board_share::{ClaimFault, Desk, Naming};
@@ -26,23 +25,15 @@ impl<J: Judge + Drop, D: Naming, R: Wait + Drop> Worker<'_, J, D, Desk<J, D, R>>
     /// Claims, checks and finishes one paragraph after another, until the bell is closed. It waits
     /// for the bell where no paragraph waits. A check that is not wanted any more is dropped. What
     /// it claimed and finished stays so, however it ends.
-    pub fn work<G: Gate, T: Drop + Send + Sync>(
-        &mut self,
-        rt: &impl Wait,
-        alloc: Global,
-        gate: &G,
-        bell: &Bell<T>,
-    ) -> WorkEnd<T>
+    pub fn work<G: Gate>(&mut self, rt: &impl Wait, alloc: Global, gate: &G, bell: &Bell) -> WorkEnd
         ensures number { self.new.number ≡ self.old.number }
         ensures later { IsLater self.old.eye self.new.eye }
         ensures counts { CountsChecks self.old.eye self.new.eye }
         ensures end { IsWorkEnd self.old.eye self.new.eye result }
     {
         for _ in rt.forever() {
-            let count = match bell.hear(rt) {
-                Heard::Open { count } => count,
-                Heard::Closed { note } => return WorkEnd::Closed { note },
-                Heard::NoMemory => return WorkEnd::NoMemory,
+            let Some(count) = bell.hear(rt) else {
+                return WorkEnd::Closed;
             };
             match self.turn(rt, alloc, gate) {
                 Ok(Turn::Worked) => {}

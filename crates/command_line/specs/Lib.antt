@@ -1,10 +1,3 @@
 pub mod Operands
-pub mod Failures
 pub mod Requests
-pub mod Listings
-pub mod Due
-pub mod Teams
-pub mod TeamLoads
-pub mod Ends
 pub mod Forms
-pub mod Given

@@ -1,15 +1,17 @@
 -- What the words of a command line ask for: one form of words for each command, a name, its
 -- operands, and options behind them.
-use Rattle.std.specs.Prelude.{ℕ, nat_le, ◌&&◌, List, [], ◌∷◌, length, codes, Option}
-use Rattle.std.specs.Prelude.{Some, None, if◌then◌else◌}
+use Rattle.std.specs.Prelude.{ℕ, nat_le, List, [], ◌∷◌, length, codes, Option, Some, None}
+use Rattle.std.specs.Prelude.{if◌then◌else◌}
 use Rattle.std.specs.Option.{option_map}
 use Rattle.std.specs.Str.{bytes_eq}
 use Rattle.text_lines.specs.Fields.{decimal_of}
-use Rattle.command_line.specs.Operands.{DictionaryNamed, Said, StartAndSize}
+use Rattle.file_loading.specs.Operands.{DictionaryNamed}
+use Rattle.command_line.specs.Operands.{Said}
 use Rattle.command_line.specs.declared.requests.Request.{Request}
 use Rattle.command_line.specs.declared.requests.Request.TheVariants.{Check, Make, Edit, Listing}
 use Rattle.command_line.specs.declared.requests.Request.TheVariants.{Pipe, Team}
-use Rattle.command_line.specs.declared.limits.TheConstants.{MOST_WORKERS}
+use Rattle.file_loading.specs.declared.limits.TheConstants.{MOST_WORKERS}
+use Rattle.report_forms.specs.Operands.{of_numbers}
 
 -- ---- options
 
@@ -62,16 +64,6 @@ check_in (aff ∷ dic ∷ document ∷ options) =
     (λ said. Check (record { dictionary = named aff dic said; document = document }) said.workers)
     (options_in options)
 check_in _ = None
-
--- the greatest size that is made
-abbrev pub size_limit : ℕ
-size_limit = 50000
-
-abbrev pub of_numbers : Option ℕ → Option ℕ → Option StartAndSize
-of_numbers (Some start) (Some size) =
-    if nat_le 1 size && nat_le size size_limit then Some (record { start = start; size = size })
-    else None
-of_numbers _ _ = None
 
 -- `make START SIZE`
 abbrev pub make_in : List (List ℕ) → Option Request

@@ -2,17 +2,10 @@
 //! ends.
 #![tactic(auto)]
 
-mod ending;
-mod failure;
-mod forms;
-mod limits;
-mod loading;
-mod making;
-mod names;
+mod operands;
 mod options;
 mod requests;
 mod top_call;
 
-pub use ending::{Ended, put_wanting};
-pub use limits::{DOCUMENT_LIMIT, MOST_FORMS, MOST_WORKERS};
+pub use file_loading::{Ended, put_wanting};
 pub use top_call::{run, run_check};

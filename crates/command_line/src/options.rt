@@ -1,43 +1,14 @@
 //! The options behind the operands of a form of words.
 
-ghost use Rattle.std.specs.Prelude.{◌≡◌, ◌≤◌, map};
+ghost use Rattle.std.specs.Prelude.{◌≡◌, map};
 ghost use Rattle.std.specs.Option.{option_copied, option_map};
 ghost use Rattle.std.specs.String.{string_bytes};
-ghost use Rattle.command_line.specs.Requests.{only_workers_in, options_in, own_in, workers_in};
-ghost use Rattle.command_line.specs.declared.limits.TheConstants.{MOST_WORKERS};
+ghost use Rattle.command_line.specs.Requests.{named, only_workers_in, options_in, own_in};
+ghost use Rattle.command_line.specs.Requests.{workers_in};
 
-use crate::limits::MOST_WORKERS;
+use file_loading::{DictionaryNames, Workers};
 use std::marker::Model;
 use text_lines::decimal;
-
-/// How many workers words ask for: 0 to 16. Contracts see the number.
-#[derive(Clone, Copy)]
-pub struct Workers {
-    count: u64,
-}
-
-impl Model for Workers {
-    ghost use Rattle.std.specs.Prelude.{ℕ, ◌≤◌};
-    ghost use Rattle.command_line.specs.declared.limits.TheConstants.{MOST_WORKERS};
-
-    ghost Value = { ℕ };
-
-    ghost view = { λ inside. inside.count };
-
-    ghost inverse = { λ number. record { count = number } };
-
-    ghost invariant = { λ inside. inside.count ≤ MOST_WORKERS };
-}
-
-impl Workers {
-    /// The number, which is 16 at most.
-    pub fn count(self) -> u64
-        ensures is { result ≡ self }
-        ensures few { result ≤ MOST_WORKERS }
-    {
-        self.count
-    }
-}
 
 /// What options say. Contracts see it.
 #[derive(Drop)]
@@ -71,7 +42,7 @@ pub fn options_of(words: &[String]) -> Option<Options<'_>>
         _ => {
             let own = own_of(words)?;
             Some(Options {
-                workers: Workers { count: 0 },
+                workers: Workers::none(),
                 own,
             })
         }
@@ -83,7 +54,7 @@ pub fn only_workers_of(words: &[String]) -> Option<Workers>
     ensures { result ≡ only_workers_in (map string_bytes words.now) }
 {
     match words {
-        [] => Some(Workers { count: 0 }),
+        [] => Some(Workers::none()),
         [name, number] if name.as_str() == "--workers" => workers_of(number.as_str()),
         _ => None,
     }
@@ -97,8 +68,8 @@ fn workers_of(number: &str) -> Option<Workers>
         return None;
     }
     match decimal(number) {
-        Some(count) if count <= MOST_WORKERS => Some(Workers { count }),
-        _ => None,
+        Some(count) => Workers::of(count),
+        None => None,
     }
 }
 
@@ -110,5 +81,16 @@ fn own_of(words: &[String]) -> Option<Option<&str>>
         [] => Some(None),
         [name, own] if name.as_str() == "--own" => Some(Some(own.as_str())),
         _ => None,
+    }
+}
+
+/// The names of a dictionary's files, with the personal list that these options name.
+pub fn named<'a>(aff: &'a str, dic: &'a str, options: &Options<'a>) -> DictionaryNames<'a>
+    ensures { result ≡ named aff.now dic.now options.now }
+{
+    DictionaryNames {
+        aff,
+        dic,
+        own: options.own,
     }
 }

@@ -4,14 +4,12 @@ ghost use Rattle.std.specs.Prelude.{◌≡◌, map};
 ghost use Rattle.std.specs.String.{string_bytes};
 ghost use Rattle.command_line.specs.Requests.{asked_in};
 
-use crate::forms::check::{CheckNames, check_of};
-use crate::forms::edit::edit_of;
-use crate::forms::listing::{ListedNames, listing_of};
-use crate::forms::make::{Making, make_of};
-use crate::forms::pipe::pipe_of;
-use crate::forms::team::{TeamNames, team_of};
-use crate::names::DictionaryNames;
-use crate::options::Workers;
+use crate::operands::{check_of, edit_of, listing_of, make_of, pipe_of, team_of};
+use file_loading::{DictionaryNames, Workers};
+use report_forms::check::CheckNames;
+use report_forms::listing::ListedNames;
+use report_forms::make::Making;
+use team_forms::team::TeamNames;
 
 /// What words may ask for, one variant for each form of words.
 #[derive(Drop)]

@@ -1,32 +1,33 @@
 //! The top call: what the program does, from its words to its exit status.
 
-ghost use Rattle.std.specs.Prelude.{◌≡◌, ℕ, ◌<◌, ◌≤◌, ◌⊎◌, map, List, Option, None};
+ghost use Rattle.std.specs.Prelude.{◌≡◌, ℕ, ◌<◌, ◌≤◌, ◌⊎◌, map, Option, None};
 ghost use Rattle.std.specs.String.{string_bytes};
 ghost use Rattle.outside.specs.Files.{Folder};
 ghost use Rattle.outside.specs.Sink.{Appends};
 ghost use Rattle.input_lines.specs.Ends.{Reading};
-ghost use Rattle.command_line.specs.Ends.{EndsAs, sink_status};
-ghost use Rattle.command_line.specs.Failures.{last_line};
-ghost use Rattle.command_line.specs.Forms.{IsAnswerTo, IsClosedAfter, IsUntouched, Met, form_of};
-ghost use Rattle.command_line.specs.Forms.{without_input};
+ghost use Rattle.file_loading.specs.Ends.{EndsAs, sink_status};
+ghost use Rattle.file_loading.specs.Failures.{last_line};
+ghost use Rattle.command_line.specs.Forms.{IsAnswerTo, form_of, without_input};
+ghost use Rattle.file_loading.specs.Forms.{IsClosedAfter, IsUntouched, Met};
 ghost use Rattle.command_line.specs.Requests.{asked_in};
-ghost use Rattle.command_line.specs.declared.failure.Failure.TheVariants.{Load};
+ghost use Rattle.file_loading.specs.declared.failure.Failure.TheVariants.{Load};
 ghost use Rattle.dictionary_swap.specs.declared.fault.LoadFault.TheVariants.{Missing};
 
-use crate::ending::{End, Ended, put_end};
-use crate::failure::Failure;
-use crate::forms::check::check;
-use crate::forms::edit::edit;
-use crate::forms::listing::list_forms;
-use crate::forms::make::make;
-use crate::forms::pipe::pipe;
-use crate::forms::team::team;
 use crate::requests::{Request, request_of};
-use desk_dialogue::Place;
+use board_share::Closed;
+use file_loading::{End, Ended, Failure, put_end};
+use line_forms::edit::edit;
+use line_forms::pipe::pipe;
 use outside::{Files, Gate, Sink, Source};
+use report_forms::check::check;
+use report_forms::listing::list_forms;
+use report_forms::make::make;
 use std::alloc::Global;
 use std::sync::Wait;
 use std::thread::Threads;
+use team_forms::team::team;
+use word_verdict::Speller;
+use worker_crew::Place;
 
 /// Does what the words ask for, and tells how it ended. `words` are the arguments without the
 /// program's name; everything that is printed goes to `out`. Each check of a worker passes the gate.
@@ -38,7 +39,7 @@ pub fn run<R, F, S, K, G>(
     input: &mut S,
     out: &mut K,
     gate: &G,
-) -> Ended
+) -> Ended<Closed<Speller>>
 where
     R: Threads + Wait + Sync,
     F: Files + Send,
@@ -104,7 +105,7 @@ fn answer<R, F, S, K, G>(
     files: &mut F,
     input: &mut S,
     out: &mut K,
-) -> Ended
+) -> Ended<Closed<Speller>>
 where
     R: Threads + Wait + Sync,
     F: Files,
@@ -158,7 +159,7 @@ where
 }
 
 /// The end of a call that opens no desk.
-fn told(status: u8) -> Ended
+fn told(status: u8) -> Ended<Closed<Speller>>
     ensures status { result.status ≡ status }
     ensures closed { result.closed ≡ None }
 {

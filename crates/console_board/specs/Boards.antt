@@ -3,7 +3,7 @@ use Rattle.std.specs.Prelude.{map}
 use Rattle.edit_core.specs.Seen.{Seen}
 use Rattle.edit_core.specs.declared.state.Standing.{Standing}
 use Rattle.edit_core.specs.declared.state.Standing.TheVariants as standing
-use Rattle.own_dictionary.specs.Dictionaries.{OwnSeen}
+use Rattle.personal_words.specs.Dictionaries.{OwnSeen}
 use Rattle.console_board.specs.OwnConsoles.{OwnConsole}
 use Rattle.console_board.specs.Consoles.{Console, TextState, Waiting, Finished, Parked}
 

@@ -12,7 +12,7 @@ use Rattle.edit_core.specs.declared.event.EventKind.TheVariants as kind
 use Rattle.board_share.specs.Eyes.{EyeSeen, IsLater, counted, entries_in, events_in, last_of}
 use Rattle.board_share.specs.declared.counts.Counts.{Counts}
 use Rattle.board_share.specs.declared.told.Told.{Told as ToldOf}
-use Rattle.check_workers.specs.Knowing.{CountsChecks}
+use Rattle.board_share.specs.Eyes.{CountsChecks}
 use Rattle.console_history.specs.Told.{Looks, Publishes, Settles}
 use Rattle.console_history.proofs.Stretches.{CoreLaws, IsIdle}
 

@@ -10,7 +10,7 @@ use Rattle.std.proofs.lemmas.List.FromFn.{get_or-range_with_len, length-range_wi
 use Rattle.std.proofs.lemmas.List.Sorted.{All-permutation, IsPermutation-sym}
 use Rattle.std.proofs.lemmas.List.Sums.{sum_by-cons}
 use Rattle.spell_types.specs.JointLaws.{nat-own}
-use Rattle.own_dictionary.specs.Dictionaries.{OwnSeen, in_force}
+use Rattle.personal_words.specs.Dictionaries.{OwnSeen, in_force}
 use Rattle.edit_core.specs.Runs.{AreSteps, Entry, Run, asked_by, asked_of, entries_through}
 use Rattle.edit_core.specs.Runs.{IsRun, is_quiet, last_board}
 use Rattle.edit_core.specs.declared.limits.TheConstants.{MOST_MOVED}

@@ -7,14 +7,14 @@ use Rattle.spell_types.specs.declared.Lexicon.{Lexicon}
 use Rattle.personal_words.specs.declared.items.OwnItem.{OwnItem}
 use Rattle.personal_words.specs.declared.faults.OwnLineWhy.{OwnLineWhy}
 use Rattle.personal_words.specs.Lists.{added}
-use Rattle.own_dictionary.specs.Dictionaries.{OwnSeen, in_force}
+use Rattle.personal_words.specs.Dictionaries.{OwnSeen, in_force}
 use Rattle.dictionary_swap.specs.Loads.{lexicon_due}
 use Rattle.dictionary_swap.specs.declared.fault.LoadFault.{LoadFault}
 use Rattle.edit_core.specs.Events.{ALoad}
 use Rattle.edit_core.specs.Runs.{AreQuiet, Entry, last_board}
 use Rattle.edit_core.specs.Seen.{Seen}
 use Rattle.board_share.specs.Eyes.{EyeSeen, last_of}
-use Rattle.check_workers.specs.Settled.{AreClosedIn}
+use Rattle.board_share.specs.Settled.{AreClosedIn}
 use Rattle.console_lang.specs.declared.command.Command.{Command}
 use Rattle.console_lang.specs.declared.command.Command.TheVariants.{Load, Own, Quit}
 use Rattle.console_lang.specs.declared.command.Command.TheVariants.{Settle, Show}

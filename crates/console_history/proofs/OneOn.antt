@@ -6,14 +6,14 @@ use Rattle.spell_types.specs.declared.Lexicon.{Lexicon}
 use Rattle.personal_words.specs.declared.items.OwnItem.{OwnItem}
 use Rattle.personal_words.specs.declared.faults.OwnLineWhy.{OwnLineWhy}
 use Rattle.personal_words.specs.Lists.{added}
-use Rattle.own_dictionary.specs.Dictionaries.{in_force}
+use Rattle.personal_words.specs.Dictionaries.{in_force}
 use Rattle.dictionary_swap.specs.Loads.{lexicon_due}
 use Rattle.dictionary_swap.specs.declared.fault.LoadFault.{LoadFault}
 use Rattle.edit_core.specs.Events.{SeenEvent, ALoad}
 use Rattle.edit_core.specs.Runs.{asked_of, is_quiet}
 use Rattle.board_share.specs.Eyes.{EyeSeen, IsLater, entries_in, events_in, last_of}
 use Rattle.board_share.specs.declared.told.Told.{Told as ToldOf}
-use Rattle.check_workers.specs.Knowing.{CountsChecks}
+use Rattle.board_share.specs.Eyes.{CountsChecks}
 use Rattle.console_lang.specs.declared.command.Command.{Command}
 use Rattle.console_lang.specs.declared.command.Command.TheVariants.{Load, Own, Show, Settle, Quit}
 use Rattle.console_lang.specs.declared.reply.Reply.{Reply}

@@ -4,7 +4,7 @@ use Rattle.std.proofs.Common.{map}
 use Rattle.std.specs.List.{AllZip}
 use Rattle.std.proofs.lemmas.Bool.{false≢true}
 use Rattle.paragraph_text.specs.Paragraphs.{Paragraph}
-use Rattle.own_dictionary.specs.Dictionaries.{OwnSeen}
+use Rattle.personal_words.specs.Dictionaries.{OwnSeen}
 use Rattle.edit_core.specs.Runs.{AreQuiet, AreSteps, Entry, IsQuiet, MayBecome, last_board}
 use Rattle.edit_core.specs.Seen.{Seen}
 use Rattle.edit_core.specs.declared.state.Standing.{Standing}

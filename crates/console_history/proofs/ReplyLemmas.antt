@@ -6,7 +6,7 @@ use Rattle.spell_types.specs.declared.Lexicon.{Lexicon}
 use Rattle.personal_words.specs.declared.items.OwnItem.{OwnItem}
 use Rattle.personal_words.specs.declared.faults.OwnLineWhy.{OwnLineWhy}
 use Rattle.personal_words.specs.Lists.{added}
-use Rattle.own_dictionary.specs.Dictionaries.{OwnSeen, in_force}
+use Rattle.personal_words.specs.Dictionaries.{OwnSeen, in_force}
 use Rattle.dictionary_swap.specs.Loads.{lexicon_due}
 use Rattle.dictionary_swap.specs.declared.fault.LoadFault.{LoadFault}
 use Rattle.edit_core.specs.Events.{SeenEvent, ALoad}

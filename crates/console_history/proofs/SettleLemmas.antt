@@ -13,7 +13,7 @@ use Rattle.edit_core.specs.Seen.{IsValidBoard, Seen}
 use Rattle.edit_core.specs.Steps.{found, is_open, place_of}
 use Rattle.edit_core.specs.declared.state.Standing.{Standing}
 use Rattle.edit_core.specs.declared.state.Standing.TheVariants as standing
-use Rattle.check_workers.specs.Settled.{AreClosedIn, IsClosedIn, is_open_for}
+use Rattle.board_share.specs.Settled.{AreClosedIn, IsClosedIn, is_open_for}
 use Rattle.console_board.specs.Boards.{console_of, state_of}
 use Rattle.console_board.specs.Consoles.{settled, settled_state}
 use Rattle.console_history.proofs.QuietLemmas.{WorkersKeepTexts, quiet-parts}

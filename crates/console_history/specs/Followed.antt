@@ -7,7 +7,7 @@ use Rattle.spell_types.specs.declared.Lexicon.{Lexicon}
 use Rattle.personal_words.specs.declared.items.OwnItem.{OwnItem}
 use Rattle.personal_words.specs.declared.faults.OwnLineWhy.{OwnLineWhy}
 use Rattle.personal_words.specs.Lists.{added}
-use Rattle.own_dictionary.specs.Dictionaries.{OwnSeen, in_force}
+use Rattle.personal_words.specs.Dictionaries.{OwnSeen, in_force}
 use Rattle.dictionary_swap.specs.Loads.{DictionaryFiles, lexicon_due}
 use Rattle.dictionary_swap.specs.declared.fault.LoadFault.{LoadFault}
 use Rattle.edit_core.specs.Events.{SeenEvent, ALoad}
@@ -15,7 +15,7 @@ use Rattle.edit_core.specs.Runs.{AreQuiet, Entry, IsRun, Run, last_board}
 use Rattle.edit_core.specs.Seen.{Seen, opening_of}
 use Rattle.edit_core.specs.Steps.{first_refusal}
 use Rattle.edit_core.specs.declared.refusal.Refusal.{Refusal}
-use Rattle.check_workers.specs.Settled.{AreClosedIn}
+use Rattle.board_share.specs.Settled.{AreClosedIn}
 use Rattle.console_lang.specs.declared.command.Command.{Command}
 use Rattle.console_lang.specs.declared.command.Command.TheVariants.{Load, Own, Show, Settle, Quit}
 use Rattle.console_lang.specs.declared.reply.Reply.{Reply}

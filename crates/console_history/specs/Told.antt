@@ -7,7 +7,7 @@ use Rattle.spell_types.specs.declared.Lexicon.{Lexicon}
 use Rattle.personal_words.specs.declared.items.OwnItem.{OwnItem}
 use Rattle.personal_words.specs.declared.faults.OwnLineWhy.{OwnLineWhy}
 use Rattle.personal_words.specs.Lists.{added}
-use Rattle.own_dictionary.specs.Dictionaries.{OwnSeen, in_force}
+use Rattle.personal_words.specs.Dictionaries.{OwnSeen, in_force}
 use Rattle.dictionary_swap.specs.Loads.{DictionaryFiles, lexicon_due}
 use Rattle.dictionary_swap.specs.declared.fault.LoadFault.{LoadFault}
 use Rattle.edit_core.specs.Events.{SeenEvent, ALoad}
@@ -18,8 +18,8 @@ use Rattle.board_share.specs.Events.{IsPublished}
 use Rattle.board_share.specs.Eyes.{EyeSeen, IsLater, CountsOne, CountsNothing, events_in}
 use Rattle.board_share.specs.Eyes.{last_of}
 use Rattle.board_share.specs.declared.told.Told.{Told as ToldOf}
-use Rattle.check_workers.specs.Knowing.{CountsChecks}
-use Rattle.check_workers.specs.Settled.{IsSettled}
+use Rattle.board_share.specs.Eyes.{CountsChecks}
+use Rattle.board_share.specs.Settled.{IsSettled}
 use Rattle.console_lang.specs.declared.command.Command.{Command}
 use Rattle.console_lang.specs.declared.command.Command.TheVariants.{Load, Own, Show, Settle, Quit}
 use Rattle.console_lang.specs.declared.reply.Reply.{Reply}

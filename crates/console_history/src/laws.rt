@@ -4,7 +4,7 @@ ghost use Rattle.std.specs.Prelude.{◌≡◌, ◌+◌, ◌^◌, ◌<◌, ◌⊎
 ghost use Rattle.std.specs.Prelude.{map, false, All, Contains, IsPermutation, Option};
 ghost use Rattle.std.specs.List.{range_with_len};
 ghost use Rattle.outside.specs.Files.{Folder};
-ghost use Rattle.own_dictionary.specs.Dictionaries.{OwnSeen, in_force};
+ghost use Rattle.personal_words.specs.Dictionaries.{OwnSeen, in_force};
 ghost use Rattle.edit_core.specs.Runs.{AreSteps, Entry, IsRun, Run, asked_of, is_quiet};
 ghost use Rattle.edit_core.specs.Seen.{IsValidBoard, Seen, opening_of};
 ghost use Rattle.board_share.specs.Endings.{IsTheirs};
@@ -19,7 +19,7 @@ ghost use Rattle.console_history.specs.Followed.{AreBetween, Follows, Given, IsC
 ghost use Rattle.console_history.specs.Told.{GoesOneOn, IsToldOne, IsToldTo, Looks, Publishes};
 ghost use Rattle.console_history.specs.Told.{Seat, Told};
 ghost use Rattle.board_share.specs.declared.told.Told.{Told as ToldOf};
-ghost use Rattle.check_workers.specs.Knowing.{CountsChecks};
+ghost use Rattle.board_share.specs.Eyes.{CountsChecks};
 ghost use Rattle.edit_core.specs.Events.{SeenEvent};
 
 use console_board::commands_are_their_events;

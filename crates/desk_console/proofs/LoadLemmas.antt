@@ -8,9 +8,8 @@ use Rattle.spell_types.specs.declared.Lexicon.{Lexicon}
 use Rattle.personal_words.specs.declared.items.OwnItem.{OwnItem}
 use Rattle.personal_words.specs.declared.faults.OwnLineFault.TheVariants.{Why}
 use Rattle.personal_words.specs.declared.faults.OwnLineWhy.{OwnLineWhy}
-use Rattle.personal_words.specs.Extended.{extended}
 use Rattle.personal_words.specs.Lists.{IsAdded, IsRefused, added}
-use Rattle.own_dictionary.specs.Dictionaries.{OwnSeen, in_force}
+use Rattle.personal_words.specs.Dictionaries.{OwnSeen}
 use Rattle.dictionary_swap.specs.Loads.{DictionaryFiles, MayCome, lexicon_due, found_in}
 use Rattle.dictionary_swap.specs.declared.fault.LoadFault.{LoadFault}
 use Rattle.dictionary_swap.specs.declared.fault.LoadFault.TheVariants.{Failed, NoMemory}
@@ -82,13 +81,6 @@ faults-load {told} {before} {after} {fault = fault} {reply = reply} due other is
     (failed-or-due fault other files.2)
 
 -- ---- `own`
-
--- what a line adds does not depend on the words that extend the base
-pub same-added : (dictionary : OwnSeen) (text : List ℕ) {lexicon : Lexicon} {own : List OwnItem}
-    → lexicon ≡ in_force dictionary → own ≡ dictionary.own
-    → added lexicon.affixes own text ≡ added dictionary.base.affixes dictionary.own text
-unfolding added extended
-same-added dictionary text is also = λ i. added (is i).affixes (also i) text
 
 -- an item comes into force behind the others
 pub own-added : (before after : Seat) (text : List ℕ) (item : OwnItem) {made : OwnSeen}

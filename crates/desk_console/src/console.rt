@@ -18,7 +18,7 @@ pub const SESSION: u32 = 0;
 pub struct DeskConsole<'a, J: Judge + Drop, O: Drop, D: Naming, W: Wait + Drop, R: Wait> {
     pub(crate) rt: &'a R,
     pub(crate) desk: &'a Desk<J, D, W>,
-    pub(crate) bell: &'a Bell<()>,
+    pub(crate) bell: &'a Bell,
     pub(crate) eye: Eye<J, D>,
     pub(crate) dictionary: O,
     /// Why it has stopped, if it has.
@@ -37,7 +37,7 @@ impl<'a, J: Judge + Drop, O: Drop, D: Naming, W: Wait + Drop, R: Wait> DeskConso
     pub fn new(
         rt: &'a R,
         desk: &'a Desk<J, D, W>,
-        bell: &'a Bell<()>,
+        bell: &'a Bell,
         eye: Eye<J, D>,
         dictionary: O,
     ) -> DeskConsole<'a, J, O, D, W, R>

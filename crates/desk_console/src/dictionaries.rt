@@ -1,13 +1,12 @@
 //! What the commands of a console do that change its dictionary.
 
 ghost use Rattle.std.specs.Prelude.{◌≡◌, ◌+◌, ◌≤◌, [], ◌∷◌, IfErr, IfOk, false};
-ghost use Rattle.own_dictionary.specs.Dictionaries.{IsBase};
+ghost use Rattle.personal_words.specs.Dictionaries.{IsBase};
 ghost use Rattle.console_board.specs.Transcripts.{failures_in, is_no_files};
 ghost use Rattle.console_history.specs.Told.{IsLoadTold, IsOwnTold, IsReloadTold};
 ghost use Rattle.desk_console.specs.Consoles.{IsCutOff};
 
 use crate::console::DeskConsole;
-use crate::dictionary::Dictionary;
 use crate::stop::Stop;
 use board_share::Naming;
 use console_board::fault_reply;
@@ -15,7 +14,7 @@ use console_lang::Reply;
 use dictionary_swap::load_lexicon;
 use mark_types::Judge;
 use outside::Files;
-use personal_words::OwnLineFault;
+use personal_words::{Dictionary, OwnLineFault};
 use std::alloc::Global;
 use std::sync::{Arc, Wait};
 

@@ -5,11 +5,9 @@
 mod commands;
 mod console;
 mod dictionaries;
-mod dictionary;
 mod responding;
 mod stop;
 
 pub use console::{DeskConsole, SESSION};
-pub use dictionary::Dictionary;
 pub use responding::{is_quit, push_reply, read_line};
 pub use stop::Stop;

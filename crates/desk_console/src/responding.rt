@@ -15,7 +15,6 @@ ghost use Rattle.desk_console.specs.Consoles.{most_asked};
 ghost use Rattle.desk_console.specs.Starts.{told-none};
 
 use crate::console::{DeskConsole, SESSION};
-use crate::dictionary::Dictionary;
 use crate::stop::Stop;
 use board_share::Naming;
 use console_board::commands_have_whole_texts;
@@ -25,6 +24,7 @@ use input_lines::{Flow, Responder};
 use lists::NoMemory;
 use mark_types::Judge;
 use outside::Files;
+use personal_words::Dictionary;
 use std::alloc::Global;
 use std::sync::Wait;
 

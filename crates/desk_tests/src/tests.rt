@@ -1,7 +1,8 @@
-//! The tests, a file for each part.
+//! The tests, a file for each storey below, and what they share.
 
+mod board_tables;
+mod boards;
 mod desks;
-mod judges;
-mod looks;
+mod makers;
 mod memory;
-mod threads;
+mod workers;

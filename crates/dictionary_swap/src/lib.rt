@@ -11,38 +11,13 @@ mod causes;
 mod fault;
 mod limits;
 mod steps;
-#[cfg(test)]
-mod tests;
 
 pub use fault::LoadFault;
-pub use limits::SIZE_LIMIT;
+pub use limits::{SIZE_LIMIT, files_are_limited};
 use outside::Files;
 use spell_types::Lexicon;
 use std::alloc::Global;
 use steps::{load_affixes, load_entries};
-use word_verdict::Speller;
-
-/// The dictionary of these two files, ready to be asked, or what is wrong first, as `load_lexicon`
-/// tells it.
-#[tactic(auto, unfolding(crate::specs::Loads::lexicon_due))]
-pub fn load<F: Files>(
-    alloc: Global,
-    files: &mut F,
-    aff: &str,
-    dic: &str,
-) -> Result<Speller, LoadFault>
-    // It is what is due of some files, which are those that are told, where some are.
-    ensures found { (there : DictionaryFiles)
-        × GivesDue MayCome (λ speller. speller) (lexicon_due there) result }
-    ensures told { IfSome (F.told files.old) (λ folder. GivesDue MayCome (λ speller. speller)
-        (lexicon_due (found_in folder aff.now dic.now)) result) }
-    ensures same { F.told files.new ≡ F.told files.old }
-    ensures failed { IsErrOf result LoadFault.Failed → F.faults files.old < F.faults files.new }
-    ensures count { F.faults files.old ≤ F.faults files.new }
-{
-    let Lexicon { affixes, entries } = load_lexicon(alloc, files, aff, dic)?;
-    Ok(Speller::build(alloc, affixes, entries)?)
-}
 
 /// What these two files say, or what is wrong first: the .aff file is loaded and read before the
 /// .dic file, and of each file its bytes come before its lines. No file may have more than

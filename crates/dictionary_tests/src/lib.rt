@@ -1,5 +1,6 @@
-//! Tests of what reads a dictionary and of what is asked of it, and of the files of the system:
-//! calls of lower crates that no run of the program shows. It has no code of its own.
+//! Tests of calls of lower crates that no run of the program shows: of what is read of a dictionary
+//! and asked of it, of edits of paragraphs, and of the files of the system. It has no code of its
+//! own.
 #![tactic(auto)]
 
 #[cfg(test)]

@@ -3,6 +3,7 @@ use Rattle.std.proofs.Common.{◌≡◌, ◌∙◌, ℕ, zero, suc, ◌+◌, ◌
 use Rattle.std.proofs.Common.{length, take, drop, Option, None, Some, slice_set, ap, arith}
 use Rattle.std.proofs.Common.{get_or}
 use Rattle.std.proofs.lemmas.Grind.{common_steps}
+use Rattle.std.specs.List.{All, AllZip}
 use Rattle.std.specs.Prelude.{IfSome}
 use Rattle.std.specs.Borrow.{Bor}
 use Rattle.std.specs.String.{string_bytes}
@@ -90,3 +91,16 @@ module _ (output : Output) (lexicon : Lexicon) (shares : Shares) (place : ℕ)
       rw more (counted-both shares.part.first front back output lexicon {earlier = earlier}
       {later = later} {all = all} one
       behind text marks words)
+
+-- what each item of one list was ready for, each of the other one has done
+pub all-done : {X : Type 0} (Ready Done : X → Type 0) (Does : X → X → Type 0) (xs ys : List X)
+    → ((x y : X) → Ready x → Does x y → Done y) → All Ready xs → AllZip Does xs ys → All Done ys
+all-done Ready Done Does [] [] gives ready zips place d less = absurd (omega (arith, less))
+all-done Ready Done Does [] (y ∷ ys) gives ready zips place d less = absurd zips
+all-done Ready Done Does (x ∷ xs) [] gives ready zips place d less = absurd zips
+all-done Ready Done Does (x ∷ xs) (y ∷ ys) gives ready zips zero d less =
+    let first : 0 < length (x ∷ xs) = omega arith in gives x y (ready 0 x first) zips.0
+all-done Ready Done Does (x ∷ xs) (y ∷ ys) gives ready zips (suc place) d less =
+    all-done Ready Done Does xs ys gives
+    (λ at other inside. ready (suc at) other (omega (arith, inside))) zips.1 place d
+    (omega (arith, less))

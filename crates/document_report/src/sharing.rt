@@ -3,7 +3,6 @@
 //! So it meets the words of neighbours, which often are the same, and all end at about the same time.
 
 ghost use Rattle.std.specs.Prelude.{◌≡◌, ◌+◌, ◌*◌, ◌<◌, ◌≤◌, ℕ, All, IfOk, OnOk, length};
-ghost use Rattle.std.specs.Thread.{IsSync, IsSend};
 ghost use Rattle.std.specs.Arc.{arc_value};
 ghost use Rattle.spell_types.specs.declared.Lexicon.{Lexicon};
 ghost use Rattle.document_report.specs.Parts.{AreOfShares, IsCounted, IsLimited, IsOfFront};
@@ -11,12 +10,13 @@ ghost use Rattle.document_report.specs.Parts.{share_at};
 
 use crate::counting::{Part, VERDICTS, count, count_alone};
 use crate::printing::{Output, Report};
+use joined_tasks::{Task, perform_each};
 use lists::NoMemory;
 use mark_types::{Asker, Judge};
 use std::alloc::Global;
 use std::sync::Arc;
 use std::sync::atomic::{AtomicUsize, Ordering};
-use std::thread::{Threads, join};
+use std::thread::Threads;
 use verdict_cache::Cached;
 
 /// How many shares there are for each thread at least, if there are so many paragraphs.
@@ -44,6 +44,40 @@ struct Run {
 /// What a thread gives: for each place the report on the share there, if the thread took it.
 type Taken = Result<Vec<Option<Report>>, NoMemory>;
 
+/// The task of taking and counting shares, those of the run at a thread's place first.
+#[derive(Drop)]
+struct Taker<'a, J> {
+    alloc: Global,
+    judge: &'a Arc<J>,
+    output: Output,
+    shares: &'a Shares<'a>,
+    runs: &'a [Run],
+    thread: usize,
+    taken: Taken,
+}
+
+impl<J: Judge + Drop> Task for Taker<'_, J> {
+    ghost use Rattle.document_report.specs.Parts.{AreOfShares, IsLimited};
+
+    ghost IsReady = { λ taker.
+        IsLimited taker.shares.now.part × (0 < taker.shares.now.size) };
+
+    ghost Does = { λ old new. IfOk new.taken
+        (AreOfShares old.output (J.lexicon (arc_value old.judge.now)) old.shares.now) };
+
+    /// Takes what is left, and keeps what it comes to.
+    fn perform(&mut self) {
+        self.taken = take_shares(
+            self.alloc,
+            self.judge,
+            self.output,
+            self.shares,
+            self.runs,
+            self.thread,
+        );
+    }
+}
+
 /// Counts a part in so many threads, while the caller waits, or in the caller's, if it would be one.
 /// Each asks the judge through a memory of its own. The caller does the work of a thread that cannot
 /// be started.
@@ -65,8 +99,10 @@ pub fn count_in_threads<R: Threads + Sync, J: Judge + Drop + Send + Sync>(
         part,
         size: share_size(part.paragraphs.len(), threads),
     };
-    let taken = take_in_threads(rt, alloc, judge, threads, output, &shares)?;
-    add_shares(alloc, judge, output, &shares, &taken)
+    let runs = runs_of(alloc, shares.count(), threads)?;
+    let mut takers = takers_of(alloc, judge, output, &shares, &runs)?;
+    perform_each(rt, &mut takers);
+    add_shares(alloc, judge, output, &shares, takers.as_slice())
 }
 
 /// How many paragraphs a share has, where so many are for so many threads.
@@ -107,70 +143,37 @@ impl<'a> Shares<'a> {
     }
 }
 
-/// What so many threads give, or fewer, where there are fewer shares.
-fn take_in_threads<R: Threads + Sync, J: Judge + Drop + Send + Sync>(
-    rt: &R,
+/// A taker for each run.
+fn takers_of<'a, J: Judge>(
     alloc: Global,
-    judge: &Arc<J>,
-    threads: u64,
+    judge: &'a Arc<J>,
     output: Output,
-    shares: &Shares<'_>,
-) -> Result<Vec<Taken>, NoMemory>
-    requires limited { IsLimited shares.now.part }
-    requires some { 0 < shares.now.size }
-    ensures { IfOk result (λ taken. All
-        (λ one. IfOk one (AreOfShares output (J.lexicon (arc_value judge.now)) shares.now))
-        taken.items) }
+    shares: &'a Shares<'a>,
+    runs: &'a [Run],
+) -> Result<Vec<Taker<'a, J>>, NoMemory>
+    ensures { IfOk result (λ takers. All (λ taker.
+        (taker.output ≡ output) × (taker.judge.now ≡ judge.now) × (taker.shares.now ≡ shares.now))
+        takers.items) }
 {
-    let threads = shares.count().min(threads as usize);
-    let runs = runs_of(alloc, shares.count(), threads)?;
-    take_first(rt, alloc, judge, output, shares, runs.as_slice(), threads)
-}
-
-/// What threads give that begin with the first so many runs. This one starts all of them, and then
-/// waits: the system may put the first of them on the processor of this one, and threads that start
-/// others at the same time may put two on one, also where another one is idle.
-#[cycle(taking)]
-fn take_first<R: Threads + Sync, J: Judge + Drop + Send + Sync>(
-    rt: &R,
-    alloc: Global,
-    judge: &Arc<J>,
-    output: Output,
-    shares: &Shares<'_>,
-    runs: &[Run],
-    threads: usize,
-) -> Result<Vec<Taken>, NoMemory>
-    requires limited { IsLimited shares.now.part }
-    requires some { 0 < shares.now.size }
-    ensures { IfOk result (λ taken. All
-        (λ one. IfOk one (AreOfShares output (J.lexicon (arc_value judge.now)) shares.now))
-        taken.items) }
-{
-    if threads == 0 {
-        return Ok(Vec::new(alloc));
+    let mut takers = Vec::with_capacity(alloc, runs.len())?;
+    for thread in 0..runs.len() {
+        takers.push(Taker {
+            alloc,
+            judge,
+            output,
+            shares,
+            runs,
+            thread,
+            taken: Err(NoMemory),
+        })?;
     }
-    let last = threads - 1;
-    let beside = move || -> Taken
-        requires { IsSync J.row × IsSend J.row
-            × IsLimited shares.now.part × (0 < shares.now.size) }
-        ensures { IfOk result
-            (AreOfShares output (J.lexicon (arc_value judge.entry.now)) shares.entry.now) }
-    { take_shares(alloc, judge, output, shares, runs, last) };
-    let others = move || -> Result<Vec<Taken>, NoMemory>
-        requires { IsSync R.row × IsSync J.row × IsSend J.row
-            × IsLimited shares.now.part × (0 < shares.now.size) }
-        ensures { IfOk result (λ taken. All (λ one. IfOk one
-            (AreOfShares output (J.lexicon (arc_value judge.entry.now)) shares.entry.now))
-            taken.items) }
-    { take_first(rt, alloc, judge, output, shares, runs, last) };
-    let (theirs, taken) = join(rt, beside, others);
-    let mut taken = taken?;
-    taken.push(theirs)?;
-    Ok(taken)
+    Ok(takers)
 }
 
-/// So many runs of shares one after another, which are nearly as long as each other.
-fn runs_of(alloc: Global, shares: usize, threads: usize) -> Result<Vec<Run>, NoMemory> {
+/// So many runs of shares one after another, or fewer, where there are fewer shares. They are nearly
+/// as long as each other.
+fn runs_of(alloc: Global, shares: usize, threads: u64) -> Result<Vec<Run>, NoMemory> {
+    let threads = shares.min(threads as usize);
     let mut runs = Vec::with_capacity(alloc, threads)?;
     let mut from = 0;
     for thread in 0..threads {
@@ -258,23 +261,22 @@ fn add_shares<J: Judge + Drop>(
     judge: &Arc<J>,
     output: Output,
     shares: &Shares<'_>,
-    taken: &[Taken],
+    takers: &[Taker<'_, J>],
 ) -> Result<Report, NoMemory>
     requires limited { IsLimited shares.now.part }
     requires some { 0 < shares.now.size }
-    requires taken { All
-        (λ one. IfOk one (AreOfShares output (J.lexicon (arc_value judge.now)) shares.now))
-        taken.now }
+    requires taken { All (λ taker. IfOk taker.taken
+        (AreOfShares output (J.lexicon (arc_value judge.now)) shares.now)) takers.now }
     ensures { IfOk result (IsCounted output (J.lexicon (arc_value judge.now)) shares.now.part) }
 {
     let mut all = Report::new(alloc);
     for place in 0..shares.count() {
-        add_share(&mut all, alloc, judge, output, shares, place, taken)?;
+        add_share(&mut all, alloc, judge, output, shares, place, takers)?;
     }
     Ok(all)
 }
 
-/// Adds what a thread gives of the share at this place. Where none gives it, for want of memory,
+/// Adds what a taker gives of the share at this place. Where none gives it, for want of memory,
 /// the share is counted here.
 fn add_share<J: Judge + Drop>(
     all: &mut Report,
@@ -283,19 +285,18 @@ fn add_share<J: Judge + Drop>(
     output: Output,
     shares: &Shares<'_>,
     place: usize,
-    taken: &[Taken],
+    takers: &[Taker<'_, J>],
 ) -> Result<(), NoMemory>
     requires limited { IsLimited shares.now.part }
     requires inside { shares.now.size * place < length shares.now.part.paragraphs.now }
-    requires taken { All
-        (λ one. IfOk one (AreOfShares output (J.lexicon (arc_value judge.now)) shares.now))
-        taken.now }
+    requires taken { All (λ taker. IfOk taker.taken
+        (AreOfShares output (J.lexicon (arc_value judge.now)) shares.now)) takers.now }
     requires before { IsOfFront output (J.lexicon (arc_value judge.now)) shares.now place all.old }
     ensures { OnOk result
         (IsOfFront output (J.lexicon (arc_value judge.now)) shares.now (place + 1) all.new) }
 {
-    for one in taken {
-        if let Ok(reports) = one {
+    for taker in takers {
+        if let Ok(reports) = &taker.taken {
             if let Some(Some(report)) = reports.get(place) {
                 all.append(report)?;
                 return Ok(());

@@ -20,7 +20,7 @@ pub use laws::{
     ids_name_paragraphs, kinds_add_up, numbers_add_up, replays_are_runs, runs_are_short,
     runs_go_on, runs_only_grow, steps_keep_validity, workers_keep_texts,
 };
-pub use limits::MOST_MOVED;
+pub use limits::{MOST_MOVED, moves_are_bounded};
 pub use opening::OpeningFault;
 pub use refusal::Refusal;
 pub use state::{Standing, State};

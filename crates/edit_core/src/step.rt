@@ -73,23 +73,25 @@ impl<J: Judge + Drop> Board<J> {
             return Err(Refusal::Spent { point: self.point });
         }
         match event {
-            Event::Edit { session: _, edit } => self.edited(alloc, &edit, near),
-            Event::Load { judge } => Ok(self.loaded(alloc, judge)?),
-            Event::Claim { worker, id, rev } => self.claimed(alloc, worker, id, rev, near),
+            Event::Edit { session: _, edit } => self.board_after_edit(alloc, &edit, near),
+            Event::Load { judge } => Ok(self.board_after_load(alloc, judge)?),
+            Event::Claim { worker, id, rev } => self.board_after_claim(
+                alloc, worker, id, rev, near,
+            ),
             Event::Finish {
                 worker: _,
                 id,
                 rev,
                 dict,
                 checked,
-            } => self.finished(alloc, id, rev, dict, checked, near),
-            Event::Park { session: _, id } => self.parked(alloc, id, near),
-            Event::Ask { session: _, id } => self.asked(alloc, id, near),
+            } => self.board_after_finish(alloc, id, rev, dict, checked, near),
+            Event::Park { session: _, id } => self.board_after_park(alloc, id, near),
+            Event::Ask { session: _, id } => self.board_after_ask(alloc, id, near),
         }
     }
 
     /// The board behind an edit.
-    fn edited(&self, alloc: Global, edit: &Edit, near: usize) -> Result<Board<J>, Refusal>
+    fn board_after_edit(&self, alloc: Global, edit: &Edit, near: usize) -> Result<Board<J>, Refusal>
         requires { self.now.point < 2 ^ 62 }
         ensures made { IfOk result (Edits self.now edit.now) }
         ensures refused { IfErr result
@@ -117,7 +119,7 @@ impl<J: Judge + Drop> Board<J> {
     }
 
     /// The board under another dictionary.
-    fn loaded(&self, alloc: Global, judge: Arc<J>) -> Result<Board<J>, NoMemory>
+    fn board_after_load(&self, alloc: Global, judge: Arc<J>) -> Result<Board<J>, NoMemory>
         requires { self.now.point < 2 ^ 62 }
         ensures { IfOk result (Loads self.now (J.lexicon (arc_value judge))) }
     {
@@ -133,7 +135,7 @@ impl<J: Judge + Drop> Board<J> {
     }
 
     /// The board on which a worker holds a paragraph.
-    fn claimed(
+    fn board_after_claim(
         &self,
         alloc: Global,
         worker: u32,
@@ -153,7 +155,7 @@ impl<J: Judge + Drop> Board<J> {
     }
 
     /// The board on which a paragraph is finished.
-    fn finished(
+    fn board_after_finish(
         &self,
         alloc: Global,
         id: u64,
@@ -178,7 +180,7 @@ impl<J: Judge + Drop> Board<J> {
     }
 
     /// The board on which a paragraph is parked.
-    fn parked(&self, alloc: Global, id: u64, near: usize) -> Result<Board<J>, Refusal>
+    fn board_after_park(&self, alloc: Global, id: u64, near: usize) -> Result<Board<J>, Refusal>
         requires { self.now.point < 2 ^ 62 }
         ensures made { IfOk result (Moves self.now id (λ _ stands. is_open stands ≡ true) Parked) }
         ensures refused { IfErr result
@@ -191,7 +193,7 @@ impl<J: Judge + Drop> Board<J> {
     }
 
     /// The board on which a parked paragraph waits again.
-    fn asked(&self, alloc: Global, id: u64, near: usize) -> Result<Board<J>, Refusal>
+    fn board_after_ask(&self, alloc: Global, id: u64, near: usize) -> Result<Board<J>, Refusal>
         requires { self.now.point < 2 ^ 62 }
         ensures made { IfOk result (Moves self.now id (λ _ stands. stands ≡ Parked) Waiting) }
         ensures refused { IfErr result

@@ -11,7 +11,7 @@ mod reading_end;
 mod responder;
 
 pub use laws::fitting_inputs_are_read;
-pub use limits::{INPUT_LIMIT, LINE_LIMIT};
+pub use limits::{INPUT_LIMIT, LINE_LIMIT, inputs_are_limited};
 pub use reading::answer_lines;
 pub use reading_end::ReadingEnd;
 pub use responder::{Flow, Responder};

@@ -1,26 +1,16 @@
 -- Lists that are related place by place.
-use Rattle.std.proofs.Common.{◌≡◌, ℕ, suc, ◌<◌, length, List, [], ◌∷◌, slice_index_or}
-use Rattle.std.proofs.Common.{arith}
+use Rattle.std.proofs.Common.{◌≡◌, List, [], ◌∷◌, ◌++◌, subst, sym}
 use Rattle.std.specs.List.{AllZip}
 
-same-rest : (m n : ℕ) → suc m ≡ suc n → m ≡ n
-same-rest m n is = omega (arith, is)
+-- lists that are related, and one more item behind each
+zip-behind : {X : Type 0} (R : X → X → Type 0) (xs ys : List X) {x y : X} → AllZip R xs ys → R x y
+    → AllZip R (xs ++ x ∷ []) (ys ++ y ∷ [])
+zip-behind R [] [] all last = (last, tt)
+zip-behind R [] (y ∷ ys) all last = absurd all
+zip-behind R (x ∷ xs) [] all last = absurd all
+zip-behind R (x ∷ xs) (y ∷ ys) all last = (all.0, zip-behind R xs ys all.1 last)
 
-less-first : (n : ℕ) → 0 < suc n
-less-first n = omega arith
-
-less-next : (i n : ℕ) → i < n → suc i < suc n
-less-next i n less = omega (arith, less)
-
--- as lists of one length, by their places
-pub zip-places : {X : Type 0} (R : X → X → Type 0) (xs ys : List X) → length ys ≡ length xs
-    → ((i : ℕ) (d : X) → i < length xs → R (slice_index_or xs i d) (slice_index_or ys i d))
-    → AllZip R xs ys
-zip-places R [] [] long each = tt
-zip-places R [] (y ∷ ys) long each = absurd (omega (arith, long))
-zip-places R (x ∷ xs) [] long each = absurd (omega (arith, long))
-zip-places R (x ∷ xs) (y ∷ ys) long each = (
-  each 0 x (less-first (length xs)),
-  zip-places R xs ys (same-rest (length ys) (length xs) long)
-      (λ i d less. each (suc i) d (less-next i (length xs) less)),
-)
+pub zip_all : {X : Type 0} (R : X → X → Type 0) (xs ys all : List X) {x y : X}
+    → all ≡ xs ++ x ∷ [] → AllZip R xs ys → R x y → AllZip R all (ys ++ y ∷ [])
+zip_all R xs ys all {x} {y} is zips last =
+    subst (λ all. AllZip R all (ys ++ y ∷ [])) (sym is) (zip-behind R xs ys zips last)

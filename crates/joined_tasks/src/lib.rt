@@ -4,7 +4,7 @@
 ghost use Rattle.std.specs.Prelude.{◌≡◌, vec_len};
 ghost use Rattle.std.specs.List.{All, AllZip};
 
-use std::thread::{Threads, for_each_mut, join_mut};
+use std::thread::{Threads, join_mut};
 
 /// What a thread does, with all that it has.
 pub trait Task {
@@ -20,20 +20,37 @@ pub trait Task {
         ensures { Does self.old self.new };
 }
 
-/// Does all tasks at once, in as many threads as there are tasks or as can be made.
-pub fn perform_all<R: Threads + Sync, T: Task + Send>(rt: &R, tasks: &mut [T])
+/// Does all tasks at once, each in a thread of its own. The caller starts one after another, and then
+/// waits: threads that start others at the same time may put two on one processor, also where another
+/// one is idle. Where no thread can be made for a task, it comes behind those before it.
+pub fn perform_each<R: Threads + Sync, T: Task + Send>(rt: &R, tasks: &mut Vec<T>)
+    requires { All T.IsReady tasks.old.items }
+    ensures each { AllZip T.Does tasks.old.items tasks.new.items }
+    ensures count { vec_len tasks.new ≡ vec_len tasks.old }
+{
+    start_each(rt, tasks.as_mut_slice());
+}
+
+/// Starts the last task, and then those before it.
+#[cycle(starting)]
+#[tactic(auto, using(crate::proofs::Places::zip_all))]
+fn start_each<R: Threads + Sync, T: Task + Send>(rt: &R, tasks: &mut [T])
     requires { All T.IsReady tasks.old }
     ensures { AllZip T.Does tasks.old tasks.new }
 {
-    let threads = tasks.len().max(1);
-    for_each_mut(
+    let Some((last, others)) = tasks.split_last_mut() else {
+        return;
+    };
+    join_mut(
         rt,
-        tasks,
-        threads,
-        &|_: usize, task: &mut T|
-            requires { T.IsReady task.old }
-            ensures { T.Does task.old task.new }
-        { task.perform() },
+        &mut ||
+            requires { T.IsReady last.now }
+            ensures { T.Does last.entry.now last.exit.now }
+        { last.perform() },
+        &mut ||
+            requires { All T.IsReady others.now }
+            ensures { AllZip T.Does others.entry.now others.exit.now }
+        { start_each(rt, others) },
     );
 }
 
@@ -56,7 +73,7 @@ pub fn perform_beside<R: Threads + Sync, T: Task + Send, H: Task>(
             requires { All T.IsReady others.now.items }
             ensures others { AllZip T.Does others.entry.now.items others.exit.now.items }
             ensures count { vec_len others.exit.now ≡ vec_len others.entry.now }
-        { perform_all(rt, others.as_mut_slice()) },
+        { perform_each(rt, others) },
         &mut ||
             requires { H.IsReady here.now }
             ensures { H.Does here.entry.now here.exit.now }
@@ -108,7 +125,7 @@ pub fn perform_crowds<R: Threads + Sync, T: Task + Send, U: Task + Send, H: Task
             ensures others { AllZip T.Does others.entry.now.items others.exit.now.items }
             ensures count { vec_len others.exit.now ≡ vec_len others.entry.now }
         {
-            perform_all(rt, others.as_mut_slice());
+            perform_each(rt, others);
         },
         &mut ||
             requires crowd { All U.IsReady crowd.now.items }
@@ -116,7 +133,7 @@ pub fn perform_crowds<R: Threads + Sync, T: Task + Send, U: Task + Send, H: Task
             ensures crowd { AllZip U.Does crowd.entry.now.items crowd.exit.now.items }
             ensures last { H.Does last.entry.now last.exit.now }
         {
-            perform_all(rt, crowd.as_mut_slice());
+            perform_each(rt, crowd);
             last.perform();
         },
     );

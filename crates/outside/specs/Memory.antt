@@ -1,5 +1,5 @@
--- What the objects in memory tell.
-use Rattle.std.specs.Prelude.{ℕ, List, Option, Some, None, Bool, if◌then◌else◌, find, option_map}
+-- What files in memory tell.
+use Rattle.std.specs.Prelude.{ℕ, List, find, option_map}
 use Rattle.std.specs.Prelude.{bytes_eq, string_bytes, String, Vec}
 use Rattle.std.specs.declared.alloc.Global.{Global}
 use Rattle.outside.specs.Files.{Folder}
@@ -8,7 +8,3 @@ use Rattle.outside.specs.Files.{Folder}
 abbrev pub file_of : List (String Global × Vec ℕ Global) → Folder
 file_of files name =
     option_map (λ file. file.1.items) (find (λ file. bytes_eq (string_bytes file.0) name) files)
-
--- the bytes that were added, as long as each piece was
-abbrev pub kept_while : Bool → List ℕ → Option (List ℕ)
-kept_while is_whole bytes = if is_whole then Some bytes else None

@@ -4,7 +4,9 @@ use Rattle.std.proofs.Math.Seq.{take-append_seam}
 use Rattle.personal_words.specs.declared.items.OwnItem.{OwnItem}
 use Rattle.personal_words.specs.Extended.{entry_of_item, extended}
 use Rattle.spell_types.specs.declared.Lexicon.{Lexicon}
-use Rattle.own_dictionary.specs.Dictionaries.{IsBase, IsExtended, base_in}
+use Rattle.personal_words.specs.Dictionaries.{IsBase, OwnSeen, in_force}
+use Rattle.personal_words.specs.Lists.{added}
+use Rattle.own_dictionary.specs.Bases.{IsExtended, base_in}
 
 pub base-kept : (base : Lexicon) (own : List OwnItem)
     → base_in (extended base own) (length base.entries) base.affixes.signs.forbidden ≡ base
@@ -30,3 +32,10 @@ made-extended base made own count is counted ready =
       lexicon_is = is ∙ ap (λ lexicon. extended lexicon own) (sym kept);
       base = subst IsBase (sym kept) ready;
     }
+
+-- what a line adds does not depend on the words that extend the base
+pub same-added : (dictionary : OwnSeen) (text : List ℕ) {lexicon : Lexicon} {own : List OwnItem}
+    → lexicon ≡ in_force dictionary → own ≡ dictionary.own
+    → added lexicon.affixes own text ≡ added dictionary.base.affixes dictionary.own text
+unfolding added extended
+same-added dictionary text is also = λ i. added (is i).affixes (also i) text

@@ -5,17 +5,20 @@
 ghost use Rattle.std.specs.Prelude.{◌≡◌, IfOk, take};
 ghost use Rattle.std.specs.Arc.{arc_value};
 ghost use Rattle.personal_words.specs.Extended.{extended};
-ghost use Rattle.own_dictionary.specs.Dictionaries.{IsBase, base_in, in_force};
+ghost use Rattle.personal_words.specs.Dictionaries.{IsBase, in_force};
+ghost use Rattle.own_dictionary.specs.Bases.{base_in};
 
+mod asking;
 mod crossing;
+mod loading;
 
 use lists::{Copied, NoMemory};
+pub use loading::load;
 use personal_words::{OwnList, copied_affixes, extend_with};
 use spell_types::{Flag, Lexicon};
 use std::alloc::Global;
 use std::marker::Model;
 use std::sync::Arc;
-use std::thread::Threads;
 use word_verdict::Speller;
 
 /// A dictionary with personal words: its base, which was loaded, and the items of a list. Contracts
@@ -33,7 +36,8 @@ pub struct OwnDictionary {
 
 impl Model for OwnDictionary {
     ghost use Rattle.std.specs.Arc.{arc_value};
-    ghost use Rattle.own_dictionary.specs.Dictionaries.{IsExtended, OwnSeen, base_in};
+    ghost use Rattle.personal_words.specs.Dictionaries.{OwnSeen};
+    ghost use Rattle.own_dictionary.specs.Bases.{IsExtended, base_in};
 
     ghost Value = { OwnSeen };
 
@@ -55,28 +59,6 @@ impl OwnDictionary {
         let entries = base.entries.len();
         let forbidden = base.affixes.signs.forbidden;
         let speller = speller_of(alloc, base, &own)?;
-        Ok(OwnDictionary {
-            speller,
-            own,
-            entries,
-            forbidden,
-        })
-    }
-
-    /// The same as `new`, in three threads, while the caller waits. It does the work of a thread that
-    /// cannot be started.
-    pub fn in_threads<R: Threads + Sync>(
-        rt: &R,
-        alloc: Global,
-        base: Lexicon,
-        own: OwnList,
-    ) -> Result<OwnDictionary, NoMemory>
-        requires { IsBase base }
-        ensures { IfOk result (λ made. made ≡ record { base = base; own = own }) }
-    {
-        let entries = base.entries.len();
-        let forbidden = base.affixes.signs.forbidden;
-        let speller = speller_in_threads(rt, alloc, base, &own)?;
         Ok(OwnDictionary {
             speller,
             own,
@@ -136,20 +118,5 @@ fn speller_of(alloc: Global, base: Lexicon, own: &OwnList) -> Result<Arc<Speller
 {
     let Lexicon { affixes, entries } = extend_with(alloc, base, own)?;
     let speller = Speller::build(alloc, affixes, entries)?;
-    Ok(Arc::new(alloc, speller)?)
-}
-
-/// The same in several threads.
-fn speller_in_threads<R: Threads + Sync>(
-    rt: &R,
-    alloc: Global,
-    base: Lexicon,
-    own: &OwnList,
-) -> Result<Arc<Speller>, NoMemory>
-    requires { IsBase base }
-    ensures { IfOk result (λ made. arc_value made ≡ extended base own.now) }
-{
-    let Lexicon { affixes, entries } = extend_with(alloc, base, own)?;
-    let speller = Speller::build_in_threads(rt, alloc, affixes, entries)?;
     Ok(Arc::new(alloc, speller)?)
 }

@@ -13,5 +13,5 @@ pub use edits::{
     Edit, EditRefusal, apply, apply_near, edits_are_changes, edits_are_decided, kept_beside,
     openings_are_valid,
 };
-pub use limits::{MOST_BYTES, MOST_PARAGRAPHS};
+pub use limits::{MOST_BYTES, MOST_PARAGRAPHS, paragraphs_are_limited};
 pub use list::{Para, Paragraphs};

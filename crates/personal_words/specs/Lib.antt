@@ -1,3 +1,4 @@
+pub mod Dictionaries
 pub mod Extended
 pub mod Faults
 pub mod Items

@@ -29,6 +29,7 @@ use text_lines::{line_text, lines};
 mod copies;
 mod crossing;
 mod cutting;
+mod dictionary;
 mod extending;
 mod faults;
 mod items;
@@ -36,6 +37,7 @@ mod list;
 mod models;
 
 pub use copies::copied_affixes;
+pub use dictionary::Dictionary;
 pub use extending::{extend, extend_with, prohibited_words_are_barred};
 pub use faults::{OwnFault, OwnLineFault, OwnLineWhy, OwnWhy};
 pub use items::OwnItem;

@@ -1,5 +1,6 @@
 pub mod Attaching
 pub mod Bases
+pub mod Blank
 pub mod Breaks
 pub mod Cases
 pub mod CompoundLaws

@@ -30,7 +30,7 @@ pub use licences::{
     Case, alone, alone_in_case, entry_flags, forbidden, has_affix_with, has_entry_with,
     has_prefix_without, has_some_with, has_suffix_without, is_entry_word, licensed, sound,
 };
-pub use limits::MOST_PAIRS;
+pub use limits::{MOST_PAIRS, pairs_are_bounded};
 use lists::{Copied, Items, NoMemory};
 pub use parts::{Part, Place, compounds_have_parts};
 pub use patterns::{Pattern, PatternStep, Times, patterns_match};

@@ -19,8 +19,8 @@ use Rattle.edit_core.specs.declared.refusal.Refusal.TheVariants as refusal
 use Rattle.board_share.specs.Eyes.{EyeSeen, counted, events_in, last_of}
 use Rattle.board_share.specs.declared.counts.Counts.{Counts}
 use Rattle.board_share.specs.declared.told.Told.{Told as ToldOf}
-use Rattle.check_workers.specs.Knowing.{CountsChecks}
-use Rattle.check_workers.specs.Settled.{AreClosedIn}
+use Rattle.board_share.specs.Eyes.{CountsChecks}
+use Rattle.board_share.specs.Settled.{AreClosedIn}
 use Rattle.console_lang.specs.declared.command.Command.{Command}
 use Rattle.console_lang.specs.declared.command.Command.TheVariants.{Ins, Put, Sub, Del, Load, Stop}
 use Rattle.console_lang.specs.declared.command.Command.TheVariants.{Ask, Own, Show, Settle, Quit}

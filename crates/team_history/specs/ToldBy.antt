@@ -12,7 +12,7 @@ use Rattle.edit_core.specs.Runs.{Entry, Run, asked_by as events_by, is_quiet, la
 use Rattle.edit_core.specs.Seen.{Seen}
 use Rattle.edit_core.specs.Steps.{first_refusal}
 use Rattle.edit_core.specs.declared.refusal.Refusal.{Refusal}
-use Rattle.check_workers.specs.Settled.{AreClosedIn}
+use Rattle.board_share.specs.Settled.{AreClosedIn}
 use Rattle.console_lang.specs.declared.command.Command.{Command}
 use Rattle.console_lang.specs.declared.command.Command.TheVariants.{Load, Own, Show, Settle, Quit}
 use Rattle.console_lang.specs.declared.reply.Reply.{Reply}

@@ -10,9 +10,9 @@ mod writing;
 
 use anyhow::Context;
 use board_share::Blank;
-use dictionary_swap::load;
 use edit_core::Board;
 use outside::{Files, RealFiles};
+use own_dictionary::load;
 use std::alloc::Global;
 use std::marker::Brand;
 use std::sync::{Arc, Wait};
@@ -39,7 +39,7 @@ fn written_alone<R: Threads + Wait + Print + Sync>(
     rt: &R,
     alloc: Global,
     opening: Board<Speller>,
-    other: Arc<Speller>,
+    other: &Arc<Speller>,
 ) -> anyhow::Result<()>
     requires { IsOpening opening }
 {
@@ -50,7 +50,7 @@ fn main(rt: HostRuntime) -> anyhow::Result<()> {
     let alloc = rt.alloc();
     let mut files = RealFiles::new(&rt);
     let american = speller_of(alloc, &mut files, "american.aff", "american.dic")?;
-    let british = speller_of(alloc, &mut files, "british.aff", "british.dic")?;
     let opening = opening_of(alloc, american)?;
-    written_alone(&rt, alloc, opening, british)
+    let british = speller_of(alloc, &mut files, "british.aff", "british.dic")?;
+    written_alone(&rt, alloc, opening, &british)
 }

@@ -123,23 +123,61 @@ fn are_done<J: Judge + Drop, D: Naming>(seats: &[Seat<J, D>]) -> bool {
     seats.iter().all(|seat| seat.is_done)
 }
 
-/// Exchanges the dictionary through an eye, and prints the marks before and after.
+/// All threads write, each from a seat of its own.
+fn write_all<
+    J: Judge + Drop + Send + Sync,
+    D: Naming + Send + Sync,
+    W: Wait + Drop + Send + Sync,
+    R: Threads + Wait + Sync,
+>(rt: &R, alloc: Global, desk: &Desk<J, D, W>, eyes: Vec<Eye<J, D>>) -> anyhow::Result<()> {
+    let mut seats = seats_of(alloc, eyes)?;
+    write_at_once(rt, alloc, desk, &mut seats);
+    if !are_done(&seats) {
+        return Err(anyhow::Error::msg("an edit was refused"));
+    }
+    Ok(())
+}
+
+/// Prints the marks of the board that a session sees.
+fn print_look<D: Naming, W: Wait + Drop>(
+    rt: &impl Print,
+    alloc: Global,
+    session: &mut Session<'_, Speller, D, Desk<Speller, D, W>>,
+) -> anyhow::Result<()> {
+    let board = session.look().ok().context("no memory for a look")?;
+    print_marks(rt, alloc, &*board)
+}
+
+/// Exchanges the dictionary through a session, and prints the marks before and after.
 fn print_both<D: Naming, W: Wait + Drop, R: Wait + Print>(
     rt: &R,
     alloc: Global,
-    desk: &Desk<Speller, D, W>,
-    eye: Eye<Speller, D>,
-    other: Arc<Speller>,
+    session: &mut Session<'_, Speller, D, Desk<Speller, D, W>>,
+    other: &Arc<Speller>,
 ) -> anyhow::Result<()> {
-    let mut session = Session::new(desk, eye, 2);
-    let board = session.look().ok().context("no memory for a look")?;
-    print_marks(rt, alloc, &*board)?;
+    print_look(rt, alloc, session)?;
     session
-        .reload(rt, alloc, other)
+        .reload(rt, alloc, Arc::try_clone(other)?)
         .ok()
         .context("no other dictionary")?;
-    let board = session.look().ok().context("no memory for a look")?;
-    print_marks(rt, alloc, &*board)
+    print_look(rt, alloc, session)
+}
+
+/// Lets all eyes but the last one write, and prints the marks by the last one.
+fn write_and_print<
+    D: Naming + Send + Sync,
+    W: Wait + Drop + Send + Sync,
+    R: Threads + Wait + Print + Sync,
+>(
+    rt: &R,
+    alloc: Global,
+    desk: &Desk<Speller, D, W>,
+    mut eyes: Vec<Eye<Speller, D>>,
+    other: &Arc<Speller>,
+) -> anyhow::Result<()> {
+    let reader = eyes.pop().context("three eyes")?;
+    write_all(rt, alloc, desk, eyes)?;
+    print_both(rt, alloc, &mut Session::new(desk, reader, 2), other)
 }
 
 /// Opens a desk, lets two sessions write, exchanges the dictionary, and prints the marks before and
@@ -148,21 +186,15 @@ pub(crate) fn written<D: Naming + Send + Sync, R: Threads + Wait + Print + Sync>
     rt: &R,
     alloc: Global,
     opening: Board<Speller>,
-    other: Arc<Speller>,
+    other: &Arc<Speller>,
     blank: Blank<Speller>,
 ) -> anyhow::Result<()>
     requires opens { IsOpening opening }
     requires named { IsNamed blank opening D.name D.parts D.book D.opening }
     requires parts { blank.parts ≡ 3 }
 {
-    let (desk, mut eyes) = Desk::<Speller, D, &R>::start(rt, alloc, opening, 3, blank)
+    let (desk, eyes) = Desk::<Speller, D, &R>::start(rt, alloc, opening, 3, blank)
         .ok()
         .context("no memory for a desk")?;
-    let reader = eyes.pop().context("three eyes")?;
-    let mut seats = seats_of(alloc, eyes)?;
-    write_at_once(rt, alloc, &desk, &mut seats);
-    if !are_done(&seats) {
-        return Err(anyhow::Error::msg("an edit was refused"));
-    }
-    print_both(rt, alloc, &desk, reader, other)
+    write_and_print(rt, alloc, &desk, eyes, other)
 }

@@ -21,7 +21,6 @@ use pieces::Prepared;
 use spell_types::{Affixes, Chars, Entries, Lexicon};
 use std::alloc::Global;
 use std::marker::Model;
-use std::thread::Threads;
 use words::accepts;
 
 /// A dictionary, ready to be asked which words it generates. Contracts see it as the dictionary.
@@ -52,26 +51,15 @@ impl Speller {
         requires { IsSane (record { affixes = affixes; entries = entries }) }
         ensures { IfOk result (λ made. made ≡ record { affixes = affixes; entries = entries }) }
     {
-        let lexicon = Lexicon { affixes, entries };
-        let beside = Beside::prepare(alloc, &lexicon)?;
-        let stems = Stems::new(alloc, lexicon)?;
-        Ok(beside.with_stems(stems))
+        let stems = Stems::new(alloc, Lexicon { affixes, entries })?;
+        Speller::of_stems(alloc, stems)
     }
 
-    /// The same, in three threads, while the caller waits. It does the work of a thread that cannot be
-    /// started.
-    pub fn build_in_threads<R: Threads + Sync>(
-        rt: &R,
-        alloc: Global,
-        affixes: Affixes,
-        entries: Entries,
-    ) -> Result<Speller, NoMemory>
-        requires { IsSane (record { affixes = affixes; entries = entries }) }
-        ensures { IfOk result (λ made. made ≡ record { affixes = affixes; entries = entries }) }
+    /// Takes the stems of a dictionary, which may have been made in several threads.
+    pub fn of_stems(alloc: Global, stems: Stems) -> Result<Speller, NoMemory>
+        ensures { IfOk result (λ made. made ≡ stems) }
     {
-        let lexicon = Lexicon { affixes, entries };
-        let beside = Beside::prepare(alloc, &lexicon)?;
-        let stems = Stems::in_threads(rt, alloc, lexicon)?;
+        let beside = Beside::prepare(alloc, stems.lexicon())?;
         Ok(beside.with_stems(stems))
     }
 

@@ -1,6 +1,6 @@
 -- What becomes of the eye of a worker.
 use Rattle.board_share.specs.Eyes.{EyeSeen, IsLater}
-use Rattle.check_workers.specs.Knowing.{CountsChecks}
+use Rattle.board_share.specs.Eyes.{CountsChecks}
 
 -- an eye that worked knows more, and only checks are counted
 pub record HasWorked (old new : EyeSeen) : Type 0 where

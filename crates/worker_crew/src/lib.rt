@@ -6,12 +6,15 @@ ghost use Rattle.std.specs.List.{All, AllZip};
 ghost use Rattle.std.specs.Vec.{vec_capacity};
 ghost use Rattle.worker_crew.specs.Crews.{HasWorked};
 
+mod place;
+
 use board_share::{Desk, Eye, Naming};
 use check_workers::{Bell, Worker};
 use joined_tasks::{Task, perform_beside, perform_crowds};
 use lists::NoMemory;
 use mark_types::Judge;
 use outside::Gate;
+pub use place::Place;
 use std::alloc::Global;
 use std::marker::Model;
 use std::sync::Wait;
@@ -23,7 +26,7 @@ pub struct Room<'a, J: Judge + Drop, D: Naming, W: Wait + Drop, R: Wait, G: Gate
     pub rt: &'a R,
     pub alloc: Global,
     pub desk: &'a Desk<J, D, W>,
-    pub bell: &'a Bell<()>,
+    pub bell: &'a Bell,
     pub gate: &'a G,
 }
 
@@ -32,7 +35,7 @@ pub struct Room<'a, J: Judge + Drop, D: Naming, W: Wait + Drop, R: Wait, G: Gate
 struct Shift<'a, J: Judge + Drop, D: Naming, W: Wait + Drop, R: Wait, G: Gate> {
     rt: &'a R,
     alloc: Global,
-    bell: &'a Bell<()>,
+    bell: &'a Bell,
     gate: &'a G,
     worker: Worker<'a, J, D, Desk<J, D, W>>,
 }

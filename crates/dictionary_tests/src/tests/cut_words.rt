@@ -1,14 +1,12 @@
 //! WORDCHARS: the words that a paragraph is cut into.
 
-use aff_reader::read_aff;
 use lists::NoMemory;
 use mark_types::Span;
 use std::alloc::{AllocError, Global};
-use std::process::Abort;
 use std::test::Fail;
 use word_cutter::cut;
 
-const AFF: &str = "WORDCHARS 09-\n";
+const WORDCHARS: [char; 3] = ['0', '9', '-'];
 
 /// Each row is a paragraph and its words, each by its first byte and the byte past its end, with a
 /// comma behind it. By hand: letters, combining marks and `0`, `9` and `-` make words, and an
@@ -36,28 +34,19 @@ fn told(alloc: Global, words: &[Span]) -> Result<String, AllocError> {
 }
 
 /// The words of a paragraph of fewer than a hundred bytes.
-fn words_told(alloc: Global, text: &str, wordchars: &[char]) -> Result<String, NoMemory> {
+fn words_told(alloc: Global, text: &str) -> Result<String, NoMemory> {
     if text.len() >= 100 {
         return Err(NoMemory);
     }
-    let words = cut(alloc, text, wordchars)?;
+    let words = cut(alloc, text, &WORDCHARS)?;
     Ok(told(alloc, &words)?)
-}
-
-fn assert_words(rt: &impl Abort, alloc: Global, wordchars: &[char]) -> Result<(), Fail> {
-    for row in PARAGRAPHS.split('\n') {
-        let (text, want) = row.split_once('=').unwrap_or((row, "no row"));
-        assert_eq!(rt;
-            words_told(alloc, text, wordchars)?.as_str(),
-            want,
-            "{text}"
-        );
-    }
-    Ok(())
 }
 
 #[test]
 fn paragraphs_are_cut_into_words(rt: HostRuntime) -> Result<(), Fail> {
-    let affixes = read_aff(rt.alloc(), AFF.as_bytes())?;
-    assert_words(&rt, rt.alloc(), &affixes.wordchars)
+    for row in PARAGRAPHS.split('\n') {
+        let (text, want) = row.split_once('=').unwrap_or((row, "no row"));
+        assert_eq!(rt; words_told(rt.alloc(), text)?.as_str(), want, "{text}");
+    }
+    Ok(())
 }

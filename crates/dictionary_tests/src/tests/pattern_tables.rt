@@ -1,9 +1,9 @@
 //! Compound rules: what their texts are told to be in each type of flags, and which lists of flag
-//! sets they match.
+//! sets they match where they go over them from the front.
 
 use compound_pattern::{States, read_pattern};
 use lists::{Copied, NoMemory};
-use spell_types::{FlagKind, FlagSet, Pattern, PatternStep, Times};
+use spell_types::{Flag, FlagKind, FlagSet, Pattern, PatternStep, Times};
 use std::alloc::{AllocError, Global};
 use std::process::Abort;
 use std::test::Fail;
@@ -49,9 +49,16 @@ n*1t 110*,49,116 110*,49,116 BadPattern BadPattern
 (\u{e4}\u{1f600})? BadFlag BadFlag 979252672000? BadFlag
 1,2 49,44,50 49,44,50 BadPattern BadPattern";
 
-/// Rules of three flags, and how many of all lists of up to four sets of these flags each of them
-/// matches.
-const RULES: &str = "n*1t 336|n*mp 336|a?b*c 508|ab?c? 92|a*b*c* 1716|abc 64";
+/// Each row is a rule, and behind it lists of flag sets and whether it matches them. A dash is a list
+/// without sets, and a set between two commas has no flags. By hand: each set has the flag of the
+/// step that stands for it, and may have others. So `n1` goes on from `n` or from `1`.
+const LISTS: &str =
+    "n*1t 1,t=yes n,1,t=yes n,n,1,t=yes t=no 1=no n,t=no n1,t=yes n1,1t,t=yes 1,1t=yes 1,1=no 1,t,t=no -=no
+n*mp m,p=yes n,m,p=yes n,p=no ,m,p=no m,,p=no m,=no
+a?b*c c=yes a,c=yes b,c=yes a,b,b,c=yes a,a,c=no ab,ab,c=yes a,b=no b,a,c=no =no
+ab?c? a=yes a,b=yes a,c=yes a,b,c=yes a,c,b=no b,c=no -=no
+a*b*c* -=yes =no a=yes c=yes a,a,b,c,c=yes b,a=no abc,abc,abc=yes c,abc=yes c,ab=no
+abc a,b,c=yes a,b=no a,b,c,c=no abc,abc,abc=yes b,a,c=no -=no";
 
 fn sign_of(times: Times) -> &'static str {
     match times {
@@ -116,120 +123,42 @@ fn reads_texts_of_rules(rt: HostRuntime) -> Result<(), Fail> {
     Ok(())
 }
 
-/// The set of those flags of a rule whose bit is set in the mask.
-fn set_of(alloc: Global, steps: &[PatternStep], mask: u32) -> Result<FlagSet, NoMemory> {
+/// The set of these flags, each of which is a character.
+fn set_of(alloc: Global, flags: &str) -> Result<FlagSet, NoMemory> {
     let mut set = FlagSet::new(alloc);
-    let mut left = mask;
-    for step in steps {
-        if left % 2 == 1 {
-            set.insert(step.flag)?;
-        }
-        left /= 2;
+    for c in flags.chars() {
+        set.insert(Flag(u64::from(c)))?;
     }
     Ok(set)
 }
 
-fn all_sets(alloc: Global, steps: &[PatternStep]) -> Result<Vec<FlagSet>, NoMemory> {
-    let mut sets = Vec::new(alloc);
-    for mask in 0..8 {
-        sets.push(set_of(alloc, steps, mask)?)?;
-    }
-    Ok(sets)
-}
-
-/// The masks of a list of so many sets, which are the digits of its number to the base eight.
-fn masks_of(alloc: Global, count: usize, number: u32) -> Result<Vec<u32>, AllocError> {
-    let mut masks = Vec::new(alloc);
-    let mut left = number;
-    for _ in 0..count {
-        masks.push(left % 8)?;
-        left /= 8;
-    }
-    Ok(masks)
-}
-
-/// Whether a step stands for the sets: as many as it may, each with the step's bit.
-fn stands_for(step: Option<&PatternStep>, bit: u32, masks: &[u32]) -> bool {
-    let fits = masks.iter().all(|mask| *mask & bit == bit);
-    match step {
-        None => false,
-        Some(step) => match step.times {
-            Times::Once => masks.len() == 1 && fits,
-            Times::Maybe => masks.len() <= 1 && fits,
-            Times::Many => fits,
-        },
-    }
-}
-
-/// Whether a rule of three steps matches the sets: some of them at the front are the first step's,
-/// some behind them the second one's, and the others the third one's.
-fn is_matched(steps: &[PatternStep], masks: &[u32]) -> bool {
-    for first in 0..=masks.len() {
-        let (front, rest) = masks.split_at(first);
-        for second in 0..=rest.len() {
-            let (middle, end) = rest.split_at(second);
-            if stands_for(steps.get(0), 1, front)
-                && stands_for(steps.get(1), 2, middle)
-                && stands_for(steps.get(2), 4, end)
-            {
-                return true;
-            }
-        }
-    }
-    false
-}
-
-/// How a rule goes through the sets from the states before the first of them.
-fn is_accepted(
-    alloc: Global,
-    pattern: &Pattern,
-    begun: &States,
-    sets: &[FlagSet],
-    masks: &[u32],
-) -> Result<bool, NoMemory> {
-    let mut states = begun.copy(alloc)?;
-    for mask in masks {
-        if let Some(set) = sets.get(*mask as usize) {
-            states.advance(pattern, set);
-        }
+/// Whether a rule matches the sets, by states that are copied before the first of them.
+fn is_matched(alloc: Global, pattern: &Pattern, sets: &str) -> Result<bool, NoMemory> {
+    let mut states = States::start(alloc, pattern)?.copy(alloc)?;
+    for flags in sets.split(',').filter(|flags| *flags != "-") {
+        states.advance(pattern, &set_of(alloc, flags)?);
     }
     Ok(states.accepting(pattern))
 }
 
-/// How many lists of so many sets a rule matches, each of them as the search says.
-fn matched_lists(rt: &impl Abort, alloc: Global, rule: &str, count: usize) -> Result<u32, Fail> {
+fn assert_rule(rt: &impl Abort, alloc: Global, rule: &str, row: &str) -> Result<(), Fail> {
     let pattern = read_pattern(alloc, FlagKind::Single, rule)?;
-    let begun = States::start(alloc, &pattern)?;
-    let sets = all_sets(alloc, &pattern)?;
-    let lists = [1, 8, 64, 512, 4096].get(count).copied().unwrap_or(0);
-    let mut matched = 0u32;
-    for number in 0..lists {
-        let masks = masks_of(alloc, count, number)?;
-        let want = is_matched(&pattern, &masks);
+    for list in row.split(' ') {
+        let (sets, want) = list.split_once('=').unwrap_or((list, "no row"));
         assert_eq!(rt;
-            is_accepted(alloc, &pattern, &begun, &sets, &masks)?,
-            want,
-            "{rule} {masks:?}"
+            is_matched(alloc, &pattern, sets)?,
+            want == "yes",
+            "{rule} {list}"
         );
-        matched = matched.saturating_add(u32::from(want));
     }
-    Ok(matched)
-}
-
-fn assert_rule(rt: &impl Abort, alloc: Global, row: &str) -> Result<(), Fail> {
-    let (rule, want) = row.split_once(' ').unwrap_or((row, ""));
-    let mut matched = 0u32;
-    for count in 0..5 {
-        matched = matched.saturating_add(matched_lists(rt, alloc, rule, count)?);
-    }
-    assert_eq!(rt; matched, want.parse().unwrap_or(0), "{rule}");
     Ok(())
 }
 
 #[test]
 fn matches_lists_of_sets(rt: HostRuntime) -> Result<(), Fail> {
-    for row in RULES.split('|') {
-        assert_rule(&rt, rt.alloc(), row)?;
+    for row in LISTS.split('\n') {
+        let (rule, lists) = row.split_once(' ').unwrap_or((row, ""));
+        assert_rule(&rt, rt.alloc(), rule, lists)?;
     }
     Ok(())
 }

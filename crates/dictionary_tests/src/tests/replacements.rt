@@ -1,10 +1,10 @@
 //! REP: the words that a common misspelling may stand for.
 
-use aff_reader::read_aff;
+use super::dictionaries::{affixes_of, words_told};
 use conversions::rep_variants;
 use lists::NoMemory;
-use spell_types::{Chars, Rep, chars_of};
-use std::alloc::{AllocError, Global};
+use spell_types::{Rep, chars_of};
+use std::alloc::Global;
 use std::process::Abort;
 use std::test::Fail;
 
@@ -27,22 +27,10 @@ alota=
 salot=
 =";
 
-/// Words, each with a comma behind it.
-fn told(alloc: Global, words: &[Chars]) -> Result<String, AllocError> {
-    let mut text = String::new(alloc);
-    for word in words {
-        for c in word {
-            text.push(*c)?;
-        }
-        text.push(',')?;
-    }
-    Ok(text)
-}
-
 fn variants_told(alloc: Global, reps: &[Rep], word: &str) -> Result<String, NoMemory> {
     let word = chars_of(alloc, word)?;
     let variants = rep_variants(alloc, reps, &word)?;
-    Ok(told(alloc, &variants)?)
+    words_told(alloc, &variants)
 }
 
 fn assert_variants(rt: &impl Abort, alloc: Global, reps: &[Rep]) -> Result<(), Fail> {
@@ -55,6 +43,6 @@ fn assert_variants(rt: &impl Abort, alloc: Global, reps: &[Rep]) -> Result<(), F
 
 #[test]
 fn misspellings_stand_for_words(rt: HostRuntime) -> Result<(), Fail> {
-    let affixes = read_aff(rt.alloc(), AFF.as_bytes())?;
+    let affixes = affixes_of(rt.alloc(), AFF)?;
     assert_variants(&rt, rt.alloc(), &affixes.reps)
 }

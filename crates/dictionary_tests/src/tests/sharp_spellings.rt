@@ -1,10 +1,11 @@
 //! CHECKSHARPS: all spellings that a written word covers, where a run tells only whether one of
 //! them is right.
 
+use super::dictionaries::words_told;
 use letter_case::covered;
 use lists::NoMemory;
-use spell_types::{Chars, chars_of};
-use std::alloc::{AllocError, Global};
+use spell_types::chars_of;
+use std::alloc::Global;
 use std::process::Abort;
 use std::test::Fail;
 
@@ -33,22 +34,10 @@ SSS=SSS,sSS,sss,Sss,\u{df}s,
 SSSS=SSSS,sSSS,ssss,Ssss,\u{df}\u{df},\u{df}ss,ss\u{df},Ss\u{df},
 Ass=Ass,ass,";
 
-/// Words, each with a comma behind it.
-fn told(alloc: Global, words: &[Chars]) -> Result<String, AllocError> {
-    let mut text = String::new(alloc);
-    for word in words {
-        for c in word {
-            text.push(*c)?;
-        }
-        text.push(',')?;
-    }
-    Ok(text)
-}
-
 fn spellings_told(alloc: Global, word: &str) -> Result<String, NoMemory> {
     let word = chars_of(alloc, word)?;
     let found = covered(alloc, &word, true)?;
-    Ok(told(alloc, &found)?)
+    words_told(alloc, &found)
 }
 
 /// How many words a word covers, of which it is the first.

@@ -1,7 +1,6 @@
 //! PFX and SFX: the words that a rule was attached to.
 
-use super::dictionaries::text_of;
-use aff_reader::read_aff;
+use super::dictionaries::{affixes_of, text_of};
 use affix_classes::{undo_prefix, undo_suffix};
 use lists::NoMemory;
 use spell_types::{Chars, Rule, Side, chars_of};
@@ -101,6 +100,6 @@ fn assert_all_stems(rt: &impl Abort, alloc: Global, rules: &[Rule]) -> Result<()
 
 #[test]
 fn rules_are_undone(rt: HostRuntime) -> Result<(), Fail> {
-    let affixes = read_aff(rt.alloc(), AFF.as_bytes())?;
+    let affixes = affixes_of(rt.alloc(), AFF)?;
     assert_all_stems(&rt, rt.alloc(), &affixes.rules)
 }

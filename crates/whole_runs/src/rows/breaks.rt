@@ -109,6 +109,12 @@ dic 3|a-b|c|a/Z
 text a-b-c a-b a
 1 1 10 11 a|1 of 3
 
+# The dash breaks between two pieces, and is dropped at the end. What is barred is no piece either, and no piece may be empty.
+aff WORDCHARS -|FORBIDDENWORD Z|BREAK 2|BREAK -|BREAK -$
+dic 7|tea|cup|cup/Z|a|b|c|b-c/Z
+text tea cup cop tea-tea tea-cup tea-cop a-b-c b-c tea- tea-- -tea
+1 1 4 7 cup|1 8 11 cop|1 20 27 tea-cup|1 28 35 tea-cop|1 42 45 b-c|1 57 61 -tea|6 of 11
+
 # Each place and each pattern is tried, where texts overlap and where one is longer than the word.
 aff BREAK 1|BREAK aa
 dic 2|b|ab

@@ -70,6 +70,32 @@ dic 2|x/B|y/AP
 words forms a.aff a.dic
 0 py|x|xb|y|ya|yab|6 forms
 
+# A suffix that allows a second one and a prefix, beside an entry of the same word.
+aff PFX P Y 1|PFX P 0 un .|SFX S Y 1|SFX S 0 s .|SFX Q Y 1|SFX Q 0 s .|SFX R Y 1|SFX R 0 able/PS .
+dic 2|drink/RQ|drink/S
+words forms a.aff a.dic
+0 drink|drinkable|drinkables|drinks|undrinkable|undrinkables|6 forms
+
+# Affixes that need another one, on both sides and behind one another.
+aff NEEDAFFIX X|SFX A Y 2|SFX A 0 suf/B .|SFX A 0 pseudosuf/XB .|SFX B Y 1|SFX B 0 bar .|\
+    PFX C Y 2|PFX C 0 pre .|PFX C 0 pseudopre/X .
+dic 1|foo/AC
+words forms a.aff a.dic
+0 foo|foopseudosufbar|foosuf|foosufbar|prefoo|prefoopseudosuf|prefoopseudosufbar|prefoosuf|prefoosufbar|\
+    pseudoprefoopseudosufbar|pseudoprefoosuf|pseudoprefoosufbar|12 forms
+
+# A form that is empty is left out.
+aff FULLSTRIP|SFX W Y 1|SFX W a 0 a
+dic 1|a/W
+words forms a.aff a.dic
+0 a|1 forms
+
+# A form that another entry forbids, and a compound that one does.
+aff FORBIDDENWORD Z|COMPOUNDFLAG X|SFX S Y 1|SFX S 0 s .
+dic 5|bar/S|bars/Z|foo/X|baz/X|foobaz/Z
+words forms a.aff a.dic
+0 bar|baz|foo|3 forms
+
 # The files are loaded as by `check`: the .aff file before the .dic file, and no third one.
 words forms a.aff a.dic
 5 missing

@@ -109,6 +109,14 @@ dic 1|2ab
 text aaab
 0 0 of 1
 
+# Each word becomes one entry, in one table.
+aff ICONV 6|ICONV \u{2019} '|ICONV a y|ICONV ae x|ICONV ae z|ICONV y a|ICONV ss \u{df}
+dic 6|don't|dyn't|xyb|ya|\u{df}s|hello
+text don\u{2019}t dan\u{2019}t aeab ay sss hello
+0 0 of 6
+dic 6|dan't|zyb|aa|yy|s\u{df}|sss
+1 1 0 7 don\u{2019}t|1 8 15 dan\u{2019}t|1 16 20 aeab|1 21 23 ay|1 24 27 sss|1 28 33 hello|6 of 6
+
 # Texts are literal.
 aff WORDCHARS .|ICONV 1|ICONV . x
 dic 1|axb

@@ -20,6 +20,14 @@ dic 2|foo/X|bar/XKS
 text foobars Foobars bars Bars
 1 1 8 15 Foobars|1 21 25 Bars|2 of 4
 
+# Between an entry that keeps its case and one that asks for a capital at the front, both as parts.
+aff COMPOUNDFLAG X|KEEPCASE K|FORCEUCASE U
+dic 6|foo/X|bar/X|baz|qux/XK|straat/XU|Foo/X
+text foobar Foobar foofoobar Foofoobar foobaz Foobaz fooba Fooba
+1 1 34 40 foobaz|1 41 47 Foobaz|1 48 53 fooba|1 54 59 Fooba|4 of 8
+text fooqux Fooqux Barqux foostraat Foostraat straatfoo Straatfoo quxstraat Quxstraat
+1 1 14 20 Barqux|1 21 30 foostraat|1 61 70 quxstraat|1 71 80 Quxstraat|4 of 9
+
 fault aff 1 BadFlag: KEEPCASE ab
 fault aff 3 Twice: KEEPCASE A||KEEPCASE B
 ";

@@ -133,6 +133,150 @@ words pipe a.aff a.dic
 < 
 8 limit 131072
 
+# Each first character, while answers are terse and while they are not, again behind other lines.
+file a.aff PFX A Y 1|PFX A 0 re .|SFX B Y 2|SFX B 0 ed [^y]|SFX B y ied y
+file a.dic 3|hello|try/B|work/AB
+words pipe a.aff a.dic
+> hello tried
+< *
+< + try
+< 
+> reworked retry
+< + work
+< # retry 9
+< 
+> ^*retry
+< # retry 2
+< 
+> !
+> hello retry
+< # retry 6
+< 
+> %
+> tried
+< + try
+< 
+> 
+< 
+> !retry
+> retry tried rework
+< # retry 0
+< 
+> @xff@retry
+< bad 11
+< 
+> 
+< 
+> *retry
+> &retry
+> @x40@retry
+> +retry
+> -retry
+> ~retry
+> #retry
+> hello 12 wurk
+< # wurk 9
+< 
+> %retry
+> @xff@tried
+< bad 22
+< 
+> hello@xff@
+< bad 23
+< 
+> hello 12 HELLO wurk
+< *
+< *
+< # wurk 15
+< 
+> @xefbbbf@retry tried
+< # retry 3
+< + try
+< 
+> ^
+< 
+> ^^retry
+< # retry 2
+< 
+> ^hello
+< *
+< 
+> retry\r tried
+< # retry 0
+< + try
+< 
+>  !retry
+< # retry 2
+< 
+> $retry
+< # retry 1
+< 
+> \u{e9}t\u{e9} retry
+< # \u{e9}t\u{e9} 0
+< # retry 6
+< 
+> !@xff@
+> tried @xff@
+< bad 34
+< 
+> %@xff@
+> tried
+< + try
+< 
+
+# A compound, a word, and one that has a letter too many.
+file a.aff COMPOUNDFLAG X|COMPOUNDMIN 2|CHECKCOMPOUNDDUP|CHECKCOMPOUNDTRIPLE
+file a.dic 3|foo/X|bar/X|ox/X
+words pipe a.aff a.dic
+> foobar foo fooox
+< -
+< *
+< # fooox 11
+< 
+
+# A spelling that is forbidden, where the word covers another one that is not.
+file a.aff FORBIDDENWORD Z|SFX S Y 1|SFX S 0 s .
+file a.dic 3|foo/S|foos/Z|Foo/S
+words pipe a.aff a.dic
+> FOOS Foos foos foo
+< + Foo
+< + Foo
+< # foos 10
+< *
+< 
+
+# Words of several entries, of which the first one counts.
+file a.aff SFX B Y 1|SFX B 0 ed .|PFX A Y 1|PFX A 0 re .
+file a.dic 4|work/AB|worked|tried|tri/B
+words pipe a.aff a.dic
+> worked tried rework
+< + work
+< *
+< + work
+< 
+
+# An entry that keeps its case.
+file a.aff KEEPCASE K|SFX S Y 1|SFX S 0 s .
+file a.dic 2|drink/KS|Drinks
+words pipe a.aff a.dic
+> Drinks drinks DRINK
+< *
+< + drink
+< # DRINK 14
+< 
+
+# Words that are converted, that have a character to ignore, that are broken, and a number.
+file a.aff ICONV 1|ICONV y i|IGNORE \u{e4}|WORDCHARS -0123456789|SFX S Y 1|SFX S 0 s .
+file a.dic 1|hi/S
+words pipe a.aff a.dic
+> hy hyys h\u{e4}ys hi-hys 12
+< *
+< # hyys 3
+< + hi
+< -
+< -
+< 
+
 # Files that are not there, that have a fault, and that fail. Nothing is read then.
 words pipe a.aff none.dic
 > hello

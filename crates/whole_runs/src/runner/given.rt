@@ -3,7 +3,7 @@
 use super::files::{push_file, push_line};
 use super::held::{Counted, Held};
 use command_line::run;
-use outside::{MemFiles, MemSink, MemSource};
+use outside_doubles::{MemFiles, MemSink, MemSource};
 use std::alloc::{AllocError, Global};
 use std::sync::Wait;
 use std::thread::Threads;

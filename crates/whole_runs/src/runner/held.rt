@@ -1,6 +1,7 @@
 //! A gate that holds all workers until so much is written.
 
-use outside::{Failed, Gate, MemSink, Sink};
+use outside::{Failed, Gate, Sink};
+use outside_doubles::MemSink;
 use std::sync::atomic::{AtomicU64, Ordering};
 use std::thread;
 

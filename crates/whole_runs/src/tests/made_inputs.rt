@@ -2,7 +2,7 @@
 
 use crate::runner::{files_of, seen_of, words_of};
 use command_line::run_check;
-use outside::MemSink;
+use outside_doubles::MemSink;
 use std::alloc::{AllocError, Global};
 use std::process::Abort;
 use std::sync::Wait;

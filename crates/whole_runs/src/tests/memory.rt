@@ -2,7 +2,8 @@
 
 use crate::runner::{files_of, words_of};
 use command_line::run;
-use outside::{Failed, FreeGate, MemFiles, Sink, SureSource};
+use outside::{Failed, FreeGate, Sink};
+use outside_doubles::{MemFiles, SureSource};
 use std::alloc::{AllocError, Global};
 use std::process::Abort;
 use std::sync::Wait;

@@ -2,7 +2,8 @@
 
 use crate::runner::{files_of, words_of};
 use command_line::run;
-use outside::{Gate, MemSink, SureSource};
+use outside::Gate;
+use outside_doubles::{MemSink, SureSource};
 use std::alloc::{AllocError, Global};
 use std::process::Abort;
 use std::sync::Wait;

@@ -17,7 +17,7 @@ returns-then-branch g c =
     AtSome (λ second. From c.args.lexicon.now prefix c.args.first second c.args.entries.now)
     c.args.seconds.now) c.args.prefixes.now c.loop-prefix.prefix-index
     (get_or c.args.prefixes.now c.loop-prefix.prefix-index None) None
-    (omega arith) refl c.loop-prefix.invariant c.in_ok-visit_seconds.ensures c.if-branch.true
+    (omega arith) refl c.loop-prefix.invariant c.in_ok-visit_second_suffixes.ensures c.if-branch.true
 
 pub loop-prefix-preserved : goal.loop-prefix-preserved
 loop-prefix-preserved g c =
@@ -25,7 +25,7 @@ loop-prefix-preserved g c =
     AtSome (λ second. From c.args.lexicon.now prefix c.args.first second c.args.entries.now)
     c.args.seconds.now) c.args.prefixes.now c.loop-prefix.prefix-index
     (get_or c.args.prefixes.now c.loop-prefix.prefix-index None) None
-    (omega arith) refl c.loop-prefix.invariant c.in_ok-visit_seconds.ensures c.if-branch.false
+    (omega arith) refl c.loop-prefix.invariant c.in_ok-visit_second_suffixes.ensures c.if-branch.false
 
 pub returns : goal.returns
 returns g c =

@@ -1,6 +1,6 @@
 -- What was open at the places so far is closed behind what the eye knew.
 use Rattle.board_share.specs.Eyes.{IsLater}
-use Rattle.check_workers.specs.Knowing.{CountsChecks}
+use Rattle.board_share.specs.Eyes.{CountsChecks}
 use Rattle.check_workers.proofs.OneByOne.{IsSettledTo}
 use Rattle.check_workers.proofs.settling.settle_board.Given as goal
 

@@ -1,5 +1,5 @@
 -- What statuses tell.
-use Rattle.command_line.proofs.EndLemmas.{five-has-cause, six-is-sink, two-has-no-form}
+use Rattle.command_line.proofs.StatusLemmas.{five-has-cause, six-is-sink, two-has-no-form}
 use Rattle.command_line.proofs.top_call.run.Goals as goal
 
 pub returns-clause-no_form : goal.returns-clause-no_form

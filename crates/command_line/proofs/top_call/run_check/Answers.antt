@@ -1,7 +1,7 @@
 -- What statuses tell, without an input.
 use Rattle.std.proofs.Common.{None, inl, inr, arith, refl, ⊎_elim}
 use Rattle.input_lines.specs.Ends.{Reading}
-use Rattle.command_line.proofs.EndLemmas.{five-has-cause, six-is-sink, two-has-no-form}
+use Rattle.command_line.proofs.StatusLemmas.{five-has-cause, six-is-sink, two-has-no-form}
 use Rattle.command_line.proofs.top_call.run_check.Goals as goal
 
 -- no input

@@ -1,7 +1,7 @@
 -- Words of no form are told, and nothing else.
 use Rattle.std.proofs.Common.{[], arith, refl}
 use Rattle.outside.specs.Laws.{appends-none}
-use Rattle.command_line.proofs.EndLemmas.{ends-behind}
+use Rattle.file_loading.specs.EndLaws.{ends-behind}
 use Rattle.command_line.proofs.top_call.tell_words.Goals as goal
 
 pub returns-clause-due : goal.returns-clause-due

@@ -12,7 +12,7 @@ returns-in-Nowhere c =
 
 pub returns-in-AtEntries : goal.returns-in-AtEntries
 returns-in-AtEntries c =
-    if_answered c.visit_bare.result c.visit_bare.ensures (λ b shown.
+    if_answered c.visit_without_suffix.result c.visit_without_suffix.ensures (λ b shown.
     barred-bare c.args.self.now.lexicon c.args.word.now _ b
     (subst (IsBarring c.args.self.now.lexicon) c.in-AtEntries.is c.requires.barring) shown)
 

@@ -8,7 +8,7 @@ pub returns-then-branch : goal.returns-then-branch
 returns-then-branch g c =
     shows-end (λ d bare. none-gives c.args.self.now.lexicon c.args.word.now d
     (bare-inside c.args.self.now.lexicon (None ∷ []) c.args.word.now d bare))
-    c.in_ok-visit_bare.ensures c.if-branch.true
+    c.in_ok-visit_without_suffix.ensures c.if-branch.true
 
 pub returns-then-branch-2 : goal.returns-then-branch-2
 returns-then-branch-2 g c =
@@ -16,16 +16,16 @@ returns-then-branch-2 g c =
     (shows-then
     (all-behind c.undoing_leads_back.ensures c.args.self.now.lexicon (None ∷ []) c.args.word.now
     c.as_slice-endings.result.now (search rules))
-    c.in_ok-visit_bare.ensures c.if-branch.false c.in_ok-visit_suffixed.ensures)
+    c.in_ok-visit_without_suffix.ensures c.if-branch.false c.in_ok-visit_suffixed.ensures)
     c.if-branch-2.true
 
 pub returns : goal.returns
 returns g c =
-    answer-then _ c.visit_fronts.result
+    answer-then _ c.visit_prefix_groups.result
     (all-passing c.undoing_leads_back.ensures c.args.self.now.lexicon c.args.word.now
     c.as_slice.result.now (search rules))
     (shows-then
     (all-behind c.undoing_leads_back.ensures c.args.self.now.lexicon (None ∷ []) c.args.word.now
     c.as_slice-endings.result.now (search rules))
-    c.in_ok-visit_bare.ensures c.if-branch.false c.in_ok-visit_suffixed.ensures)
-    c.if-branch-2.false c.visit_fronts.ensures
+    c.in_ok-visit_without_suffix.ensures c.if-branch.false c.in_ok-visit_suffixed.ensures)
+    c.if-branch-2.false c.visit_prefix_groups.ensures

@@ -5,9 +5,9 @@ use Rattle.affix_strip.proofs.walk.IndexedLexicon.visit_suffixed.Goals as goal
 
 pub returns-then-branch : goal.returns-then-branch
 returns-then-branch g c =
-    shows-end (λ d first. inl first) c.in_ok-visit_firsts.ensures c.if-branch.true
+    shows-end (λ d first. inl first) c.in_ok-visit_first_suffix_groups.ensures c.if-branch.true
 
 pub returns : goal.returns
 returns g c =
-    answer-then _ c.visit_outers.result (λ d. (λ e. e, λ e. e)) c.in_ok-visit_firsts.ensures
-    c.if-branch.false c.visit_outers.ensures
+    answer-then _ c.visit_second_suffix_groups.result (λ d. (λ e. e, λ e. e)) c.in_ok-visit_first_suffix_groups.ensures
+    c.if-branch.false c.visit_second_suffix_groups.ensures

@@ -1,7 +1,7 @@
 -- It is the same worker, which has claimed and finished, and nothing else.
 use Rattle.std.proofs.Common.{◌≡◌}
 use Rattle.board_share.specs.Eyes.{IsLater}
-use Rattle.check_workers.specs.Knowing.{CountsChecks}
+use Rattle.board_share.specs.Eyes.{CountsChecks}
 use Rattle.check_workers.proofs.working.Worker+J+D+Desk+J+D+R.work.Given as goal
 
 abbrev pub invariant-loop : goal.invariant-loop

@@ -1,6 +1,0 @@
-//! Tests of boards, and of paragraphs that are checked in steps: calls of lower crates that no run
-//! of the program shows. It has no code of its own.
-#![tactic(auto)]
-
-#[cfg(test)]
-mod tests;

@@ -1,5 +1,0 @@
-pub mod Readings
-pub mod Numbered
-pub mod Seats
-pub mod Nothing
-pub mod Closings

@@ -1,3 +1,0 @@
-pub mod Dialogues
-pub mod Talks
-pub mod Endings

@@ -1,8 +1,0 @@
--- The name stands for the blank and the board that are given.
-use Rattle.desk_tests.proofs.tests.looks.eyes_without_a_call_see_what_is_shown.Given as goal
-
-abbrev pub ghosts-assert_fresh_eyes-D-Naming : goal.ghosts-assert_fresh_eyes-D-Naming
-ghosts-assert_fresh_eyes-D-Naming g a = record { book = a.blank.book; opening = a.opening }
-
-abbrev pub ghosts-assert_fresh_eyes-D-Ledger : goal.ghosts-assert_fresh_eyes-D-Ledger
-ghosts-assert_fresh_eyes-D-Ledger g a = record { name = a.blank.ledger; parts = a.blank.parts }

@@ -1,8 +1,0 @@
--- The name stands for the blank and the board that are given.
-use Rattle.desk_tests.proofs.tests.looks.the_second_of_two_edits_is_behind.Given as goal
-
-abbrev pub ghosts-assert_behind-D-Naming : goal.ghosts-assert_behind-D-Naming
-ghosts-assert_behind-D-Naming g a = record { book = a.blank.book; opening = a.opening }
-
-abbrev pub ghosts-assert_behind-D-Ledger : goal.ghosts-assert_behind-D-Ledger
-ghosts-assert_behind-D-Ledger g a = record { name = a.blank.ledger; parts = a.blank.parts }

@@ -1,0 +1,6 @@
+pub mod Readings
+pub mod Numbered
+pub mod Seats
+pub mod Nothing
+pub mod Closings
+pub mod DialogueLemmas

@@ -1,0 +1,4 @@
+pub mod Dialogues
+pub mod Talks
+pub mod Endings
+pub mod Forms

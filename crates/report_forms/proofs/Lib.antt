@@ -1,0 +1,4 @@
+pub mod DueLemmas
+pub mod ReportLemmas
+pub mod ListingLemmas
+pub mod MadeLemmas

@@ -1,0 +1,11 @@
+pub mod Ranges
+pub mod Numbers
+pub mod Plain
+pub mod Lines
+pub mod Seats
+pub mod UpTo
+pub mod Held
+pub mod Closings
+pub mod Stops
+pub mod TeamLemmas
+pub mod PutLemmas

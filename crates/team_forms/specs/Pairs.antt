@@ -1,0 +1,38 @@
+-- The pairs of dictionary files that sessions load, as they were loaded before.
+use Rattle.std.specs.Prelude.{◌≡◌, ℕ, Bool, List, map, Option, Result, Ok, Err}
+use Rattle.std.specs.Arc.{arc_value}
+use Rattle.outside.specs.Files.{Folder}
+use Rattle.spell_types.specs.declared.Lexicon.{Lexicon}
+use Rattle.dictionary_swap.specs.Loads.{DictionaryFiles, lexicon_due}
+use Rattle.dictionary_swap.specs.declared.fault.LoadFault.{LoadFault}
+use Rattle.console_board.specs.Transcripts.{IsThere}
+use Rattle.team_script.specs.Pairs.{LoadsAmong, is_same}
+use Rattle.team_script.specs.declared.pairs.Pair.{Pair}
+use Rattle.team_forms.specs.declared.pairs.LoadedPair.{LoadedPair}
+
+-- what is held is what is due of two files: their dictionary, or its fault
+abbrev pub Holds : {A : Type 0} → (A → Lexicon) → Result Lexicon LoadFault → Result A LoadFault
+    → Type 0
+Holds lexicon_of (Ok lexicon) (Ok held) = lexicon_of held ≡ lexicon
+Holds lexicon_of (Err fault) (Err held) = held ≡ fault
+Holds lexicon_of due held = ⊥
+
+-- a pair was loaded: what is held of it is due of some files, which are those of the folder that is
+-- told, where one is
+pub record IsLoaded {J : Type 0} (lexicon_of : J → Lexicon) (folder : Option Folder)
+    (pair : LoadedPair J) : Type 0 where
+  pub there : DictionaryFiles
+  pub is_there : IsThere folder pair.aff pair.dic there
+  pub holds : Holds (λ judge. lexicon_of (arc_value judge)) (lexicon_due there) pair.loaded
+
+-- the names of a pair
+abbrev pub names_of : {J : Type 0} → LoadedPair J → Pair
+names_of pair = record { aff = pair.aff; dic = pair.dic }
+
+-- whether these are its names
+abbrev pub is_named : {J : Type 0} → List ℕ → List ℕ → LoadedPair J → Bool
+is_named aff dic pair = is_same (names_of pair) (record { aff = aff; dic = dic })
+
+-- if a line loads a pair, it is among these
+abbrev pub LoadsHeld : {J : Type 0} → List (LoadedPair J) → List ℕ → Type 0
+LoadsHeld pairs line = LoadsAmong (map names_of pairs) line

@@ -1,0 +1,100 @@
+//! Loads the files that the words `team` and a script name.
+
+ghost use Rattle.std.specs.Prelude.{◌≡◌, ◌<◌, ◌≤◌, ℕ, List, length, Option, IfOk, IsErrOf};
+ghost use Rattle.std.specs.Arc.{arc_value};
+ghost use Rattle.lists.specs.Answers.{GivesDue, failing};
+ghost use Rattle.console_board.specs.Transcripts.{IsThere};
+ghost use Rattle.dictionary_swap.specs.Loads.{DictionaryFiles, MayCome as LoadMayCome, lexicon_due};
+ghost use Rattle.dictionary_swap.specs.declared.fault.LoadFault.TheVariants.{Failed};
+ghost use Rattle.dictionary_swap.specs.declared.limits.TheConstants.{SIZE_LIMIT};
+ghost use Rattle.team_script.specs.Due.{script_due};
+ghost use Rattle.file_loading.specs.Due.{IsFileThere, MayCome, base_due};
+ghost use Rattle.team_forms.specs.Teams.{script_failure, read_due};
+ghost use Rattle.file_loading.specs.declared.failure.Failure.TheVariants.{Load};
+
+use crate::limits::MOST_PAIRS;
+use dictionary_swap::{LoadFault, SIZE_LIMIT};
+use file_loading::{Failure, load_bytes, shared};
+use input_lines::LINE_LIMIT;
+use outside::Files;
+use own_dictionary::load;
+use std::alloc::Global;
+use std::sync::Arc;
+use team_script::{Script, ScriptFault, read_script};
+use word_verdict::Speller;
+
+/// The dictionary of these two files alone, to be asked, which threads may share.
+pub fn load_base_judge<F: Files>(
+    alloc: Global,
+    files: &mut F,
+    aff: &str,
+    dic: &str,
+) -> Result<Arc<Speller>, Failure>
+    ensures due { (there : DictionaryFiles) × IsThere (F.told files.old) aff.now dic.now there
+        × GivesDue MayCome (λ judge. arc_value judge) (base_due there) result }
+    ensures failed { IsErrOf result (Load Failed) → F.faults files.old < F.faults files.new }
+    ensures same { F.told files.new ≡ F.told files.old }
+    ensures count { F.faults files.old ≤ F.faults files.new }
+{
+    match load_speller(alloc, files, aff, dic) {
+        Ok(judge) => Ok(judge),
+        Err(fault) => Err(Failure::from(fault)),
+    }
+}
+
+/// The same, where a fault is told as that of the files.
+pub fn load_speller<F: Files>(
+    alloc: Global,
+    files: &mut F,
+    aff: &str,
+    dic: &str,
+) -> Result<Arc<Speller>, LoadFault>
+    ensures due { (there : DictionaryFiles) × IsThere (F.told files.old) aff.now dic.now there
+        × GivesDue LoadMayCome (λ judge. arc_value judge) (lexicon_due there) result }
+    ensures failed { IsErrOf result Failed → F.faults files.old < F.faults files.new }
+    ensures same { F.told files.new ≡ F.told files.old }
+    ensures count { F.faults files.old ≤ F.faults files.new }
+{
+    let speller = load(alloc, files, aff, dic)?;
+    Ok(shared(alloc, speller)?)
+}
+
+/// The script of this name. It has no more lines than a file has bytes.
+pub fn load_script<F: Files>(alloc: Global, files: &mut F, name: &str) -> Result<Script, Failure>
+    ensures due { (file : Option (List ℕ)) × IsFileThere (F.told files.old) name.now file
+        × GivesDue MayCome (λ script. script) (read_due file) result }
+    ensures few { IfOk result (λ script. length script.lines ≤ SIZE_LIMIT) }
+    ensures failed { IsErrOf result (Load Failed) → F.faults files.old < F.faults files.new }
+    ensures same { F.told files.new ≡ F.told files.old }
+    ensures count { F.faults files.old ≤ F.faults files.new }
+{
+    let bytes = load_bytes(alloc, files, name, SIZE_LIMIT)?;
+    script_of(alloc, &bytes)
+}
+
+/// The script that these bytes are.
+fn script_of(alloc: Global, bytes: &[u8]) -> Result<Script, Failure>
+    ensures due { GivesDue MayCome (λ script. script)
+        (failing script_failure (script_due bytes.now)) result }
+    ensures few { IfOk result (λ script. length script.lines ≤ length bytes.now) }
+    ensures failed { ¬ (IsErrOf result (Load Failed)) }
+{
+    match read_script(alloc, bytes) {
+        Ok(script) => Ok(script),
+        Err(fault) => Err(script_failure(fault)),
+    }
+}
+
+/// Why a call fails where a file is no script.
+fn script_failure(fault: ScriptFault) -> Failure
+    ensures { result ≡ script_failure fault }
+{
+    match fault {
+        ScriptFault::Bad { line } => Failure::Script { line },
+        ScriptFault::LongLine => Failure::Limit {
+            limit: LINE_LIMIT as u64,
+        },
+        ScriptFault::ManyPairs => Failure::Limit { limit: MOST_PAIRS },
+        ScriptFault::NoMemory => Failure::NoMemory,
+    }
+}

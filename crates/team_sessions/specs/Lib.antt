@@ -1,4 +1,0 @@
-pub mod Pairs
-pub mod Sessions
-pub mod Teams
-pub mod Seats
