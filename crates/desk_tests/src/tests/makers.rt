@@ -9,7 +9,6 @@ ghost use Rattle.edit_core.specs.Seen.{IsOpening};
 ghost use Rattle.board_share.specs.Namings.{IsNamed};
 
 use board_share::{Blank, Desk, Eye, Naming};
-use check_workers::CheckEnd;
 use edit_core::Board;
 use lists::NoMemory;
 use mark_types::Judge;
@@ -20,7 +19,7 @@ use std::process::Abort;
 use std::sync::atomic::{AtomicBool, AtomicU32, Ordering};
 use std::sync::{Arc, Wait};
 use std::thread;
-use std::thread::{Threads, for_each_mut};
+use std::thread::Threads;
 use text_lines::Text;
 
 /// How often a thread looks whether another one has come so far.
@@ -207,99 +206,6 @@ pub(super) fn assert_plays<S: Scene, R: Threads + Wait + Abort + Sync>(
     requires { (0 < eyes) × (eyes ≤ 64) }
 {
     assert_eq!(rt; play(rt, alloc, eyes, texts, scene), Some(()));
-}
-
-/// What a thread has: its eye, while no session and no worker has it, and what it brings back.
-#[derive(Drop)]
-pub(super) struct Seat<D: Naming> {
-    pub(super) eyes: Vec<Eye<Numbers, D>>,
-    pub(super) brought: Brought,
-}
-
-/// What a thread brings back.
-#[derive(Clone, Copy)]
-pub(super) struct Brought {
-    /// The last text version and dictionary version that a session was told or saw.
-    pub(super) last: Option<(u64, u64)>,
-    /// Whether a worker was ended by its bell, or a session saw what it waited for.
-    pub(super) is_done: bool,
-    /// Why a check ended without marks.
-    pub(super) end: Option<CheckEnd>,
-}
-
-impl Brought {
-    const NOTHING: Brought = Brought {
-        last: None,
-        is_done: false,
-        end: None,
-    };
-}
-
-/// What threads do.
-pub(super) trait Part {
-    /// What the thread with a number does.
-    fn act<D: Naming, W: Wait + Drop, R: Wait>(
-        &self,
-        rt: &R,
-        alloc: Global,
-        desk: &Desk<Numbers, D, W>,
-        place: usize,
-        seat: &mut Seat<D>,
-    ) -> Option<()>;
-}
-
-/// A thread for each of the eyes, as far as threads can be made, and their seats when all have ended.
-pub(super) fn act_at_once<
-    P: Part + Sync,
-    D: Naming + Send + Sync,
-    W: Wait + Drop + Send + Sync,
-    R: Threads + Wait + Sync,
->(
-    rt: &R,
-    alloc: Global,
-    desk: &Desk<Numbers, D, W>,
-    eyes: &mut Vec<Eye<Numbers, D>>,
-    part: &P,
-) -> Option<Vec<Seat<D>>> {
-    let mut seats = seats_of(alloc, eyes)?;
-    act_in(rt, alloc, desk, &mut seats, part);
-    Some(seats)
-}
-
-/// All threads at once.
-fn act_in<
-    P: Part + Sync,
-    D: Naming + Send + Sync,
-    W: Wait + Drop + Send + Sync,
-    R: Threads + Wait + Sync,
->(rt: &R, alloc: Global, desk: &Desk<Numbers, D, W>, seats: &mut [Seat<D>], part: &P) {
-    let threads = seats.len().max(1);
-    for_each_mut(
-        rt,
-        seats,
-        threads,
-        &|place: usize, seat: &mut Seat<D>| {
-            let _done = part.act(rt, alloc, desk, place, seat);
-        },
-    );
-}
-
-/// A seat for each eye, the last eye first.
-fn seats_of<D: Naming>(alloc: Global, eyes: &mut Vec<Eye<Numbers, D>>) -> Option<Vec<Seat<D>>> {
-    let mut seats = Vec::new(alloc);
-    for _ in 0..eyes.len() {
-        seats.push(seat_of(alloc, eyes.pop()?)?).ok()?;
-    }
-    Some(seats)
-}
-
-fn seat_of<D: Naming>(alloc: Global, eye: Eye<Numbers, D>) -> Option<Seat<D>> {
-    let mut eyes = Vec::new(alloc);
-    eyes.push(eye).ok()?;
-    Some(Seat {
-        eyes,
-        brought: Brought::NOTHING,
-    })
 }
 
 /// The part of a text with this place, from 0, between these signs.
