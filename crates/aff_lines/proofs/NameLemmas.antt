@@ -16,14 +16,16 @@ use Rattle.std.proofs.lemmas.Slice.Eq.{bytes_eq-Decides}
 use denote.Enum.Bare.{tag_one, same_true, true_same}
 use denote.Enum.Declared.{tag_of, variants}
 use denote.Enum.Enum.{tag_below}
-use Rattle.lists.specs.Laws.{contains-filter}
+use Rattle.text_lines.specs.lists.Laws.{contains-filter}
 use Rattle.aff_lines.specs.contracts.names.Directive.{the_type}
 use Rattle.aff_lines.specs.contracts.names.Pass.{the_type as the_passes}
 use Rattle.aff_lines.specs.declared.names.Described.{Described}
 use Rattle.aff_lines.specs.declared.names.Directive.{Directive}
 use Rattle.aff_lines.specs.declared.names.Pass.{Pass}
-use Rattle.aff_lines.specs.Names.{Description, description_of, is_described, directive_in, names_of}
-use Rattle.aff_lines.specs.Names.{is_text, is_named, named_in, is_same, is_of, all_directives}
+use Rattle.aff_lines.specs.Names.{Description, description_of, is_described, directive_in}
+use Rattle.aff_lines.specs.Names.{names_of_directive}
+use Rattle.aff_lines.specs.Names.{is_field_text, is_name_of_row, named_in, is_same_directive}
+use Rattle.aff_lines.specs.Names.{is_of_pass, all_directives}
 use Rattle.aff_lines.specs.Names.{all_names, directive_named, directives_in}
 
 -- each directive has one row
@@ -71,14 +73,14 @@ pub rows-of-pass : (pass : Pass) (row : Description) → Contains (directives_in
 unfolding directives_in
 rows-of-pass pass row = (
   λ among. (
-    All-contains (Contains all_directives) (filter (is_of pass) all_directives) row
-        (All-filter (is_of pass) (Contains all_directives) all_directives
+    All-contains (Contains all_directives) (filter (is_of_pass pass) all_directives) row
+        (All-filter (is_of_pass pass) (Contains all_directives) all_directives
         (All-contains_itself all_directives)) among,
     same_true the_passes tt row.pass pass
-        (All-contains (λ d. is_of pass d ≡ true) (filter (is_of pass) all_directives) row
-        (filter_passes (is_of pass) all_directives) among),
+        (All-contains (λ d. is_of_pass pass d ≡ true) (filter (is_of_pass pass) all_directives) row
+        (filter_passes (is_of_pass pass) all_directives) among),
   ),
-  λ is. contains-filter (is_of pass) all_directives row is.0
+  λ is. contains-filter (is_of_pass pass) all_directives row is.0
       (true_same the_passes row.pass pass is.1),
 )
 
@@ -124,13 +126,13 @@ names-once = distinct-pairs all_names all-distinct
 
 is-that : Directive → Option Directive → Bool
 is-that directive None = false
-is-that directive (Some found) = is_same found directive
+is-that directive (Some found) = is_same_directive found directive
 
 leads-to : Directive → List ℕ → Bool
 leads-to directive name = is-that directive (directive_named name)
 
 is-found : Description → Bool
-is-found row = list_all (leads-to row.directive) (names_of row)
+is-found row = list_all (leads-to row.directive) (names_of_directive row)
 
 all-found : list_all is-found all_directives ≡ true
 unfolding is-that leads-to is-found all_directives directive_named
@@ -143,54 +145,54 @@ that-one directive None is = absurd (cc is)
 that-one directive (Some found) is = ap Some (same_true the_type (search rules) found directive is)
 
 pub name-found : (row : Description) (name : List ℕ) → Contains all_directives row
-    → Contains (names_of row) name → directive_named name ≡ Some row.directive
+    → Contains (names_of_directive row) name → directive_named name ≡ Some row.directive
 unfolding is-found leads-to
 name-found row name among own =
-    let all : list_all (leads-to row.directive) (names_of row) ≡ true =
+    let all : list_all (leads-to row.directive) (names_of_directive row) ≡ true =
     All-contains (λ r. is-found r ≡ true) all_directives row
     (all-by-test is-found all_directives all-found) among in
     that-one row.directive (directive_named name)
-    (All-contains (λ n. leads-to row.directive n ≡ true) (names_of row) name
-    (all-by-test (leads-to row.directive) (names_of row) all) own)
+    (All-contains (λ n. leads-to row.directive n ≡ true) (names_of_directive row) name
+    (all-by-test (leads-to row.directive) (names_of_directive row) all) own)
 
 -- what is found by a name has that name
 
-second-name : (other : Option (List ℕ)) (first name : List ℕ) → is_text other name ≡ true
+second-name : (other : Option (List ℕ)) (first name : List ℕ) → is_field_text other name ≡ true
     → Contains (first ∷ option_to_list other) name
 second-name None first name is = absurd (cc is)
 second-name (Some other) first name is = (1, omega arith, (bytes_eq-Decides other name).0 is)
 
-own-name : (row : Description) (name : List ℕ) → is_named name row ≡ true
-    → Contains (names_of row) name
+own-name : (row : Description) (name : List ℕ) → is_name_of_row name row ≡ true
+    → Contains (names_of_directive row) name
 own-name row name is = by-test (bytes_eq row.name name) refl
   where
-    by-test : (b : Bool) → bytes_eq row.name name ≡ b → Contains (names_of row) name
+    by-test : (b : Bool) → bytes_eq row.name name ≡ b → Contains (names_of_directive row) name
     by-test true same = (0, omega arith, (bytes_eq-Decides row.name name).0 same)
     by-test false differs =
         second-name row.other_name row.name name
-        (sym (ap (λ b. b || is_text row.other_name name) differs) ∙ is)
+        (sym (ap (λ b. b || is_field_text row.other_name name) differs) ∙ is)
 
 abbrev pub RowWith : List Description → Directive → List ℕ → Type 0
 RowWith rows directive name = (row : Description) × Contains rows row × (row.directive ≡ directive)
-    × Contains (names_of row) name
+    × Contains (names_of_directive row) name
 
 found-has : (name : List ℕ) (rows : List Description) (directive : Directive)
     → named_in name rows ≡ Some directive → RowWith rows directive name
 found-has name [] directive is = absurd (cc is)
 found-has name (row ∷ rows) directive is =
-    by-test (λ found. found-has name rows directive found) (is_named name row) refl
+    by-test (λ found. found-has name rows directive found) (is_name_of_row name row) refl
   where
     by-test : (named_in name rows ≡ Some directive → RowWith rows directive name) → (b : Bool)
-        → is_named name row ≡ b → RowWith (row ∷ rows) directive name
+        → is_name_of_row name row ≡ b → RowWith (row ∷ rows) directive name
     by-test more true named =
         let found : Some row.directive ≡ Some directive =
         sym (ap (λ b. option_map directive_in
-        (cond b (Some row) (find (is_named name) rows))) named) ∙ is in
+        (cond b (Some row) (find (is_name_of_row name) rows))) named) ∙ is in
         (row, (0, omega arith, refl), cc found, own-name row name named)
     by-test more false other =
         let found : named_in name rows ≡ Some directive =
         sym (ap (λ b. option_map directive_in
-        (cond b (Some row) (find (is_named name) rows))) other) ∙ is in
+        (cond b (Some row) (find (is_name_of_row name) rows))) other) ∙ is in
         let later = more found in
         (later.0, (suc later.1.0, omega (arith, later.1.1), later.1.2), later.2, later.3)
 
@@ -210,7 +212,7 @@ named_described name (row ∷ rows) = by-test (is_described name row) (named_des
     by-test : (b : Bool) → named_in name (map description_of rows) ≡ option_map
         (λ (row : Described). row.directive) (find (is_described name) rows)
         → option_map directive_in
-        (cond b (Some (description_of row)) (find (is_named name) (map description_of rows)))
+        (cond b (Some (description_of row)) (find (is_name_of_row name) (map description_of rows)))
         ≡ option_map (λ (row : Described). row.directive)
         (cond b (Some row) (find (is_described name) rows))
     by-test true rest = refl

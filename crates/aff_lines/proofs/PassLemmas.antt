@@ -13,18 +13,19 @@ use Rattle.spell_types.specs.declared.flags.FlagKind.{FlagKind}
 use Rattle.aff_lines.specs.declared.faults.AffWhy.TheVariants.{Twice}
 use Rattle.aff_lines.specs.declared.names.Described.{Described}
 use Rattle.aff_lines.specs.declared.names.Pass.{Pass}
-use Rattle.aff_lines.specs.declared.names.Row.{Row}
+use Rattle.aff_lines.specs.declared.names.RowForm.{RowForm}
 use Rattle.aff_lines.specs.declared.rows.DirectiveLine.{DirectiveLine}
 use Rattle.aff_lines.specs.Faults.{Fault, cause_number, sooner, least_of}
 use Rattle.aff_lines.specs.Grammar.{at, row_faults, past_faults, rows_faults, place_faults}
-use Rattle.aff_lines.specs.Names.{Description, description_of, is_of, all_directives, directives_in}
+use Rattle.aff_lines.specs.Names.{Description, description_of, is_of_pass, all_directives}
+use Rattle.aff_lines.specs.Names.{directives_in}
 use Rattle.aff_lines.specs.Passes.{directive_faults, pass_faults, faults_in, lines_at, set_in}
 
 some-left : (left : ℕ) → (suc left == 0) ≡ false
 some-left left = grind (arith, nat_tests)
 
 -- the first of the rows that are wanted, and those behind it
-pub rows-step : (kind : FlagKind) (row : Row) (left next : ℕ) (line : DirectiveLine)
+pub rows-step : (kind : FlagKind) (row : RowForm) (left next : ℕ) (line : DirectiveLine)
     (more : List DirectiveLine) → next ≡ left - 1
     → rows_faults kind row left (line ∷ more) ≡ place_faults kind row left line
     ++ rows_faults kind row next more
@@ -79,17 +80,17 @@ all-described kind rows pass (described ∷ directives) =
 faults-of-pass : (kind : FlagKind) (rows : List DirectiveLine) (pass : Pass)
     (directives : List Description)
     → flat_map (faults_in kind rows pass) directives ≡ flat_map (directive_faults kind rows)
-    (filter (is_of pass) directives)
+    (filter (is_of_pass pass) directives)
 faults-of-pass kind rows pass [] = refl
 faults-of-pass kind rows pass (row ∷ directives) =
     ap (λ faults. faults_in kind rows pass row ++ faults) (faults-of-pass kind rows pass directives)
-    ∙ by-test (is_of pass row)
+    ∙ by-test (is_of_pass pass row)
   where
     by-test : (b : Bool)
         → cond b (directive_faults kind rows row) [] ++ flat_map (directive_faults kind rows)
-        (filter (is_of pass) directives)
+        (filter (is_of_pass pass) directives)
         ≡ flat_map (directive_faults kind rows)
-        (cond b (row ∷ filter (is_of pass) directives) (filter (is_of pass) directives))
+        (cond b (row ∷ filter (is_of_pass pass) directives) (filter (is_of_pass pass) directives))
     by-test true = refl
     by-test false = refl
 

@@ -11,7 +11,7 @@ use Rattle.aff_lines.specs.declared.faults.AffFault.TheVariants.{At, NoMemory}
 use Rattle.aff_lines.specs.Faults.{Fault, cause_number, first_fault, Refuses}
 use Rattle.aff_lines.specs.declared.Directives.{Directives}
 use Rattle.aff_lines.specs.declared.rows.DirectiveLine.{DirectiveLine}
-use Rattle.aff_lines.specs.Passes.{IsFirst, Says, Reads, early_passes, passes_of}
+use Rattle.aff_lines.specs.Passes.{IsFirst, SaysDirectives, Reads, early_passes, passes_of}
 use Rattle.aff_lines.specs.Rows.{row_in}
 
 pub refuses-first : (passes : List (List Fault)) (fault : AffFault) → IsFirst passes fault
@@ -20,7 +20,8 @@ refuses-first passes (At line why) first = first-least cause_number passes (faul
 refuses-first passes NoMemory first = tt
 
 pub reads_first : (bytes : List ℕ) (found : Result Directives AffFault)
-    → IfOk found (λ read. first_fault (early_passes bytes) ≡ None) → IfOk found (Says bytes)
+    → IfOk found (λ read. first_fault (early_passes bytes) ≡ None)
+    → IfOk found (SaysDirectives bytes)
     → IfOk found (Reads bytes)
 reads_first bytes (Ok read) fine says =
     record { no_fault = no-first cause_number (early_passes bytes) fine; says = says }

@@ -11,7 +11,8 @@ use Rattle.text_lines.specs.Lines.{text_of}
 use Rattle.aff_lines.specs.declared.names.Directive.{Directive}
 use Rattle.aff_lines.specs.declared.rows.DirectiveLine.{DirectiveLine}
 use Rattle.aff_lines.specs.Names.{directive_named}
-use Rattle.aff_lines.specs.Rows.{directive_of, row_with, row_of, row_in, IsNameOf, BeginsWith}
+use Rattle.aff_lines.specs.Rows.{directive_of, row_with, row_of, row_in, IsNameOf}
+use Rattle.aff_lines.specs.Rows.{BeginsWithDirective}
 use Rattle.aff_lines.proofs.NameLemmas.{name-found, named-has}
 
 one-or-none : (row : Option DirectiveLine) → cons_option row [] ≡ option_to_list row
@@ -50,7 +51,7 @@ of-row number text (Some found) directive is =
 
 begins : (text : List ℕ) (field : Option (List ℕ)) (directive : Directive)
     → slice_get (fields text) 0 ≡ field
-    → option_and_then directive_named field ≡ Some directive → BeginsWith directive text
+    → option_and_then directive_named field ≡ Some directive → BeginsWithDirective directive text
 begins text None directive is named = absurd (cc named)
 begins text (Some name) directive is named = (name, is, named-has name directive named)
 
@@ -59,7 +60,7 @@ named-so : (name : List ℕ) (directive : Directive) → IsNameOf directive name
 named-so name directive is = name-found is.0 name is.1 is.3 ∙ ap Some is.2
 
 pub row-begins : (number : ℕ) (text : List ℕ) (directive : Directive)
-    → (row_of number text ≡ Some (row_with number text directive)) ↔ BeginsWith directive text
+    → (row_of number text ≡ Some (row_with number text directive)) ↔ BeginsWithDirective directive text
 row-begins number text directive = (
   λ is. begins text (slice_get (fields text) 0) directive refl
       (of-row number text (directive_of text) directive is),

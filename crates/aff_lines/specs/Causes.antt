@@ -12,7 +12,7 @@ use Rattle.aff_lines.specs.declared.faults.AffWhy.{AffWhy}
 use Rattle.aff_lines.specs.declared.faults.AffWhy.TheVariants.{OtherEncoding, MissingField}
 use Rattle.aff_lines.specs.declared.faults.AffWhy.TheVariants.{BadNumber, OtherFlag, BadFlag}
 use Rattle.aff_lines.specs.declared.names.Form.{Form}
-use Rattle.aff_lines.specs.declared.names.Row.{Row}
+use Rattle.aff_lines.specs.declared.names.RowForm.{RowForm}
 use Rattle.aff_lines.specs.declared.rows.DirectiveLine.{DirectiveLine}
 use Rattle.aff_lines.specs.FlaggedTexts.{is_flagged}
 use Rattle.aff_lines.specs.Rows.{value_of}
@@ -39,12 +39,12 @@ number_in text =
     (decimal_of text)
 
 -- whether a value is right for a directive that has one
-abbrev pub fits : FlagKind → Form → List ℕ → Bool
-fits kind Form.Encoding value = is_utf8_name value
-fits kind Form.Kind value = is_some (kind_named value)
-fits kind Form.Flag value = is_some (one_flag kind value)
-fits kind Form.Number value = is_some (number_in value)
-fits kind _ value = true
+abbrev pub is_fit_value : FlagKind → Form → List ℕ → Bool
+is_fit_value kind Form.Encoding value = is_utf8_name value
+is_fit_value kind Form.Kind value = is_some (kind_named value)
+is_fit_value kind Form.Flag value = is_some (one_flag kind value)
+is_fit_value kind Form.Number value = is_some (number_in value)
+is_fit_value kind _ value = true
 
 -- the cause where it is not; any text is right as a text
 abbrev pub misfit : Form → AffWhy
@@ -60,7 +60,7 @@ unless holds why = if holds then None else Some why
 -- what is wrong with a needed value
 abbrev pub value_why : FlagKind → Form → Option (List ℕ) → Option AffWhy
 value_why kind form None = Some MissingField
-value_why kind form (Some value) = unless (fits kind form value) (misfit form)
+value_why kind form (Some value) = unless (is_fit_value kind form value) (misfit form)
 
 -- what is wrong with a line of a directive that has a value
 abbrev pub line_why : FlagKind → Form → DirectiveLine → Option AffWhy
@@ -86,12 +86,12 @@ joint_why kind line =
     flagged_why kind (slice_get (fields line.text) 1) (slice_get (fields line.text) 2)
 
 -- what is wrong with a row of a table
-abbrev pub row_why : FlagKind → Row → DirectiveLine → Option AffWhy
-row_why kind Row.FlagField line = flags_why kind (value_of line)
-row_why kind Row.OneText line = unless (is_some (value_of line)) MissingField
-row_why kind Row.TwoTexts line = unless (has_two_texts line) MissingField
-row_why kind Row.Joint line = joint_why kind line
+abbrev pub row_why : FlagKind → RowForm → DirectiveLine → Option AffWhy
+row_why kind RowForm.FlagField line = flags_why kind (value_of line)
+row_why kind RowForm.OneText line = unless (is_some (value_of line)) MissingField
+row_why kind RowForm.TwoTexts line = unless (has_two_texts line) MissingField
+row_why kind RowForm.Joint line = joint_why kind line
 
 -- the number in the field behind a line's name
-abbrev pub number_at : DirectiveLine → Option ℕ
-number_at line = option_and_then number_in (value_of line)
+abbrev pub number_behind_name : DirectiveLine → Option ℕ
+number_behind_name line = option_and_then number_in (value_of line)

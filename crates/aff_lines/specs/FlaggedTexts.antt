@@ -13,13 +13,13 @@ abbrev pub bare_text : List ℕ → List ℕ
 bare_text text = before_first is_slash text
 
 -- what stands behind that slash, if there is one
-abbrev pub flag_text : List ℕ → Option (List ℕ)
-flag_text text = if list_any is_slash text then Some (after_first is_slash text) else None
+abbrev pub text_behind_slash : List ℕ → Option (List ℕ)
+text_behind_slash text = if list_any is_slash text then Some (after_first is_slash text) else None
 
 -- the flag of the text, if it has one
 abbrev pub flag_behind : FlagKind → List ℕ → Option Flag
-flag_behind kind text = option_and_then (one_flag kind) (flag_text text)
+flag_behind kind text = option_and_then (one_flag kind) (text_behind_slash text)
 
 -- whether what stands behind that slash is exactly one flag, if there is a slash
 abbrev pub is_flagged : FlagKind → List ℕ → Bool
-is_flagged kind text = option_map_or (λ part. is_some (one_flag kind part)) (flag_text text) true
+is_flagged kind text = option_map_or (λ part. is_some (one_flag kind part)) (text_behind_slash text) true

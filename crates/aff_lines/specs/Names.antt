@@ -10,7 +10,7 @@ use Rattle.aff_lines.specs.declared.names.Described.{Described}
 use Rattle.aff_lines.specs.declared.names.Directive.{Directive}
 use Rattle.aff_lines.specs.declared.names.Form.{Form}
 use Rattle.aff_lines.specs.declared.names.Pass.{Pass}
-use Rattle.aff_lines.specs.declared.names.Row.TheVariants as Row
+use Rattle.aff_lines.specs.declared.names.RowForm.TheVariants as Row
 
 -- What is fixed of a directive: its names, the form of its lines, and the pass that looks at them.
 -- A directive that is not built is left out.
@@ -90,40 +90,40 @@ description_of row =
 abbrev pub directive_in : Description → Directive
 directive_in row = row.directive
 
-abbrev pub names_of : Description → List (List ℕ)
-names_of row = row.name ∷ option_to_list row.other_name
+abbrev pub names_of_directive : Description → List (List ℕ)
+names_of_directive row = row.name ∷ option_to_list row.other_name
 
 -- the names of all directives
 unfoldable pub all_names : List (List ℕ)
-all_names = flat_map names_of all_directives
+all_names = flat_map names_of_directive all_directives
 
 -- whether the directives are the same
-abbrev pub is_same : Directive → Directive → Bool
-is_same directive other = sameb the_directives directive other
+abbrev pub is_same_directive : Directive → Directive → Bool
+is_same_directive directive other = sameb the_directives directive other
 
-abbrev pub is_text : Option (List ℕ) → List ℕ → Bool
-is_text None name = false
-is_text (Some text) name = bytes_eq text name
+abbrev pub is_field_text : Option (List ℕ) → List ℕ → Bool
+is_field_text None name = false
+is_field_text (Some text) name = bytes_eq text name
 
 -- whether a name is one of the row's
-abbrev pub is_named : List ℕ → Description → Bool
-is_named name row = bytes_eq row.name name || is_text row.other_name name
+abbrev pub is_name_of_row : List ℕ → Description → Bool
+is_name_of_row name row = bytes_eq row.name name || is_field_text row.other_name name
 
 -- whether a name is one of a row of the code's table
 abbrev pub is_described : List ℕ → Described → Bool
-is_described name row = is_named name (description_of row)
+is_described name row = is_name_of_row name (description_of row)
 
 abbrev pub named_in : List ℕ → List Description → Option Directive
-named_in name rows = option_map directive_in (find (is_named name) rows)
+named_in name rows = option_map directive_in (find (is_name_of_row name) rows)
 
 -- the directive that has a name, if one has it
 unfoldable pub directive_named : List ℕ → Option Directive
 directive_named name = named_in name all_directives
 
 -- whether a directive is one of the pass
-abbrev pub is_of : Pass → Description → Bool
-is_of pass row = sameb the_passes row.pass pass
+abbrev pub is_of_pass : Pass → Description → Bool
+is_of_pass pass row = sameb the_passes row.pass pass
 
 -- the directives of a pass
 unfoldable pub directives_in : Pass → List Description
-directives_in pass = filter (is_of pass) all_directives
+directives_in pass = filter (is_of_pass pass) all_directives

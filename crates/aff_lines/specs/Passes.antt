@@ -19,11 +19,11 @@ use Rattle.aff_lines.specs.declared.names.Directive.{Directive}
 use Rattle.aff_lines.specs.declared.names.Form.{Form}
 use Rattle.aff_lines.specs.declared.names.Pass.{Pass}
 use Rattle.aff_lines.specs.declared.rows.DirectiveLine.{DirectiveLine}
-use Rattle.aff_lines.specs.Causes.{number_at, number_in, kind_named}
+use Rattle.aff_lines.specs.Causes.{number_behind_name, number_in, kind_named}
 use Rattle.aff_lines.specs.Faults.{Fault, first_fault}
 use Rattle.aff_lines.specs.Grammar.{once_faults, table_faults, all_left_out}
 use Rattle.aff_lines.specs.Rows.{rows_of, lines_of, value_of}
-use Rattle.aff_lines.specs.Names.{Description, is_of, directives_in}
+use Rattle.aff_lines.specs.Names.{Description, is_of_pass, directives_in}
 
 -- The faults of a directive of this form that has these lines. A switch has none, and those of
 -- affix classes are asked of the lines of both sides together, not here.
@@ -48,7 +48,7 @@ pass_faults kind rows pass = flat_map (directive_faults kind rows) (directives_i
 
 -- the faults of a directive, if it is one of the pass
 abbrev pub faults_in : FlagKind → List DirectiveLine → Pass → Description → List Fault
-faults_in kind rows pass row = if is_of pass row then directive_faults kind rows row else []
+faults_in kind rows pass row = if is_of_pass pass row then directive_faults kind rows row else []
 
 -- the value of the first line, if it is there
 abbrev pub value_said : List DirectiveLine → Option (List ℕ)
@@ -74,7 +74,7 @@ is_said own = not (length own == 0)
 -- the rows of a table, if it is there
 abbrev pub table_rows : List DirectiveLine → Option (List DirectiveLine)
 table_rows [] = None
-table_rows (header ∷ later) = Some (take (unwrap_or (number_at header) 0) later)
+table_rows (header ∷ later) = Some (take (unwrap_or (number_behind_name header) 0) later)
 
 -- the lines that references lead to
 abbrev pub lines_at : List (Bor DirectiveLine) → List DirectiveLine
@@ -114,7 +114,7 @@ abbrev pub early_passes : List ℕ → List (List Fault)
 early_passes bytes = passes_of (bad_line bytes) (rows_of bytes)
 
 -- what the first three passes over a file without faults say
-pub record Says (bytes : List ℕ) (found : Directives) : Type 0 where
+pub record SaysDirectives (bytes : List ℕ) (found : Directives) : Type 0 where
   pub kind : found.kind ≡ kind_said (lines_of Directive.FlagType (rows_of bytes))
   pub aliases : found.aliases ≡ aliases_said found.kind
       (lines_of Directive.FlagAliases (rows_of bytes))
@@ -123,7 +123,7 @@ pub record Says (bytes : List ℕ) (found : Directives) : Type 0 where
 -- the file has no fault in the first three passes, and this is what they say
 pub record Reads (bytes : List ℕ) (found : Directives) : Type 0 where
   pub no_fault : (pass : ℕ) (fault : Fault) → ¬ IsFault (early_passes bytes) pass fault
-  pub says : Says bytes found
+  pub says : SaysDirectives bytes found
 
 -- the fault is the first of the passes
 abbrev pub IsFirst : List (List Fault) → AffFault → Type 0

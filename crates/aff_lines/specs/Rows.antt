@@ -9,7 +9,8 @@ use Rattle.text_lines.specs.Fields.{fields}
 use Rattle.text_lines.specs.Lines.{text_of, good_lines}
 use Rattle.aff_lines.specs.declared.names.Directive.{Directive}
 use Rattle.aff_lines.specs.declared.rows.DirectiveLine.{DirectiveLine}
-use Rattle.aff_lines.specs.Names.{Description, all_directives, directive_named, is_same, names_of}
+use Rattle.aff_lines.specs.Names.{Description, all_directives, directive_named, is_same_directive}
+use Rattle.aff_lines.specs.Names.{names_of_directive}
 
 -- the directive that the first field of a line names; a blank line has no field, and the first of a
 -- comment is no name
@@ -32,16 +33,16 @@ rows_of bytes = filter_map (row_in bytes) (good_lines bytes)
 
 -- the lines of a directive
 abbrev pub lines_of : Directive → List DirectiveLine → List DirectiveLine
-lines_of directive rows = filter (λ row. is_same row.directive directive) rows
+lines_of directive rows = filter (λ row. is_same_directive row.directive directive) rows
 
 -- the name is one of the directive's in the table
 abbrev pub IsNameOf : Directive → List ℕ → Type 0
 IsNameOf directive name = (row : Description) × Contains all_directives row
-    × (row.directive ≡ directive) × Contains (names_of row) name
+    × (row.directive ≡ directive) × Contains (names_of_directive row) name
 
 -- the first field of the line is a name of the directive
-abbrev pub BeginsWith : Directive → List ℕ → Type 0
-BeginsWith directive text =
+abbrev pub BeginsWithDirective : Directive → List ℕ → Type 0
+BeginsWithDirective directive text =
     (name : List ℕ) × (slice_get (fields text) 0 ≡ Some name) × IsNameOf directive name
 
 -- the field behind a line's name

@@ -2,13 +2,14 @@
 
 ghost use Rattle.std.specs.Prelude.{◌≡◌, ◌<◌, ◌^◌, IfSome, option_and_then};
 ghost use Rattle.std.specs.Option.{option_copied};
-ghost use Rattle.aff_lines.specs.Causes.{is_utf8_name, kind_named, number_in, fits, misfit, unless};
+ghost use Rattle.aff_lines.specs.Causes.{is_utf8_name, kind_named, number_in, is_fit_value, misfit};
+ghost use Rattle.aff_lines.specs.Causes.{unless};
 ghost use Rattle.aff_lines.specs.Causes.{value_why, line_why, flags_why, has_two_texts};
-ghost use Rattle.aff_lines.specs.Causes.{flagged_why, joint_why, row_why, number_at};
+ghost use Rattle.aff_lines.specs.Causes.{flagged_why, joint_why, row_why, number_behind_name};
 
 use crate::faults::AffWhy;
 use crate::flagged_texts::is_flagged;
-use crate::names::{Form, Row};
+use crate::names::{Form, RowForm};
 use crate::rows::{DirectiveLine, value_of};
 use flag_sets::{lists_flags, read_one_flag};
 use spell_types::FlagKind;
@@ -35,7 +36,7 @@ fn value_why(kind: FlagKind, form: Form, value: Option<&str>) -> Option<AffWhy>
 
 /// Whether a value is right.
 fn fits(kind: FlagKind, form: Form, value: &str) -> bool
-    ensures { result ≡ fits kind form value.now }
+    ensures { result ≡ is_fit_value kind form value.now }
 {
     match form {
         Form::Encoding => is_utf8_name(value),
@@ -69,14 +70,14 @@ pub fn unless(holds: bool, why: AffWhy) -> Option<AffWhy>
 }
 
 /// What is wrong with a row of a table.
-pub(crate) fn row_why(kind: FlagKind, row: Row, line: &DirectiveLine) -> Option<AffWhy>
+pub(crate) fn row_why(kind: FlagKind, row: RowForm, line: &DirectiveLine) -> Option<AffWhy>
     ensures { result ≡ row_why kind row line.now }
 {
     match row {
-        Row::FlagField => flags_why(kind, value_of(line)),
-        Row::OneText => unless(value_of(line).is_some(), AffWhy::MissingField),
-        Row::TwoTexts => unless(has_two_texts(line), AffWhy::MissingField),
-        Row::Joint => joint_why(kind, line),
+        RowForm::FlagField => flags_why(kind, value_of(line)),
+        RowForm::OneText => unless(value_of(line).is_some(), AffWhy::MissingField),
+        RowForm::TwoTexts => unless(has_two_texts(line), AffWhy::MissingField),
+        RowForm::Joint => joint_why(kind, line),
     }
 }
 
@@ -147,7 +148,7 @@ pub fn number_in(text: &str) -> Option<u64>
 
 /// The number in the field behind a line's name.
 pub fn number_at(line: &DirectiveLine) -> Option<u64>
-    ensures { result ≡ number_at line.now }
+    ensures { result ≡ number_behind_name line.now }
 {
     number_in(value_of(line)?)
 }

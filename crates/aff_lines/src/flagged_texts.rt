@@ -3,7 +3,8 @@
 ghost use Rattle.std.specs.Prelude.{◌≡◌, IfSome};
 ghost use Rattle.std.specs.Option.{option_copied};
 ghost use Rattle.spell_types.specs.Flags.{IsOrdinary};
-ghost use Rattle.aff_lines.specs.FlaggedTexts.{bare_text, flag_text, flag_behind, is_flagged};
+ghost use Rattle.aff_lines.specs.FlaggedTexts.{bare_text, text_behind_slash, flag_behind};
+ghost use Rattle.aff_lines.specs.FlaggedTexts.{is_flagged};
 
 use flag_sets::read_one_flag;
 use spell_types::{Flag, FlagKind};
@@ -20,7 +21,7 @@ pub fn bare_text(text: &str) -> &str
 
 /// All behind the first slash of a text, if it has one.
 fn flag_text(text: &str) -> Option<&str>
-    ensures { option_copied result ≡ flag_text text.now }
+    ensures { option_copied result ≡ text_behind_slash text.now }
 {
     let (_, flag) = text.split_once('/')?;
     Some(flag)

@@ -11,17 +11,18 @@ ghost use Rattle.spell_types.specs.Flags.{AreOrdinary};
 ghost use Rattle.line_faults.specs.Faults.{IsFault};
 ghost use Rattle.aff_lines.specs.Faults.{Fault, first_fault, least_of, FaultsJoin, FindsLeast};
 ghost use Rattle.aff_lines.specs.Faults.{IsLeast, Refuses};
-ghost use Rattle.aff_lines.specs.Passes.{early_passes, passes_of, Says, Reads, IsFirst, bad_faults};
+ghost use Rattle.aff_lines.specs.Passes.{early_passes, passes_of, SaysDirectives, Reads, IsFirst};
+ghost use Rattle.aff_lines.specs.Passes.{bad_faults};
 ghost use Rattle.aff_lines.specs.Passes.{pass_faults};
 ghost use Rattle.aff_lines.specs.declared.names.Pass.{Pass};
 
 use crate::rows::read_rows;
 use crate::values::{kind_said, read_aliases};
 use line_faults::{first_of_passes, sooner};
-use lists::{Items, NoMemory};
 use spell_types::{FlagKind, FlagSet};
 use std::alloc::Global;
 use text_lines::lines;
+use text_lines::lists::{Items, NoMemory};
 
 mod causes;
 mod faults;
@@ -35,7 +36,8 @@ pub use causes::{line_why, number_at, number_in, unless};
 pub use faults::{AffFault, AffWhy, Fault};
 pub use flagged_texts::{bare_text, flag_behind};
 pub use names::{
-    Directive, Form, Pass, Row, directive_named, every_directive_has_one_row, no_name_stands_twice,
+    Directive, Form, Pass, RowForm, directive_named, every_directive_has_one_row,
+    no_name_stands_twice,
 };
 pub use passes::{fault_at, find_fault};
 pub use rows::{DirectiveLine, next_of, rows_begin_with_names, value_of};
@@ -68,7 +70,7 @@ pub fn read_directives(alloc: Global, bytes: &[u8]) -> Result<Directives, AffFau
 
 fn read_early(alloc: Global, bytes: &[u8]) -> Result<Directives, AffFault>
     ensures fine { IfOk result (λ _. first_fault (early_passes bytes.now) ≡ None) }
-    ensures says { IfOk result (Says bytes.now) }
+    ensures says { IfOk result (SaysDirectives bytes.now) }
     ensures ordinary { IfOk result (λ found. IfSome found.aliases (All AreOrdinary)) }
     ensures first { IfErr result (IsFirst (early_passes bytes.now)) }
 {

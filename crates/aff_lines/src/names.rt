@@ -4,8 +4,9 @@ ghost use Rattle.std.specs.Prelude.{◌≡◌, ◌≢◌, ◌↔◌, List, ℕ, 
 ghost use Rattle.std.specs.Option.{option_copied};
 ghost use Rattle.aff_lines.specs.declared.names.Directive.{Directive};
 ghost use Rattle.aff_lines.specs.declared.names.Pass.{Pass};
-ghost use Rattle.aff_lines.specs.Names.{Description, description_of, directive_in, names_of};
-ghost use Rattle.aff_lines.specs.Names.{is_described, is_of, named_in, directive_named};
+ghost use Rattle.aff_lines.specs.Names.{Description, description_of, directive_in};
+ghost use Rattle.aff_lines.specs.Names.{names_of_directive};
+ghost use Rattle.aff_lines.specs.Names.{is_described, is_of_pass, named_in, directive_named};
 ghost use Rattle.aff_lines.specs.Names.{all_directives, all_names, directives_in};
 
 /// An option of hunspell(5) that an .aff file is read for, or refused for. A line that begins with
@@ -69,7 +70,7 @@ pub enum Form {
     /// Any number of lines, which need no field.
     Switch,
     /// A header with a number, and so many rows.
-    Table(Row),
+    Table(RowForm),
     /// A line of an affix class, which is looked at with all lines of its class.
     Class,
     /// A line of the directive is a fault.
@@ -78,7 +79,7 @@ pub enum Form {
 
 /// What a row of a table has to look like.
 #[derive(Clone, Copy)]
-pub enum Row {
+pub enum RowForm {
     /// Flags of the type of the file.
     FlagField,
     /// One text.
@@ -134,7 +135,7 @@ macro_rules! described {
 static DIRECTIVES: &[Described] = &[
     described!(Set => "SET", None, Form::Encoding, First),
     described!(FlagType => "FLAG", None, Form::Kind, Second),
-    described!(FlagAliases => "AF", None, Form::Table(Row::FlagField), Third),
+    described!(FlagAliases => "AF", None, Form::Table(RowForm::FlagField), Third),
     described!(WordCharacters => "WORDCHARS", None, Form::Text, Fourth),
     described!(Ignore => "IGNORE", None, Form::Text, Fourth),
     described!(NeedAffix => "NEEDAFFIX", Some("PSEUDOROOT"), Form::Flag, Fourth),
@@ -161,11 +162,11 @@ static DIRECTIVES: &[Described] = &[
     described!(SimplifiedTriple => "SIMPLIFIEDTRIPLE", None, Form::Switch, Fourth),
     described!(CheckSharps => "CHECKSHARPS", None, Form::Switch, Fourth),
     described!(CheckCompoundReplacements => "CHECKCOMPOUNDREP", None, Form::Switch, Fourth),
-    described!(InputConversion => "ICONV", None, Form::Table(Row::TwoTexts), Fourth),
-    described!(Replacement => "REP", None, Form::Table(Row::TwoTexts), Fourth),
-    described!(Break => "BREAK", None, Form::Table(Row::OneText), Fourth),
-    described!(CompoundRule => "COMPOUNDRULE", None, Form::Table(Row::OneText), Fourth),
-    described!(CheckCompoundPattern => "CHECKCOMPOUNDPATTERN", None, Form::Table(Row::Joint), Fourth),
+    described!(InputConversion => "ICONV", None, Form::Table(RowForm::TwoTexts), Fourth),
+    described!(Replacement => "REP", None, Form::Table(RowForm::TwoTexts), Fourth),
+    described!(Break => "BREAK", None, Form::Table(RowForm::OneText), Fourth),
+    described!(CompoundRule => "COMPOUNDRULE", None, Form::Table(RowForm::OneText), Fourth),
+    described!(CheckCompoundPattern => "CHECKCOMPOUNDPATTERN", None, Form::Table(RowForm::Joint), Fourth),
     described!(Prefix => "PFX", None, Form::Class, Fourth),
     described!(Suffix => "SFX", None, Form::Class, Fourth),
     described!(ComplexPrefixes => "COMPLEXPREFIXES", None, Form::LeftOut, Fourth),
@@ -214,7 +215,7 @@ fn is_named(row: &Described, name: &str) -> bool
 
 /// Whether a directive is one of the pass.
 pub(crate) fn is_of(pass: Pass, row: &Described) -> bool
-    ensures { result ≡ is_of pass (description_of row.now) }
+    ensures { result ≡ is_of_pass pass (description_of row.now) }
 {
     row.pass == pass
 }
@@ -234,6 +235,6 @@ pub fn every_directive_has_one_row()
 pub fn no_name_stands_twice()
     ensures once { AllPairs (λ first other. first ≢ other) all_names }
     ensures found { (row : Description) (name : List ℕ) → Contains all_directives row
-        → Contains (names_of row) name
+        → Contains (names_of_directive row) name
         → directive_named name ≡ Some row.directive }
 {}

@@ -4,7 +4,7 @@ ghost use Rattle.std.specs.Prelude.{◌≡◌, Some, flat_map, map};
 ghost use Rattle.std.specs.Option.{option_copied};
 ghost use Rattle.aff_lines.specs.Faults.{least_of};
 ghost use Rattle.aff_lines.specs.Names.{description_of};
-ghost use Rattle.aff_lines.specs.Causes.{number_at};
+ghost use Rattle.aff_lines.specs.Causes.{number_behind_name};
 ghost use Rattle.aff_lines.specs.Grammar.{faults_at, once_faults, later_faults, rows_faults};
 ghost use Rattle.aff_lines.specs.Grammar.{place_faults, counted_faults, table_faults, all_left_out};
 ghost use Rattle.aff_lines.specs.Passes.{form_faults, pass_faults, faults_in};
@@ -12,7 +12,7 @@ ghost use Rattle.aff_lines.specs.Rows.{lines_of};
 
 use crate::causes::{line_why, number_at, row_why, unless};
 use crate::faults::{AffWhy, Fault};
-use crate::names::{Described, Directive, Form, Pass, Row, directives, is_of};
+use crate::names::{Described, Directive, Form, Pass, RowForm, directives, is_of};
 use crate::rows::{DirectiveLine, count_of, next_of};
 use line_faults::sooner;
 use spell_types::FlagKind;
@@ -131,7 +131,7 @@ fn left_out_fault(directive: Directive, rows: &[DirectiveLine]) -> Option<Fault>
 
 fn table_fault(
     kind: FlagKind,
-    row: Row,
+    row: RowForm,
     directive: Directive,
     rows: &[DirectiveLine],
 ) -> Option<Fault>
@@ -145,14 +145,14 @@ fn table_fault(
 /// The earliest fault of a table, but for those of the header's number itself.
 fn counted_fault(
     kind: FlagKind,
-    row: Row,
+    row: RowForm,
     directive: Directive,
     header: &DirectiveLine,
     later: &[DirectiveLine],
 ) -> Option<Fault>
     ensures { result
         ≡ least_of (counted_faults kind row header.now (lines_of directive later.now)
-        (number_at header.now)) }
+        (number_behind_name header.now)) }
 {
     let count = number_at(header)?;
     let has_all = count <= count_of(directive, later) as u64;
@@ -166,7 +166,7 @@ fn counted_fault(
 
 fn rows_fault(
     kind: FlagKind,
-    row: Row,
+    row: RowForm,
     directive: Directive,
     count: u64,
     rows: &[DirectiveLine],
@@ -184,7 +184,7 @@ fn rows_fault(
     found
 }
 
-fn place_fault(kind: FlagKind, row: Row, left: u64, line: &DirectiveLine) -> Option<Fault>
+fn place_fault(kind: FlagKind, row: RowForm, left: u64, line: &DirectiveLine) -> Option<Fault>
     ensures { result ≡ least_of (place_faults kind row left line.now) }
 {
     if left == 0 {

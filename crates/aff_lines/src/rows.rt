@@ -6,12 +6,12 @@ ghost use Rattle.std.specs.Option.{option_copied, option_to_list};
 ghost use Rattle.text_lines.specs.Lines.{IsInside};
 ghost use Rattle.aff_lines.specs.declared.names.Directive.{Directive};
 ghost use Rattle.aff_lines.specs.Rows.{row_of, row_in, row_with, directive_of, lines_of, value_of};
-ghost use Rattle.aff_lines.specs.Rows.{BeginsWith, IsNext};
+ghost use Rattle.aff_lines.specs.Rows.{BeginsWithDirective, IsNext};
 
 use crate::names::{Directive, directive_named};
-use lists::{Copied, Items, NoMemory};
 use std::alloc::Global;
 use text_lines::found::Line;
+use text_lines::lists::{Copied, Items, NoMemory};
 use text_lines::{Text, field, line_text};
 
 /// A line that begins with a name of a directive.
@@ -81,7 +81,7 @@ fn directive_of(text: &str) -> Option<Directive>
 /// A line is a row exactly where its first field is a name of the directive that the row is of.
 pub fn rows_begin_with_names()
     ensures { (number : ℕ) (text : List ℕ) (directive : Directive)
-        → (row_of number text ≡ Some (row_with number text directive)) ↔ BeginsWith directive text }
+        → (row_of number text ≡ Some (row_with number text directive)) ↔ BeginsWithDirective directive text }
 {}
 
 /// The first line of a directive, and the rows behind it, in which the directive's other lines are.

@@ -4,7 +4,7 @@ ghost use Rattle.std.specs.Prelude.{◌≡◌, All, IfOk, IfSome, map, take, unw
 ghost use Rattle.std.specs.Option.{option_copied, option_map};
 ghost use Rattle.spell_types.specs.Flags.{IsOrdinary, AreOrdinary};
 ghost use Rattle.aff_lines.specs.declared.names.Directive.{Directive};
-ghost use Rattle.aff_lines.specs.Causes.{number_at};
+ghost use Rattle.aff_lines.specs.Causes.{number_behind_name};
 ghost use Rattle.aff_lines.specs.Passes.{value_said, flag_said, number_said, is_said, table_rows};
 ghost use Rattle.aff_lines.specs.Passes.{lines_at, kind_said, set_in, aliases_said};
 ghost use Rattle.aff_lines.specs.Rows.{lines_of};
@@ -13,9 +13,9 @@ use crate::causes::{kind_named, number_at, number_in};
 use crate::names::Directive;
 use crate::rows::{DirectiveLine, next_of, value_of};
 use flag_sets::{FlagFault, read_flags, read_one_flag};
-use lists::{Items, NoMemory};
 use spell_types::{Flag, FlagKind, FlagSet};
 use std::alloc::Global;
+use text_lines::lists::{Items, NoMemory};
 
 /// The value of a directive: that of its first line.
 pub fn value_said(directive: Directive, rows: &[DirectiveLine]) -> Option<&str>

@@ -22,12 +22,14 @@ use Rattle.aff_reader.specs.declared.class_lines.Crossing.{Crossing}
 use Rattle.aff_reader.specs.declared.class_lines.Placed.{Placed}
 use Rattle.aff_reader.specs.declared.class_lines.Role.TheVariants.{Member, Past}
 use Rattle.aff_reader.specs.declared.class_lines.ClassSoFar.{ClassSoFar}
-use Rattle.aff_reader.specs.ClassLines.{class_of, is_same_class, is_that_class, lines_in, count_of}
-use Rattle.aff_reader.specs.ClassLines.{wanted_behind, standing_of, role_wanted, role_after}
+use Rattle.aff_reader.specs.ClassLines.{class_of, is_same_class, is_that_class, lines_in}
+use Rattle.aff_reader.specs.ClassLines.{announced_count}
+use Rattle.aff_reader.specs.ClassLines.{wanted_behind, class_so_far, role_wanted, role_after}
 use Rattle.aff_reader.specs.ClassLines.{placed_in, placed_after, each_after}
 use Rattle.aff_reader.specs.ClassRules.{rule_of}
 use Rattle.aff_reader.specs.Classes.{announced_by, announced, heads, role_rules, placed_rules}
-use Rattle.aff_reader.specs.Classes.{rules_said, line_faults, limit_faults, many_faults, rule_limit}
+use Rattle.aff_reader.specs.Classes.{rules_said, line_faults, limit_faults, too_many_rules_faults}
+use Rattle.aff_reader.specs.Classes.{rule_limit}
 use Rattle.aff_reader.specs.Classes.{class_faults}
 use Rattle.aff_reader.proofs.TurnLemmas.{announced-more}
 use Rattle.aff_reader.proofs.ClassLemmas.{same-class, same-self, lines-other, lines-own}
@@ -79,7 +81,7 @@ still None = 0
 still (Some standing) = unwrap_or standing.wanted 0
 
 abbrev still_in : FlagKind → List DirectiveLine → Class → ℕ
-still_in kind rows class = still (standing_of (lines_in kind class rows))
+still_in kind rows class = still (class_so_far (lines_in kind class rows))
 
 wanted-less : (count : Option ℕ) (behind : ℕ) → unwrap_or (wanted_behind (behind + 1) count) 0
     ≡ unwrap_or (wanted_behind behind count) 0 - 1
@@ -87,13 +89,13 @@ wanted-less None behind = omega arith
 wanted-less (Some n) behind = omega arith
 
 still-less : (header : DirectiveLine) (behind : List DirectiveLine) (line : DirectiveLine)
-    → still (standing_of ((header ∷ behind) ++ line ∷ [])) ≡ still (standing_of (header ∷ behind))
+    → still (class_so_far ((header ∷ behind) ++ line ∷ [])) ≡ still (class_so_far (header ∷ behind))
     - 1
 still-less header behind line =
     let longer : length (behind ++ line ∷ []) ≡ length behind + 1 =
     length-append behind (line ∷ []) in
-    ap (λ n. unwrap_or (wanted_behind n (count_of header)) 0) longer
-    ∙ wanted-less (count_of header) (length behind)
+    ap (λ n. unwrap_or (wanted_behind n (announced_count header)) 0) longer
+    ∙ wanted-less (announced_count header) (length behind)
 
 -- the rule of a line takes one of them
 
@@ -123,7 +125,7 @@ rules-drop kind aliases line class crossing (Some wanted) = by-test (wanted == 0
 -- the classes that have lines
 
 abbrev has_lines : FlagKind → List DirectiveLine → Class → Bool
-has_lines kind rows class = is_some (standing_of (lines_in kind class rows))
+has_lines kind rows class = is_some (class_so_far (lines_in kind class rows))
 
 abbrev AllHave : FlagKind → List DirectiveLine → List Class → Type 0
 AllHave kind rows [] = Unit {0}
@@ -135,7 +137,7 @@ record Covers (kind : FlagKind) (rows : List DirectiveLine) (classes : List Clas
   each : (class : Class) → has_lines kind rows class ≡ true → Among classes class
 
 some-standing : (own : List DirectiveLine) (line : DirectiveLine)
-    → is_some (standing_of (own ++ line ∷ [])) ≡ true
+    → is_some (class_so_far (own ++ line ∷ [])) ≡ true
 some-standing [] line = refl
 some-standing (header ∷ behind) line = refl
 
@@ -145,10 +147,10 @@ have-more kind rows line class has = by-test (is_that_class class (class_of kind
   where
     by-test : (own : Bool) → is_that_class class (class_of kind line) ≡ own
         → has_lines kind (rows ++ line ∷ []) class ≡ true
-    by-test true own = ap (λ o. is_some (standing_of o)) (lines-own kind class rows line own)
+    by-test true own = ap (λ o. is_some (class_so_far o)) (lines-own kind class rows line own)
         ∙ some-standing (lines_in kind class rows) line
     by-test false other =
-        ap (λ o. is_some (standing_of o)) (lines-other kind class rows line other) ∙ has
+        ap (λ o. is_some (class_so_far o)) (lines-other kind class rows line other) ∙ has
 
 all-more : (kind : FlagKind) (rows : List DirectiveLine) (line : DirectiveLine)
     (classes : List Class) → AllHave kind rows classes → AllHave kind (rows ++ line ∷ []) classes
@@ -162,10 +164,10 @@ still-other : (kind : FlagKind) (rows : List DirectiveLine) (line : DirectiveLin
     → is_that_class class (class_of kind line) ≡ false
     → still_in kind (rows ++ line ∷ []) class ≡ still_in kind rows class
 still-other kind rows line class other =
-    ap (λ own. still (standing_of own)) (lines-other kind class rows line other)
+    ap (λ own. still (class_so_far own)) (lines-other kind class rows line other)
 
-less-still : (own : List DirectiveLine) (line : DirectiveLine) → is_some (standing_of own) ≡ true
-    → still (standing_of (own ++ line ∷ [])) ≡ still (standing_of own) - 1
+less-still : (own : List DirectiveLine) (line : DirectiveLine) → is_some (class_so_far own) ≡ true
+    → still (class_so_far (own ++ line ∷ [])) ≡ still (class_so_far own) - 1
 less-still [] line has = absurd cc
 less-still (header ∷ behind) line has = still-less header behind line
 
@@ -173,7 +175,7 @@ still-own : (kind : FlagKind) (rows : List DirectiveLine) (line : DirectiveLine)
     → is_that_class class (class_of kind line) ≡ true → has_lines kind rows class ≡ true
     → still_in kind (rows ++ line ∷ []) class ≡ still_in kind rows class - 1
 still-own kind rows line class own has =
-    ap (λ lines. still (standing_of lines)) (lines-own kind class rows line own)
+    ap (λ lines. still (class_so_far lines)) (lines-own kind class rows line own)
     ∙ less-still (lines_in kind class rows) line has
 
 still-le : (kind : FlagKind) (rows : List DirectiveLine) (line : DirectiveLine) (class : Class)
@@ -216,7 +218,7 @@ step-none kind aliases rows line classes covers none =
         all = all-more kind rows line classes covers.all;
         each = λ class has.
             covers.each class
-            (sym (ap (λ own. is_some (standing_of own))
+            (sym (ap (λ own. is_some (class_so_far own))
             (lines-other kind class rows line (other class))) ∙ has);
       };
       small =
@@ -230,14 +232,14 @@ step-none kind aliases rows line classes covers none =
 
 placed-is : (kind : FlagKind) (rows : List DirectiveLine) (line : DirectiveLine) (class : Class)
     (standing : Option ClassSoFar) → class_of kind line ≡ Some class
-    → standing_of (lines_in kind class rows) ≡ standing
+    → class_so_far (lines_in kind class rows) ≡ standing
     → placed_after kind rows line ≡ Some (record { class = class; role = role_after standing })
 unfolding placed_after
 placed-is kind rows line class standing is comes_to =
     ap (option_map (placed_in kind rows)) is
     ∙ ap (λ s. Some (record { class = class; role = role_after s })) comes_to
 
-no-lines : (own : List DirectiveLine) → standing_of own ≡ None → own ≡ []
+no-lines : (own : List DirectiveLine) → class_so_far own ≡ None → own ≡ []
 no-lines [] h = refl
 no-lines (header ∷ behind) h = absurd cc
 
@@ -252,7 +254,7 @@ own-class kind line class is = ap (is_that_class class) is ∙ same-self class
 step-header : (kind : FlagKind) (aliases : Option (List (List Flag))) (rows : List DirectiveLine)
     (line : DirectiveLine) (classes : List Class) (class : Class)
     → Covers kind rows classes → class_of kind line ≡ Some class
-    → standing_of (lines_in kind class rows) ≡ None
+    → class_so_far (lines_in kind class rows) ≡ None
     → Step kind aliases rows line classes
 step-header kind aliases rows line classes class covers is none =
     let own = own-class kind line class is in
@@ -260,13 +262,13 @@ step-header kind aliases rows line classes class covers is none =
     lines-own kind class rows line own
     ∙ ap (λ l. l ++ line ∷ []) (no-lines (lines_in kind class rows) none) in
     let new = still_in kind (rows ++ line ∷ []) in
-    let first : new class ≡ unwrap_or (count_of line) 0 =
-    ap (λ l. still (standing_of l)) lines ∙ wanted-first (count_of line) in
+    let first : new class ≡ unwrap_or (announced_count line) 0 =
+    ap (λ l. still (class_so_far l)) lines ∙ wanted-first (announced_count line) in
     let le = total-le new (still_in kind rows) classes (all-le kind rows line classes covers.all) in
     record {
       next = class ∷ classes;
       covers = record {
-        all = (ap (λ l. is_some (standing_of l)) lines, all-more kind rows line classes covers.all);
+        all = (ap (λ l. is_some (class_so_far l)) lines, all-more kind rows line classes covers.all);
         each = λ other has. by-test other has (is_same_class other class) refl;
       };
       small = subst
@@ -281,13 +283,13 @@ step-header kind aliases rows line classes class covers is none =
     by-test other has true same = inl (sym (same-class other class same))
     by-test other has false apart =
         inr (covers.each other
-        (sym (ap (λ l. is_some (standing_of l))
+        (sym (ap (λ l. is_some (class_so_far l))
         (lines-other kind other rows line (ap (is_that_class other) is ∙ apart))) ∙ has))
 
 step-later : (kind : FlagKind) (aliases : Option (List (List Flag))) (rows : List DirectiveLine)
     (line : DirectiveLine) (classes : List Class) (class : Class) (standing : ClassSoFar)
     → Covers kind rows classes → class_of kind line ≡ Some class
-    → standing_of (lines_in kind class rows) ≡ Some standing
+    → class_so_far (lines_in kind class rows) ≡ Some standing
     → Step kind aliases rows line classes
 step-later kind aliases rows line classes class standing covers is comes_to =
     let has : has_lines kind rows class ≡ true = ap is_some comes_to in
@@ -318,7 +320,7 @@ step-later kind aliases rows line classes class standing covers is comes_to =
         (covers.each class (ap is_some comes_to))
     by-test other is_there false apart =
         covers.each other
-        (sym (ap (λ l. is_some (standing_of l))
+        (sym (ap (λ l. is_some (class_so_far l))
         (lines-other kind other rows line (ap (is_that_class other) is ∙ apart))) ∙ is_there)
 
 step : (kind : FlagKind) (aliases : Option (List (List Flag))) (rows : List DirectiveLine)
@@ -327,7 +329,7 @@ step : (kind : FlagKind) (aliases : Option (List (List Flag))) (rows : List Dire
 step kind aliases rows line classes covers = of-class (class_of kind line) refl
   where
     of-standing : (class : Class) → class_of kind line ≡ Some class → (standing : Option ClassSoFar)
-        → standing_of (lines_in kind class rows) ≡ standing
+        → class_so_far (lines_in kind class rows) ≡ standing
         → Step kind aliases rows line classes
     of-standing class is None comes_to =
         step-header kind aliases rows line classes class covers is comes_to
@@ -337,7 +339,7 @@ step kind aliases rows line classes covers = of-class (class_of kind line) refl
     of-class : (class : Option Class) → class_of kind line ≡ class
         → Step kind aliases rows line classes
     of-class None is = step-none kind aliases rows line classes covers is
-    of-class (Some class) is = of-standing class is (standing_of (lines_in kind class rows)) refl
+    of-class (Some class) is = of-standing class is (class_so_far (lines_in kind class rows)) refl
 
 -- all lines
 
@@ -405,7 +407,7 @@ here-within kind limit before line so_far none =
     by-test false h =
         let more = announced-more kind before line in
         let own : announced_by line (placed_after kind before line) ≡ 0 =
-        ap (λ t. cond t (unwrap_or (count_of line) 0) 0) h in
+        ap (λ t. cond t (unwrap_or (announced_count line) 0) 0) h in
         omega (arith, more, own)
 
 all-within : (kind : FlagKind) (limit : ℕ) (before rows : List DirectiveLine)
@@ -428,8 +430,8 @@ unfolding announced
 nothing-announced kind limit = omega arith
 
 within-limit : (kind : FlagKind) (limit : ℕ) (rows : List DirectiveLine)
-    → many_faults kind limit rows ≡ [] → announced kind rows ≤ limit
-unfolding many_faults
+    → too_many_rules_faults kind limit rows ≡ [] → announced kind rows ≤ limit
+unfolding too_many_rules_faults
 within-limit kind limit rows none =
     all-within kind limit [] rows (nothing-announced kind limit) none
 
@@ -444,6 +446,6 @@ rules-few least kind aliases rows none =
     let no_faults = none-least least (class_faults kind aliases rows) none in
     let few = within-limit kind rule_limit rows
     (second-none (each_after (line_faults kind aliases rows) [] rows)
-    (many_faults kind rule_limit rows) no_faults) in
+    (too_many_rules_faults kind rule_limit rows) no_faults) in
     let said = rules-announced kind aliases rows in
     omega (arith, few, said)

@@ -17,7 +17,7 @@ use Rattle.aff_reader.specs.declared.class_lines.Placed.{Placed}
 use Rattle.aff_reader.specs.declared.class_lines.Role.{Role}
 use Rattle.aff_reader.specs.declared.class_lines.ClassSoFar.{ClassSoFar}
 use Rattle.aff_reader.specs.ClassLines.{class_of, class_with, is_same_class, is_that_class}
-use Rattle.aff_reader.specs.ClassLines.{lines_in, placed_after, placed_in, standing_of, role_after}
+use Rattle.aff_reader.specs.ClassLines.{lines_in, placed_after, placed_in, class_so_far, role_after}
 use Rattle.aff_reader.specs.ClassLines.{standing_on, standing_in, Knows}
 
 -- the same class
@@ -92,7 +92,7 @@ pub knows-other : (kind : FlagKind) (before : List DirectiveLine) (line : Direct
     → Knows kind before classes → Knows kind (before ++ line ∷ []) classes
 knows-other kind before line classes none known = record {
   each = λ class. known.each class
-      ∙ ap standing_of (sym (lines-other kind class before line (ap (is_that_class class) none)));
+      ∙ ap class_so_far (sym (lines-other kind class before line (ap (is_that_class class) none)));
 }
 
 pub placed-none : (kind : FlagKind) (before : List DirectiveLine) (line : DirectiveLine)
@@ -106,8 +106,8 @@ pub knows-more : (kind : FlagKind) (before : List DirectiveLine) (line : Directi
     (class : Class) (old new : Classes) (standing : Option ClassSoFar) (longer : ClassSoFar)
     → class_of kind line ≡ Some class
     → standing ≡ standing_in old class
-    → ((own : List DirectiveLine) → standing ≡ standing_of own
-    → Some longer ≡ standing_of (own ++ line ∷ []))
+    → ((own : List DirectiveLine) → standing ≡ class_so_far own
+    → Some longer ≡ class_so_far (own ++ line ∷ []))
     → ((other : Class) → standing_in new other ≡ cond (is_same_class other class) (Some longer)
     (standing_in old other))
     → Knows kind before old → Knows kind (before ++ line ∷ []) new
@@ -115,19 +115,19 @@ knows-more kind before line class old new standing longer is found grown set kno
     record { each = λ other. at other (is_same_class other class) refl }
   where
     at : (other : Class) (b : Bool) → is_same_class other class ≡ b
-        → standing_in new other ≡ standing_of (lines_in kind other (before ++ line ∷ []))
+        → standing_in new other ≡ class_so_far (lines_in kind other (before ++ line ∷ []))
     at other true same =
         set other
         ∙ ap (λ b. cond b (Some longer) (standing_in old other)) same
         ∙ grown (lines_in kind other before)
         (found ∙ ap (standing_in old) (sym (same-class other class same)) ∙ known.each other)
-        ∙ ap standing_of
+        ∙ ap class_so_far
         (sym (lines-own kind other before line (ap (is_that_class other) is ∙ same)))
     at other false apart =
         set other
         ∙ ap (λ b. cond b (Some longer) (standing_in old other)) apart
         ∙ known.each other
-        ∙ ap standing_of
+        ∙ ap class_so_far
         (sym (lines-other kind other before line (ap (is_that_class other) is ∙ apart)))
 
 pub placed-some : (kind : FlagKind) (before : List DirectiveLine) (line : DirectiveLine)

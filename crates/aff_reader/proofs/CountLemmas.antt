@@ -23,12 +23,13 @@ use Rattle.aff_reader.specs.declared.class_lines.Class.{Class}
 use Rattle.aff_reader.specs.declared.class_lines.Role.TheVariants.{Member, Past}
 use Rattle.aff_reader.specs.declared.class_lines.ClassSoFar.{ClassSoFar}
 use Rattle.aff_reader.specs.ClassLines.{field_of, side_of, flag_at, class_with, class_from}
-use Rattle.aff_reader.specs.ClassLines.{class_of, is_that_class, lines_in, crossing_of, count_of}
-use Rattle.aff_reader.specs.ClassLines.{wanted_behind, standing_of, role_wanted, role_after}
+use Rattle.aff_reader.specs.ClassLines.{class_of, is_that_class, lines_in, crossing_of}
+use Rattle.aff_reader.specs.ClassLines.{announced_count}
+use Rattle.aff_reader.specs.ClassLines.{wanted_behind, class_so_far, role_wanted, role_after}
 use Rattle.aff_reader.specs.ClassLines.{placed_in, placed_after, each_after}
 use Rattle.aff_reader.specs.ClassRules.{rule_of}
 use Rattle.aff_reader.specs.Classes.{says_cross, has_rules, wants_none, role_faults, side_faults}
-use Rattle.aff_reader.specs.Classes.{line_faults, many_faults, class_faults, rules_said}
+use Rattle.aff_reader.specs.Classes.{line_faults, too_many_rules_faults, class_faults, rules_said}
 use Rattle.aff_reader.specs.ClassMembers.{is_rule_of, rules_in}
 use Rattle.aff_reader.proofs.BoundLemmas.{first-none, second-none}
 use Rattle.aff_reader.proofs.ClassLemmas.{same-class, lines-other, lines-own}
@@ -43,7 +44,7 @@ in-class : (kind : FlagKind) (aliases : Option (List (List Flag))) (rows : List 
     → is_that_class class (option_and_then (class_from flag) side) ≡ true
     → side_faults kind aliases rows line
     (option_map (placed_in kind before) (option_and_then (class_from flag) side)) side ≡ []
-    → role_faults kind aliases (standing_of (lines_in kind class rows)) line class
+    → role_faults kind aliases (class_so_far (lines_in kind class rows)) line class
     (role_in kind class before) ≡ []
 in-class kind aliases rows class before line None flag own none = absurd cc
 in-class kind aliases rows class before line (Some side) None own none = absurd cc
@@ -52,7 +53,7 @@ in-class kind aliases rows class before line (Some side) (Some flag) own none =
   where
     at-place : Class → List Fault
     at-place c =
-        role_faults kind aliases (standing_of (lines_in kind c rows)) line c (role_in kind c before)
+        role_faults kind aliases (class_so_far (lines_in kind c rows)) line c (role_in kind c before)
 
     by-field : (b : Bool) → is_some (field_of line 3) ≡ b → at-place class ≡ []
     by-field true there =
@@ -68,7 +69,7 @@ line-fine : (kind : FlagKind) (aliases : Option (List (List Flag))) (rows : List
     (class : Class) (before : List DirectiveLine) (line : DirectiveLine)
     → is_that_class class (class_of kind line) ≡ true → line_faults kind aliases rows before line
     ≡ []
-    → role_faults kind aliases (standing_of (lines_in kind class rows)) line class
+    → role_faults kind aliases (class_so_far (lines_in kind class rows)) line class
     (role_in kind class before) ≡ []
 unfolding line_faults class_of placed_after
 line-fine kind aliases rows class before line own none =
@@ -81,17 +82,17 @@ abbrev AreFine : FlagKind → Option (List (List Flag)) → Class → Option Cla
     → List DirectiveLine → List DirectiveLine → Type 0
 AreFine kind aliases class standing own [] = Unit {0}
 AreFine kind aliases class standing own (line ∷ more) =
-    (role_faults kind aliases standing line class (role_after (standing_of own)) ≡ [])
+    (role_faults kind aliases standing line class (role_after (class_so_far own)) ≡ [])
     × AreFine kind aliases class standing (own ++ line ∷ []) more
 
 lines-fine : (kind : FlagKind) (aliases : Option (List (List Flag))) (rows : List DirectiveLine)
     (class : Class) (before lines : List DirectiveLine)
     → each_after (line_faults kind aliases rows) before lines ≡ []
-    → AreFine kind aliases class (standing_of (lines_in kind class rows))
+    → AreFine kind aliases class (class_so_far (lines_in kind class rows))
     (lines_in kind class before) (lines_in kind class lines)
 lines-fine kind aliases rows class before [] none =
     subst (λ (own : List DirectiveLine). AreFine kind aliases class
-    (standing_of (lines_in kind class rows)) (lines_in kind class before) own)
+    (class_so_far (lines_in kind class rows)) (lines_in kind class before) own)
     (sym (lines-none kind class)) tt
 lines-fine kind aliases rows class before (line ∷ more) none =
     by-test
@@ -101,7 +102,7 @@ lines-fine kind aliases rows class before (line ∷ more) none =
     (is_that_class class (class_of kind line)) refl
   where
     standing : Option ClassSoFar
-    standing = standing_of (lines_in kind class rows)
+    standing = class_so_far (lines_in kind class rows)
 
     here : line_faults kind aliases rows before line ≡ []
     here = first-none (line_faults kind aliases rows before line)
@@ -141,7 +142,8 @@ one-said (Err why) line rules none = absurd cc
 all-said : (kind : FlagKind) (aliases : Option (List (List Flag))) (class : Class)
     (standing : Option ClassSoFar) (header : DirectiveLine) (count : ℕ)
     (passed more : List DirectiveLine)
-    → count_of header ≡ Some count → AreFine kind aliases class standing (header ∷ passed) more
+    → announced_count header ≡ Some count
+    → AreFine kind aliases class standing (header ∷ passed) more
     → count - length passed ≤ length more
     → length (filter_map (said_by kind aliases class (crossing_of header))
     (take (count - length passed) more)) ≡ count - length passed
@@ -193,27 +195,27 @@ enough count behind h = grind (arith, nat_tests)
 
 all-of : (kind : FlagKind) (aliases : Option (List (List Flag))) (class : Class)
     (header : DirectiveLine) (behind : List DirectiveLine)
-    → AreFine kind aliases class (standing_of (header ∷ behind)) [] (header ∷ behind)
-    → count_of header ≡ Some (length (rules_in kind aliases class (header ∷ behind)))
-all-of kind aliases class header behind fine = by-count (count_of header) refl
+    → AreFine kind aliases class (class_so_far (header ∷ behind)) [] (header ∷ behind)
+    → announced_count header ≡ Some (length (rules_in kind aliases class (header ∷ behind)))
+all-of kind aliases class header behind fine = by-count (announced_count header) refl
   where
     number : List Fault
-    number = faults_at (unless (is_some (count_of header)) BadNumber) header
+    number = faults_at (unless (is_some (announced_count header)) BadNumber) header
 
     short : List Fault
-    short = faults_at (unless (has_rules (standing_of (header ∷ behind))) TableShort) header
+    short = faults_at (unless (has_rules (class_so_far (header ∷ behind))) TableShort) header
 
     cross : List Fault
     cross = faults_at (unless (says_cross header) BadCross) header
 
-    by-count : (count : Option ℕ) → count_of header ≡ count
-        → count_of header ≡ Some (length (rules_in kind aliases class (header ∷ behind)))
+    by-count : (count : Option ℕ) → announced_count header ≡ count
+        → announced_count header ≡ Some (length (rules_in kind aliases class (header ∷ behind)))
     by-count None is =
         absurd (cc (sym (ap is_some is)
-        ∙ holds (is_some (count_of header)) BadNumber header
+        ∙ holds (is_some (announced_count header)) BadNumber header
         (first-none number (short ++ cross) fine.0)))
     by-count (Some count) is =
-        let all = holds (has_rules (standing_of (header ∷ behind))) TableShort header
+        let all = holds (has_rules (class_so_far (header ∷ behind))) TableShort header
         (first-none short cross (second-none number (short ++ cross) fine.0)) in
         let within : count ≤ length behind =
         enough count (length behind)
@@ -222,7 +224,7 @@ all-of kind aliases class header behind fine = by-count (count_of header) refl
         let said : length
         (filter_map (said_by kind aliases class (crossing_of header))
         (take (count - 0) behind)) ≡ count - 0 =
-        all-said kind aliases class (standing_of (header ∷ behind)) header count [] behind is fine.1
+        all-said kind aliases class (class_so_far (header ∷ behind)) header count [] behind is fine.1
         (omega (arith, within)) in
         let left : count - 0 ≡ count = omega arith in
         is
@@ -238,17 +240,17 @@ all-of kind aliases class header behind fine = by-count (count_of header) refl
 pub class-counted : (kind : FlagKind) (aliases : Option (List (List Flag))) (class : Class)
     (rows : List DirectiveLine) (header : DirectiveLine) (behind : List DirectiveLine)
     → class_faults kind aliases rows ≡ [] → lines_in kind class rows ≡ header ∷ behind
-    → count_of header ≡ Some (length (filter (is_rule_of class) (rules_said kind aliases rows)))
+    → announced_count header ≡ Some (length (filter (is_rule_of class) (rules_said kind aliases rows)))
 class-counted kind aliases class rows header behind none is =
     let each = each_after (line_faults kind aliases rows) [] rows in
-    let fine : AreFine kind aliases class (standing_of (lines_in kind class rows))
+    let fine : AreFine kind aliases class (class_so_far (lines_in kind class rows))
     (lines_in kind class []) (lines_in kind class rows) =
-    lines-fine kind aliases rows class [] rows (first-none each (many_faults kind _ rows) none) in
-    let own : AreFine kind aliases class (standing_of (header ∷ behind)) [] (header ∷ behind) =
-    subst (λ (lines : List DirectiveLine). AreFine kind aliases class (standing_of lines) [] lines)
+    lines-fine kind aliases rows class [] rows (first-none each (too_many_rules_faults kind _ rows) none) in
+    let own : AreFine kind aliases class (class_so_far (header ∷ behind)) [] (header ∷ behind) =
+    subst (λ (lines : List DirectiveLine). AreFine kind aliases class (class_so_far lines) [] lines)
     is
     (subst (λ (before : List DirectiveLine). AreFine kind aliases class
-    (standing_of (lines_in kind class rows)) before (lines_in kind class rows))
+    (class_so_far (lines_in kind class rows)) before (lines_in kind class rows))
     (lines-none kind class) fine) in
     all-of kind aliases class header behind own
     ∙ ap (λ rules. Some (length rules))

@@ -20,7 +20,7 @@ use Rattle.aff_reader.specs.declared.class_lines.Crossing.{Crossing}
 use Rattle.aff_reader.specs.declared.class_lines.Role.{Role}
 use Rattle.aff_reader.specs.declared.class_lines.Role.TheVariants.{Header, Member, Past, Unplaced}
 use Rattle.aff_reader.specs.ClassLines.{class_of, is_same_class, is_that_class, lines_in}
-use Rattle.aff_reader.specs.ClassLines.{crossing_of, count_of, wanted_behind, standing_of}
+use Rattle.aff_reader.specs.ClassLines.{crossing_of, announced_count, wanted_behind, class_so_far}
 use Rattle.aff_reader.specs.ClassLines.{role_wanted, role_after, placed_in, placed_after}
 use Rattle.aff_reader.specs.ClassLines.{each_after}
 use Rattle.aff_reader.specs.ClassRules.{rule_with, rule_from, rule_of}
@@ -100,7 +100,7 @@ other-role kind aliases of class line Unplaced apart = refl
 -- the rule of a line, behind these
 
 abbrev pub role_in : FlagKind → Class → List DirectiveLine → Role
-role_in kind class before = role_after (standing_of (lines_in kind class before))
+role_in kind class before = role_after (class_so_far (lines_in kind class before))
 
 own-found : (kind : FlagKind) (aliases : Option (List (List Flag))) (class : Class)
     (before : List DirectiveLine) (line : DirectiveLine) (found : Option Class)
@@ -146,7 +146,7 @@ abbrev rules_behind : FlagKind → Option (List (List Flag)) → Class → List 
     → List DirectiveLine → List Rule
 rules_behind kind aliases class own [] = []
 rules_behind kind aliases class own (line ∷ more) =
-    role_rules kind aliases line class (role_after (standing_of own))
+    role_rules kind aliases line class (role_after (class_so_far own))
     ++ rules_behind kind aliases class (own ++ line ∷ []) more
 
 pub lines-first : (kind : FlagKind) (class : Class) (line : DirectiveLine)
@@ -263,9 +263,9 @@ behind-header : (kind : FlagKind) (aliases : Option (List (List Flag))) (class :
     (header : DirectiveLine) (passed more : List DirectiveLine)
     → rules_behind kind aliases class (header ∷ passed) more
     ≡ filter_map (said_by kind aliases class (crossing_of header))
-    (take (unwrap_or (count_of header) 0 - length passed) more)
+    (take (unwrap_or (announced_count header) 0 - length passed) more)
 behind-header kind aliases class header passed [] =
-    sym (nothing (unwrap_or (count_of header) 0 - length passed))
+    sym (nothing (unwrap_or (announced_count header) 0 - length passed))
   where
     nothing : (n : ℕ) → filter_map (said_by kind aliases class (crossing_of header)) (take n [])
         ≡ []
@@ -273,11 +273,11 @@ behind-header kind aliases class header passed [] =
 behind-header kind aliases class header passed (line ∷ more) =
     let f = said_by kind aliases class (crossing_of header) in
     let here = role_rules kind aliases line class
-    (role_wanted (crossing_of header) (wanted_behind (length passed) (count_of header))) in
+    (role_wanted (crossing_of header) (wanted_behind (length passed) (announced_count header))) in
     ap (λ rules. here ++ rules) (behind-header kind aliases class header (passed ++ line ∷ []) more)
-    ∙ ap (λ n. here ++ filter_map f (take (unwrap_or (count_of header) 0 - n) more))
+    ∙ ap (λ n. here ++ filter_map f (take (unwrap_or (announced_count header) 0 - n) more))
     (length-append passed (line ∷ []))
-    ∙ counted kind aliases class (crossing_of header) (count_of header) (length passed) line more
+    ∙ counted kind aliases class (crossing_of header) (announced_count header) (length passed) line more
 
 all-left : (count : ℕ) → count - 0 ≡ count
 all-left count = omega arith
@@ -289,7 +289,7 @@ from-header kind aliases class [] = refl
 from-header kind aliases class (header ∷ behind) =
     behind-header kind aliases class header [] behind
     ∙ ap (λ n. filter_map (said_by kind aliases class (crossing_of header)) (take n behind))
-    (all-left (unwrap_or (count_of header) 0))
+    (all-left (unwrap_or (announced_count header) 0))
 
 pub class-rules : (kind : FlagKind) (aliases : Option (List (List Flag))) (class : Class)
     (rows : List DirectiveLine)

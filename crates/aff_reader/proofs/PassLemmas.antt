@@ -3,7 +3,7 @@ use Rattle.std.proofs.Common.{◌≡◌, ℕ, Bool, true, false, cond, List, [],
 use Rattle.std.proofs.Common.{None, Result, Ok, Err, IfOk, IfErr, refl, sym, ap, subst, ◌∙◌}
 use Rattle.std.specs.Option.{option_or}
 use Rattle.std.specs.Result.{IsErrAnd}
-use Rattle.lists.specs.Laws.{or-none, or-assoc}
+use Rattle.text_lines.specs.lists.Laws.{or-none, or-assoc}
 use Rattle.spell_types.specs.declared.Affixes.{Affixes}
 use Rattle.spell_types.specs.declared.flags.Flag.{Flag}
 use Rattle.spell_types.specs.declared.flags.FlagKind.{FlagKind}
@@ -14,7 +14,8 @@ use Rattle.line_faults.specs.Faults.{IsFault}
 use Rattle.aff_lines.specs.Faults.{Fault, least_of, first_fault, is_before, sooner, IsLeast}
 use Rattle.aff_lines.specs.Passes.{early_passes, IsFirst}
 use Rattle.aff_lines.specs.Rows.{rows_of}
-use Rattle.aff_reader.specs.Grammar.{kind_of, aliases_of, late_faults, aff_passes, aff_said}
+use Rattle.aff_reader.specs.Grammar.{flag_kind_of_file, aliases_of, late_faults, aff_passes}
+use Rattle.aff_reader.specs.Grammar.{aff_said}
 use Rattle.aff_reader.specs.Grammar.{unless_fault, aff_read, AffReads, AffRefuses, IsRead}
 
 -- a pass behind others decides where they have no fault
@@ -28,12 +29,12 @@ first_behind (faults ∷ passes) late =
 -- a file whose first fault is one of the fourth pass
 pub read_late : (bytes : List ℕ) (kind : FlagKind) (aliases : Option (List (List Flag)))
     (rows : List DirectiveLine) (fault : Fault)
-    → kind ≡ kind_of bytes → aliases ≡ aliases_of bytes → rows ≡ rows_of bytes
+    → kind ≡ flag_kind_of_file bytes → aliases ≡ aliases_of bytes → rows ≡ rows_of bytes
     → first_fault (early_passes bytes) ≡ None → least_of (late_faults kind aliases rows)
     ≡ Some fault → aff_read bytes ≡ Err fault
 unfolding aff_read
 read_late bytes kind aliases rows fault same_kind same_aliases same_rows fine late =
-    let whole = late_faults (kind_of bytes) (aliases_of bytes) (rows_of bytes) in
+    let whole = late_faults (flag_kind_of_file bytes) (aliases_of bytes) (rows_of bytes) in
     let own : whole ≡ late_faults kind aliases rows =
     ap (λ k. late_faults k (aliases_of bytes) (rows_of bytes)) (sym same_kind)
     ∙ ap (λ a. late_faults kind a (rows_of bytes)) (sym same_aliases)
@@ -48,7 +49,7 @@ pub read_early : (bytes : List ℕ) (fault : AffFault) → IsFirst (early_passes
 unfolding aff_read
 read_early bytes NoMemory first = tt
 read_early bytes (At line why) first =
-    let whole = late_faults (kind_of bytes) (aliases_of bytes) (rows_of bytes) in
+    let whole = late_faults (flag_kind_of_file bytes) (aliases_of bytes) (rows_of bytes) in
     ap (λ found. unless_fault found (aff_said bytes))
     (first_behind (early_passes bytes) whole ∙ ap (λ found. option_or found (least_of whole)) first)
 

@@ -20,7 +20,7 @@ without_back text = if has_back text then take (length text - 1) text else text
 
 -- what a text stands for: the anchor at its front is looked for first, and that at its end in what
 -- is left
-abbrev pub anchored_of : List ℕ → Anchored
-anchored_of text =
+abbrev pub anchored_text_of : List ℕ → Anchored
+anchored_text_of text =
     let rest = without_front text in
     record { text = without_back rest; front = has_front text; back = has_back rest }

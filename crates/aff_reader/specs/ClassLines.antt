@@ -60,22 +60,22 @@ unfoldable pub lines_in : FlagKind → Class → List DirectiveLine → List Dir
 lines_in kind class rows = filter (λ row. is_that_class class (class_of kind row)) rows
 
 -- whether a field is there and is this word
-abbrev pub is_text : List ℕ → Option (List ℕ) → Bool
-is_text word None = false
-is_text word (Some text) = bytes_eq word text
+abbrev pub is_field_word : List ℕ → Option (List ℕ) → Bool
+is_field_word word None = false
+is_field_word word (Some text) = bytes_eq word text
 
 -- whether a header lets the rules of its class be crossed
 abbrev pub crossing_of : DirectiveLine → Crossing
 crossing_of header =
-    if is_text (codes "Y") (field_of header 2) then Crossing.Allowed else Crossing.Barred
+    if is_field_word (codes "Y") (field_of header 2) then Crossing.Allowed else Crossing.Barred
 
-abbrev pub is_allowed : Crossing → Bool
-is_allowed Crossing.Allowed = true
-is_allowed Crossing.Barred = false
+abbrev pub allows_crossing : Crossing → Bool
+allows_crossing Crossing.Allowed = true
+allows_crossing Crossing.Barred = false
 
 -- how many rules a header announces
-unfoldable pub count_of : DirectiveLine → Option ℕ
-count_of header = option_and_then number_in (field_of header 3)
+unfoldable pub announced_count : DirectiveLine → Option ℕ
+announced_count header = option_and_then number_in (field_of header 3)
 
 -- how many of the rules that a header announces are wanted still, where so many lines stand behind
 -- it
@@ -83,11 +83,11 @@ abbrev pub wanted_behind : ℕ → Option ℕ → Option ℕ
 wanted_behind behind count = option_map (λ n. n - behind) count
 
 -- what the first lines of a class come to: there is none, or the first is its header
-abbrev pub standing_of : List DirectiveLine → Option ClassSoFar
-standing_of [] = None
-standing_of (header ∷ behind) =
+abbrev pub class_so_far : List DirectiveLine → Option ClassSoFar
+class_so_far [] = None
+class_so_far (header ∷ behind) =
     Some (record
-    { crossing = crossing_of header; wanted = wanted_behind (length behind) (count_of header) })
+    { crossing = crossing_of header; wanted = wanted_behind (length behind) (announced_count header) })
 
 -- what a line behind the header is, where so many rules are wanted still
 abbrev pub role_wanted : Crossing → Option ℕ → Role
@@ -101,7 +101,7 @@ role_after (Some standing) = role_wanted standing.crossing standing.wanted
 
 abbrev pub placed_in : FlagKind → List DirectiveLine → Class → Placed
 placed_in kind before class =
-    record { class = class; role = role_after (standing_of (lines_in kind class before)) }
+    record { class = class; role = role_after (class_so_far (lines_in kind class before)) }
 
 -- the class of a line, and what the line is in it; these are the lines before it
 unfoldable pub placed_after : FlagKind → List DirectiveLine → DirectiveLine → Option Placed
@@ -125,4 +125,4 @@ standing_in classes class = standing_on class.side classes.prefixes classes.suff
 
 -- what is kept of each class is what its lines among these come to
 pub record Knows (kind : FlagKind) (rows : List DirectiveLine) (classes : Classes) : Type 0 where
-  pub each : (class : Class) → standing_in classes class ≡ standing_of (lines_in kind class rows)
+  pub each : (class : Class) → standing_in classes class ≡ class_so_far (lines_in kind class rows)

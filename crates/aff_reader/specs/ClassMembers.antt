@@ -7,7 +7,7 @@ use Rattle.spell_types.specs.declared.flags.FlagKind.{FlagKind}
 use Rattle.spell_types.specs.declared.rules.Rule.{Rule}
 use Rattle.aff_lines.specs.declared.rows.DirectiveLine.{DirectiveLine}
 use Rattle.aff_reader.specs.declared.class_lines.Class.{Class}
-use Rattle.aff_reader.specs.ClassLines.{class_with, is_same_class, crossing_of, count_of}
+use Rattle.aff_reader.specs.ClassLines.{class_with, is_same_class, crossing_of, announced_count}
 use Rattle.aff_reader.specs.ClassRules.{rule_of}
 
 -- whether a rule is of a class
@@ -20,4 +20,4 @@ abbrev pub rules_in : FlagKind → Option (List (List Flag)) → Class → List 
 rules_in kind aliases class [] = []
 rules_in kind aliases class (header ∷ behind) =
     filter_map (λ line. result_ok (rule_of kind aliases class (crossing_of header) line))
-    (take (unwrap_or (count_of header) 0) behind)
+    (take (unwrap_or (announced_count header) 0) behind)

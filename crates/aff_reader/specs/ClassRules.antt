@@ -18,7 +18,7 @@ use Rattle.aff_lines.specs.declared.faults.AffWhy.TheVariants.{BadFlag, BadAlias
 use Rattle.aff_lines.specs.declared.rows.DirectiveLine.{DirectiveLine}
 use Rattle.aff_reader.specs.declared.class_lines.Class.{Class}
 use Rattle.aff_reader.specs.declared.class_lines.Crossing.{Crossing}
-use Rattle.aff_reader.specs.ClassLines.{field_of, is_allowed}
+use Rattle.aff_reader.specs.ClassLines.{field_of, allows_crossing}
 
 -- whether a text is `0`
 abbrev pub is_zero : List ℕ → Bool
@@ -49,9 +49,9 @@ carried_of kind aliases None = Ok []
 carried_of kind aliases (Some text) = set_or_cause (flag_field kind aliases text)
 
 -- the condition of a rule; a rule without one asks nothing
-abbrev pub asked_of : Option (List ℕ) → Option (List Piece)
-asked_of None = Some []
-asked_of (Some text) = condition_of text
+abbrev pub condition_asked : Option (List ℕ) → Option (List Piece)
+condition_asked None = Some []
+condition_asked (Some text) = condition_of text
 
 -- a rule, where its flags and its condition are right, or the first cause
 abbrev pub rule_with : Class → Crossing → List ℕ → List ℕ → Result (List Flag) AffWhy
@@ -62,7 +62,7 @@ rule_with class crossing strip add (Ok carried) (Some condition) =
     Ok (record {
       side = class.side;
       flag = class.flag;
-      cross = is_allowed crossing;
+      cross = allows_crossing crossing;
       strip = strip;
       add = add;
       carried = carried;
@@ -74,7 +74,7 @@ unfoldable pub rule_from : FlagKind → Option (List (List Flag)) → Class → 
     → Option (List ℕ) → Result Rule AffWhy
 rule_from kind aliases class crossing strip affix condition =
     rule_with class crossing (strip_of strip) (add_of affix)
-    (carried_of kind aliases (behind_slash affix)) (asked_of condition)
+    (carried_of kind aliases (behind_slash affix)) (condition_asked condition)
 
 -- the rule that a line of a class says, or what is wrong with it
 abbrev pub rule_of : FlagKind → Option (List (List Flag)) → Class → Crossing → DirectiveLine

@@ -20,14 +20,15 @@ use Rattle.aff_reader.specs.declared.class_lines.ClassSoFar.{ClassSoFar}
 use Rattle.aff_reader.specs.declared.class_lines.Role.{Role}
 use Rattle.aff_reader.specs.declared.class_lines.Role.TheVariants.{Header, Member, Past, Unplaced}
 use Rattle.aff_reader.specs.declared.class_lines.Placed.{Placed}
-use Rattle.aff_reader.specs.ClassLines.{field_of, side_of, is_text, count_of, standing_of, lines_in}
+use Rattle.aff_reader.specs.ClassLines.{field_of, side_of, is_field_word, announced_count}
+use Rattle.aff_reader.specs.ClassLines.{class_so_far, lines_in}
 use Rattle.aff_reader.specs.ClassLines.{placed_after, each_after}
 use Rattle.aff_reader.specs.ClassRules.{rule_of}
 
 -- whether a header says that its class may be crossed, or that it may not
 abbrev pub says_cross : DirectiveLine → Bool
 says_cross header =
-    is_text (codes "Y") (field_of header 2) || is_text (codes "N") (field_of header 2)
+    is_field_word (codes "Y") (field_of header 2) || is_field_word (codes "N") (field_of header 2)
 
 abbrev pub wants_none : Option ℕ → Bool
 wants_none wanted = unwrap_or wanted 0 == 0
@@ -40,7 +41,7 @@ has_rules (Some standing) = wants_none standing.wanted
 -- the faults of a header where all lines of its class come to this
 abbrev pub header_faults : Option ClassSoFar → DirectiveLine → List Fault
 header_faults standing header =
-    faults_at (unless (is_some (count_of header)) BadNumber) header
+    faults_at (unless (is_some (announced_count header)) BadNumber) header
     ++ (faults_at (unless (has_rules standing) TableShort) header
     ++ faults_at (unless (says_cross header) BadCross) header)
 
@@ -64,7 +65,7 @@ abbrev pub placed_faults : FlagKind → Option (List (List Flag)) → List Direc
     → Option Placed → List Fault
 placed_faults kind aliases rows line None = at BadFlag line ∷ []
 placed_faults kind aliases rows line (Some placed) =
-    role_faults kind aliases (standing_of (lines_in kind placed.class rows)) line placed.class
+    role_faults kind aliases (class_so_far (lines_in kind placed.class rows)) line placed.class
     placed.role
 
 -- a line that begins with PFX or SFX needs three fields more
@@ -92,7 +93,7 @@ heads (Some placed) = is_header placed.role
 
 -- how many rules a line announces: none, if it is no header or its number is none
 abbrev pub announced_by : DirectiveLine → Option Placed → ℕ
-announced_by line placed = if heads placed then unwrap_or (count_of line) 0 else 0
+announced_by line placed = if heads placed then unwrap_or (announced_count line) 0 else 0
 
 -- how many rules the headers among these lines announce, those of prefix and of suffix classes
 -- together
@@ -110,8 +111,8 @@ limit_faults kind limit before line =
     total_faults limit (announced kind (before ++ line ∷ [])) line (placed_after kind before line)
 
 -- the faults of headers where so many rules may be announced
-unfoldable pub many_faults : FlagKind → ℕ → List DirectiveLine → List Fault
-many_faults kind limit rows = each_after (limit_faults kind limit) [] rows
+unfoldable pub too_many_rules_faults : FlagKind → ℕ → List DirectiveLine → List Fault
+too_many_rules_faults kind limit rows = each_after (limit_faults kind limit) [] rows
 
 -- how many rules the headers of a file may announce
 abbrev pub rule_limit : ℕ
@@ -120,7 +121,7 @@ rule_limit = 200000
 -- the faults of the lines of affix classes
 abbrev pub class_faults : FlagKind → Option (List (List Flag)) → List DirectiveLine → List Fault
 class_faults kind aliases rows =
-    each_after (line_faults kind aliases rows) [] rows ++ many_faults kind rule_limit rows
+    each_after (line_faults kind aliases rows) [] rows ++ too_many_rules_faults kind rule_limit rows
 
 abbrev pub role_rules : FlagKind → Option (List (List Flag)) → DirectiveLine → Class → Role
     → List Rule

@@ -8,7 +8,7 @@ use Rattle.spell_types.specs.declared.flags.FlagKind.{FlagKind}
 use Rattle.spell_types.specs.declared.joints.JointPattern.{JointPattern}
 use Rattle.aff_lines.specs.declared.rows.DirectiveLine.{DirectiveLine}
 use Rattle.aff_lines.specs.FlaggedTexts.{bare_text, flag_behind}
-use Rattle.aff_reader.specs.AnchoredTexts.{anchored_of}
+use Rattle.aff_reader.specs.AnchoredTexts.{anchored_text_of}
 use Rattle.aff_reader.specs.ClassLines.{field_of}
 use Rattle.aff_reader.specs.ClassRules.{is_zero, unless_zero}
 use Rattle.aff_reader.specs.Tables.{text_at}
@@ -21,7 +21,7 @@ abbrev pub spaced : List ℕ → List ℕ
 spaced text = map meant_by text
 
 abbrev pub rep_of : Option (List ℕ) → Option (List ℕ) → Option Rep
-rep_of (Some from) (Some to) = Some (record { from = anchored_of (spaced from); to = spaced to })
+rep_of (Some from) (Some to) = Some (record { from = anchored_text_of (spaced from); to = spaced to })
 rep_of _ _ = None
 
 -- the misspelling that a row of REP says
@@ -42,8 +42,8 @@ replacement_in row = option_and_then unless_remark (text_at row 3)
 
 -- Two parts that may not meet as they are, by what is written for the left and for the right one,
 -- and how they may meet. Only of the left one `0` is the word as it is.
-abbrev pub joint_with : FlagKind → List ℕ → List ℕ → Option (List ℕ) → JointPattern
-joint_with kind left right replacement = record {
+abbrev pub joint_pattern_of : FlagKind → List ℕ → List ℕ → Option (List ℕ) → JointPattern
+joint_pattern_of kind left right replacement = record {
   end = unless_zero (chars (bare_text left));
   unmodified = is_zero (chars (bare_text left));
   end_flag = flag_behind kind left;
@@ -54,7 +54,7 @@ joint_with kind left right replacement = record {
 
 abbrev pub joint_of : FlagKind → Option (List ℕ) → Option (List ℕ) → Option (List ℕ)
     → Option JointPattern
-joint_of kind (Some left) (Some right) replacement = Some (joint_with kind left right replacement)
+joint_of kind (Some left) (Some right) replacement = Some (joint_pattern_of kind left right replacement)
 joint_of kind _ _ replacement = None
 
 -- the two parts that a row of CHECKCOMPOUNDPATTERN says

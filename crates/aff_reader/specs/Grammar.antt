@@ -24,12 +24,12 @@ use Rattle.aff_reader.specs.CompoundTables.{rep_in, joint_in}
 use Rattle.aff_reader.specs.Tables.{table_said, conversion_in, breaks_said}
 
 -- the type of flags of a file
-abbrev pub kind_of : List ℕ → FlagKind
-kind_of bytes = kind_said (lines_of Directive.FlagType (rows_of bytes))
+abbrev pub flag_kind_of_file : List ℕ → FlagKind
+flag_kind_of_file bytes = kind_said (lines_of Directive.FlagType (rows_of bytes))
 
 -- the flag aliases of a file, if it has any
 abbrev pub aliases_of : List ℕ → Option (List (List Flag))
-aliases_of bytes = aliases_said (kind_of bytes) (lines_of Directive.FlagAliases (rows_of bytes))
+aliases_of bytes = aliases_said (flag_kind_of_file bytes) (lines_of Directive.FlagAliases (rows_of bytes))
 
 -- the faults of the fourth pass: those of each option, those of compound rules, and those of affix
 -- classes
@@ -42,7 +42,7 @@ late_faults kind aliases rows =
 -- the faults of a file, pass by pass
 abbrev pub aff_passes : List ℕ → List (List Fault)
 aff_passes bytes =
-    early_passes bytes ++ late_faults (kind_of bytes) (aliases_of bytes) (rows_of bytes) ∷ []
+    early_passes bytes ++ late_faults (flag_kind_of_file bytes) (aliases_of bytes) (rows_of bytes) ∷ []
 
 -- the flags with a meaning
 abbrev pub signs_said : FlagKind → List DirectiveLine → Signs
@@ -110,7 +110,7 @@ affixes_said kind aliases rows = record {
 
 -- what a file without faults says
 abbrev pub aff_said : List ℕ → Affixes
-aff_said bytes = affixes_said (kind_of bytes) (aliases_of bytes) (rows_of bytes)
+aff_said bytes = affixes_said (flag_kind_of_file bytes) (aliases_of bytes) (rows_of bytes)
 
 abbrev pub unless_fault : Option Fault → Affixes → Result Affixes Fault
 unless_fault None affixes = Ok affixes

@@ -7,7 +7,7 @@ use Rattle.spell_types.specs.declared.breaks.Anchored.{Anchored}
 use Rattle.spell_types.specs.declared.conversions.Conversion.{Conversion}
 use Rattle.aff_lines.specs.declared.rows.DirectiveLine.{DirectiveLine}
 use Rattle.aff_lines.specs.Passes.{table_rows}
-use Rattle.aff_reader.specs.AnchoredTexts.{anchored_of}
+use Rattle.aff_reader.specs.AnchoredTexts.{anchored_text_of}
 use Rattle.aff_reader.specs.ClassLines.{field_of}
 
 -- what the rows of a table say, in their order, where these are its lines
@@ -27,16 +27,16 @@ abbrev pub conversion_in : DirectiveLine → Option Conversion
 conversion_in row = conversion_of (text_at row 1) (text_at row 2)
 
 -- the break pattern that a row of BREAK says
-abbrev pub break_in : DirectiveLine → Option Anchored
-break_in row = option_map anchored_of (text_at row 1)
+abbrev pub break_of_row : DirectiveLine → Option Anchored
+break_of_row row = option_map anchored_text_of (text_at row 1)
 
 -- where words are broken if the file doesn't say: at a dash, and a dash at either end is left out
 abbrev pub default_breaks : List Anchored
-default_breaks = anchored_of (codes "-") ∷ anchored_of (codes "^-") ∷ anchored_of (codes "-$") ∷ []
+default_breaks = anchored_text_of (codes "-") ∷ anchored_text_of (codes "^-") ∷ anchored_text_of (codes "-$") ∷ []
 
 abbrev pub breaks_of : Option (List DirectiveLine) → List Anchored
 breaks_of None = default_breaks
-breaks_of (Some rows) = filter_map break_in rows
+breaks_of (Some rows) = filter_map break_of_row rows
 
 -- the break patterns that the lines of BREAK list, in their order; a table without rows leaves none
 abbrev pub breaks_said : List DirectiveLine → List Anchored

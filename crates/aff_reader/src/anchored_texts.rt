@@ -2,16 +2,16 @@
 
 ghost use Rattle.std.specs.Prelude.{◌≡◌, ◌<◌, length, IfOk};
 ghost use Rattle.aff_reader.specs.AnchoredTexts.{has_front, without_front, has_back, without_back};
-ghost use Rattle.aff_reader.specs.AnchoredTexts.{anchored_of};
+ghost use Rattle.aff_reader.specs.AnchoredTexts.{anchored_text_of};
 
-use lists::{Items, NoMemory};
 use spell_types::Anchored;
 use std::alloc::Global;
+use text_lines::lists::{Items, NoMemory};
 
 /// What a text with its anchors stands for: the sign `^` at its front, then the sign `$` at its
 /// end.
 pub(crate) fn read_anchored(alloc: Global, text: &[char]) -> Result<Anchored, NoMemory>
-    ensures value { IfOk result (λ made. made ≡ anchored_of text.now) }
+    ensures value { IfOk result (λ made. made ≡ anchored_text_of text.now) }
     ensures some { 0 < length text.now → IfOk result (λ made. 0 < length made.text) }
 {
     let rest = without_front(text);

@@ -8,17 +8,18 @@ ghost use Rattle.spell_types.specs.Flags.{IsOrdinary};
 ghost use Rattle.aff_lines.specs.declared.rows.DirectiveLine.{DirectiveLine};
 ghost use Rattle.aff_reader.specs.declared.class_lines.Class.{Class};
 ghost use Rattle.aff_reader.specs.ClassLines.{field_of, side_of, flag_at, class_of, is_same_class};
-ghost use Rattle.aff_reader.specs.ClassLines.{is_text, crossing_of, is_allowed, count_of};
-ghost use Rattle.aff_reader.specs.ClassLines.{standing_of, role_after, placed_after, standing_in};
+ghost use Rattle.aff_reader.specs.ClassLines.{is_field_word, crossing_of, allows_crossing};
+ghost use Rattle.aff_reader.specs.ClassLines.{announced_count};
+ghost use Rattle.aff_reader.specs.ClassLines.{class_so_far, role_after, placed_after, standing_in};
 ghost use Rattle.aff_reader.specs.ClassLines.{Knows};
 
 use aff_lines::{Directive, DirectiveLine, number_in};
 use flag_sets::read_one_flag;
-use lists::NoMemory;
 use spell_types::{Flag, FlagKind, Side};
 use std::alloc::Global;
 use std::collections::BTreeMap;
 use text_lines::field;
+use text_lines::lists::NoMemory;
 
 /// An affix class: the options PFX and SFX of hunspell(5).
 #[derive(Clone, Copy)]
@@ -39,7 +40,7 @@ pub(crate) enum Crossing {
 impl Crossing {
     /// Whether they may.
     pub(crate) fn is_allowed(self) -> bool
-        ensures { result ≡ is_allowed self }
+        ensures { result ≡ allows_crossing self }
     {
         match self {
             Crossing::Allowed => true,
@@ -143,8 +144,8 @@ impl Classes {
 
 /// What the lines of a class come to with one line more.
 fn with_line(standing: Option<ClassSoFar>, line: &DirectiveLine) -> ClassSoFar
-    ensures { (own : List DirectiveLine) → standing ≡ standing_of own
-        → Some result ≡ standing_of (own ++ line.now ∷ []) }
+    ensures { (own : List DirectiveLine) → standing ≡ class_so_far own
+        → Some result ≡ class_so_far (own ++ line.now ∷ []) }
 {
     match standing {
         None => ClassSoFar {
@@ -213,7 +214,7 @@ pub(crate) fn field_of(line: &DirectiveLine, k: usize) -> Option<&str>
 
 /// Whether a field is there and is this word.
 pub(crate) fn is_text(word: &str, field: Option<&str>) -> bool
-    ensures { result ≡ is_text word.now (option_copied field.entry) }
+    ensures { result ≡ is_field_word word.now (option_copied field.entry) }
 {
     match field {
         None => false,
@@ -233,9 +234,9 @@ pub(crate) fn crossing_of(header: &DirectiveLine) -> Crossing
 }
 
 /// How many rules a header announces.
-#[tactic(auto, unfolding(crate::specs::ClassLines::count_of))]
+#[tactic(auto, unfolding(crate::specs::ClassLines::announced_count))]
 pub(crate) fn count_of(header: &DirectiveLine) -> Option<u64>
-    ensures { result ≡ count_of header.now }
+    ensures { result ≡ announced_count header.now }
 {
     number_in(field_of(header, 3)?)
 }

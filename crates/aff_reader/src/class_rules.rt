@@ -4,7 +4,8 @@ ghost use Rattle.std.specs.Prelude.{◌≡◌, All, IfOk, IfSome};
 ghost use Rattle.std.specs.Option.{option_copied};
 ghost use Rattle.spell_types.specs.Flags.{IsOrdinary, AreOrdinary};
 ghost use Rattle.spell_types.specs.Sanity.{IsOrdinaryRule};
-ghost use Rattle.aff_reader.specs.ClassRules.{is_zero, unless_zero, carried_of, asked_of, rule_of};
+ghost use Rattle.aff_reader.specs.ClassRules.{is_zero, unless_zero, carried_of, condition_asked};
+ghost use Rattle.aff_reader.specs.ClassRules.{rule_of};
 ghost use Rattle.aff_reader.specs.ClassRules.{rule_without};
 
 use crate::class_lines::{Class, Crossing, field_of};
@@ -12,9 +13,9 @@ use aff_lines::{AffWhy, DirectiveLine};
 use affix_classes::{ConditionFault, read_condition};
 use conversions::drop_ignored;
 use flag_sets::{FlagFault, push_before_slash, read_flags};
-use lists::{Items, NoMemory};
 use spell_types::{Chars, Condition, FlagKind, FlagSet, Rule, chars_of};
 use std::alloc::Global;
+use text_lines::lists::{Items, NoMemory};
 
 /// The rule that a line of a class says, or what is wrong with it. The rules of the class may be
 /// crossed or not.
@@ -110,7 +111,7 @@ fn carried_of(
 
 /// The condition of a rule, if the text is one.
 fn asked_of(alloc: Global, text: Option<&str>) -> Result<Option<Condition>, NoMemory>
-    ensures { IfOk result (λ read. read ≡ asked_of (option_copied text.entry)) }
+    ensures { IfOk result (λ read. read ≡ condition_asked (option_copied text.entry)) }
 {
     let Some(text) = text else {
         return Ok(Some(Items::new(alloc)));

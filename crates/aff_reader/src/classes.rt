@@ -10,22 +10,24 @@ ghost use Rattle.spell_types.specs.Sanity.{IsOrdinaryRule};
 ghost use Rattle.aff_lines.specs.declared.rows.DirectiveLine.{DirectiveLine};
 ghost use Rattle.aff_lines.specs.Faults.{least_of};
 ghost use Rattle.aff_reader.specs.declared.class_lines.Class.{Class};
-ghost use Rattle.aff_reader.specs.ClassLines.{side_of, lines_in, count_of, standing_of, each_after};
+ghost use Rattle.aff_reader.specs.ClassLines.{side_of, lines_in, announced_count, class_so_far};
+ghost use Rattle.aff_reader.specs.ClassLines.{each_after};
 ghost use Rattle.aff_reader.specs.ClassLines.{Knows};
 ghost use Rattle.aff_reader.specs.ClassMembers.{is_rule_of, rules_in};
 ghost use Rattle.aff_reader.specs.ClassRules.{rule_without};
 ghost use Rattle.aff_reader.specs.Classes.{says_cross, has_rules, header_faults, role_faults};
 ghost use Rattle.aff_reader.specs.Classes.{side_faults, line_faults, heads, announced_by};
-ghost use Rattle.aff_reader.specs.Classes.{total_faults, many_faults, rule_limit, class_faults};
+ghost use Rattle.aff_reader.specs.Classes.{total_faults, too_many_rules_faults, rule_limit};
+ghost use Rattle.aff_reader.specs.Classes.{class_faults};
 ghost use Rattle.aff_reader.specs.Classes.{placed_rules, rules_said};
 
 use crate::class_lines::{ClassSoFar, Classes, Placed, Role, count_of, field_of, is_text, side_of};
 use crate::class_rules::{read_rule, without_ignored};
 use aff_lines::{AffWhy, DirectiveLine, Fault, earliest_faults, fault_at, unless};
 use line_faults::sooner;
-use lists::{Items, NoMemory};
 use spell_types::{FlagKind, FlagSet, Rule};
 use std::alloc::Global;
+use text_lines::lists::{Items, NoMemory};
 
 /// How many rules the headers of a file may announce.
 const MOST_RULES: u64 = 200_000;
@@ -86,7 +88,7 @@ pub fn classes_have_their_rules()
     ensures count { (kind : FlagKind) (aliases : Option (List (List Flag))) (class : Class)
         (rows : List DirectiveLine) (header : DirectiveLine) (behind : List DirectiveLine)
         → class_faults kind aliases rows ≡ [] → lines_in kind class rows ≡ header ∷ behind
-        → count_of header
+        → announced_count header
         ≡ Some (length (filter (is_rule_of class) (rules_said kind aliases rows))) }
 {}
 
@@ -213,7 +215,7 @@ fn has_rules(standing: Option<ClassSoFar>) -> bool
 }
 
 /// The earliest header up to which more rules are announced than the limit.
-#[tactic(auto, unfolding(crate::specs::Classes::many_faults))]
+#[tactic(auto, unfolding(crate::specs::Classes::too_many_rules_faults))]
 pub(crate) fn many_fault(
     alloc: Global,
     kind: FlagKind,
@@ -221,7 +223,7 @@ pub(crate) fn many_fault(
     rows: &[DirectiveLine],
 ) -> Result<Option<Fault>, NoMemory>
     requires { limit < 2 ^ 32 }
-    ensures { IfOk result (λ fault. fault ≡ least_of (many_faults kind limit rows.now)) }
+    ensures { IfOk result (λ fault. fault ≡ least_of (too_many_rules_faults kind limit rows.now)) }
 {
     earliest_faults();
     let mut classes = Classes::new(alloc);

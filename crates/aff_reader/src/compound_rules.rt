@@ -15,9 +15,9 @@ use crate::row_values::RowValue;
 use aff_lines::{AffWhy, Directive, DirectiveLine, Fault, earliest_faults, fault_at, table_rows};
 use compound_pattern::{PatternFault, read_pattern};
 use line_faults::sooner;
-use lists::{Items, NoMemory};
 use spell_types::{FlagKind, Pattern};
 use std::alloc::Global;
+use text_lines::lists::{Items, NoMemory};
 
 /// The earliest fault of the texts in the rows of COMPOUNDRULE.
 pub(crate) fn pattern_fault(

@@ -3,7 +3,7 @@
 ghost use Rattle.std.specs.Prelude.{◌≡◌, ◌<◌, Some, length, IfOk};
 ghost use Rattle.spell_types.specs.Sanity.{IsOrdinaryJoint};
 ghost use Rattle.aff_reader.specs.CompoundTables.{meant_by, spaced, rep_of, rep_in, is_remark};
-ghost use Rattle.aff_reader.specs.CompoundTables.{replacement_in, joint_with, joint_in};
+ghost use Rattle.aff_reader.specs.CompoundTables.{replacement_in, joint_pattern_of, joint_in};
 
 use crate::anchored_texts::read_anchored;
 use crate::class_lines::field_of;
@@ -11,9 +11,9 @@ use crate::class_rules::{is_zero, unless_zero};
 use crate::row_values::RowValue;
 use crate::tables::text_at;
 use aff_lines::{DirectiveLine, bare_text, flag_behind};
-use lists::{Items, NoMemory};
 use spell_types::{Chars, FlagKind, JointPattern, Rep, chars_of};
 use std::alloc::Global;
+use text_lines::lists::{Items, NoMemory};
 
 /// A row of REP: a common misspelling.
 impl RowValue for Rep {
@@ -103,7 +103,7 @@ fn joint_with(
     right: &str,
     replacement: Option<Chars>,
 ) -> Result<JointPattern, NoMemory>
-    ensures joint { IfOk result (λ joint. joint ≡ joint_with kind left.now right.now replacement) }
+    ensures joint { IfOk result (λ joint. joint ≡ joint_pattern_of kind left.now right.now replacement) }
     ensures ordinary { IfOk result IsOrdinaryJoint }
 {
     let end = chars_of(alloc, bare_text(left))?;

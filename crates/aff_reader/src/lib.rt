@@ -20,11 +20,11 @@ pub use classes::classes_have_their_rules;
 use classes::{class_fault, read_rules};
 use compound_rules::pattern_fault;
 use line_faults::sooner;
-use lists::{Items, NoMemory};
 use row_values::read_table;
 use spell_types::{Affixes, Chars, FlagKind, FlagSet, Options, Signs, alias_sets, chars_of};
 use std::alloc::Global;
 use tables::read_breaks;
+use text_lines::lists::{Items, NoMemory};
 
 mod anchored_texts;
 mod class_lines;

@@ -9,9 +9,9 @@ ghost use Rattle.aff_lines.specs.Rows.{lines_of};
 ghost use Rattle.aff_reader.specs.Tables.{table_said};
 
 use aff_lines::{Directive, DirectiveLine, table_rows};
-use lists::{Items, NoMemory};
 use spell_types::FlagKind;
 use std::alloc::Global;
+use text_lines::lists::{Items, NoMemory};
 
 /// A value that a row of a table says.
 pub(crate) trait RowValue: Drop + Sized {

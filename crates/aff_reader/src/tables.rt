@@ -5,16 +5,16 @@ ghost use Rattle.std.specs.Prelude.{◌≡◌, ◌<◌, ℕ, List, Some, All, le
 ghost use Rattle.std.specs.Str.{chars};
 ghost use Rattle.aff_lines.specs.declared.names.Directive.{Directive};
 ghost use Rattle.aff_lines.specs.Rows.{lines_of};
-ghost use Rattle.aff_reader.specs.Tables.{text_at, conversion_in, break_in, default_breaks};
+ghost use Rattle.aff_reader.specs.Tables.{text_at, conversion_in, break_of_row, default_breaks};
 ghost use Rattle.aff_reader.specs.Tables.{breaks_said};
 
 use crate::anchored_texts::read_anchored;
 use crate::class_lines::field_of;
 use crate::row_values::{RowValue, read_listed};
 use aff_lines::{Directive, DirectiveLine, table_rows};
-use lists::{Items, NoMemory};
 use spell_types::{Anchored, Chars, Conversion, FlagKind, chars_of};
 use std::alloc::Global;
+use text_lines::lists::{Items, NoMemory};
 
 /// A row of ICONV.
 impl RowValue for Conversion {
@@ -36,7 +36,7 @@ impl RowValue for Conversion {
 
 /// A row of BREAK.
 impl RowValue for Anchored {
-    ghost said_in = { λ kind. break_in };
+    ghost said_in = { λ kind. break_of_row };
 
     ghost IsSound = { λ anchored. 0 < length anchored.text };
 

@@ -2,14 +2,14 @@
 use Rattle.std.specs.Prelude.{◌≡◌, ℕ, ◌<◌, ◌≤◌, ◌^◌, true, false, List, [], ◌∷◌, ◌++◌, length}
 use Rattle.std.specs.Prelude.{Option, Some, None, Result, Ok, Err, IsUtf8, chars}
 use Rattle.mark_types.specs.declared.Mark.{Mark}
-use Rattle.spell_types.specs.Yields.{yields}
-use Rattle.spell_types.specs.declared.Affixes.{Affixes}
+use Rattle.mark_types.specs.spell_types.Yields.{yields}
+use Rattle.mark_types.specs.spell_types.declared.Affixes.{Affixes}
 use Rattle.paragraph_marks.specs.Paragraphs.{marks_in}
 use Rattle.personal_words.specs.Lists.{added}
 use Rattle.personal_words.specs.declared.faults.OwnLineWhy.TheVariants as line
 use Rattle.personal_words.specs.declared.items.OwnItem.{OwnItem}
-use Rattle.affedit_c.specs.Dictionaries.{Seen, in_force}
-use Rattle.affedit_c.specs.Marks.{written}
+use Rattle.affedit_c.specs.Dictionaries.{HandleSeen, handle_lexicon}
+use Rattle.affedit_c.specs.Marks.{array_with_marks}
 use Rattle.affedit_c.specs.declared.answers.Answer.{Answer}
 use Rattle.affedit_c.specs.declared.answers.Answer.TheVariants.{Done, Known, Unknown, Faulty}
 use Rattle.affedit_c.specs.declared.answers.Answer.TheVariants.{Blank, EmptyWord, TooMany}
@@ -34,23 +34,25 @@ answer_number Closed = 9
 answer_number NoMemory = 10
 
 -- the number is that of an answer that is right
-abbrev pub Says : (Answer → Type 0) → ℕ → Type 0
-Says IsRight number = (answer : Answer) × (number ≡ answer_number answer) × IsRight answer
+abbrev pub SaysAnswer : (Answer → Type 0) → ℕ → Type 0
+SaysAnswer IsRight number = (answer : Answer) × (number ≡ answer_number answer) × IsRight answer
 
 -- ---- a dictionary is opened, of which this is read: what the handle has before and then, and what
 -- stands where a fault is told
 
-unfoldable pub OpenAnswers : Result Seen Refusal → Option Seen → Option Seen → Fault → Fault
+unfoldable pub OpenAnswers : Result HandleSeen Refusal → Option HandleSeen → Option HandleSeen
+    → Fault → Fault
     → Answer → Type 0
 OpenAnswers read old new before then Done =
-    (seen : Seen) × (read ≡ Ok seen) × (new ≡ Some seen) × (then ≡ before)
+    (seen : HandleSeen) × (read ≡ Ok seen) × (new ≡ Some seen) × (then ≡ before)
 OpenAnswers read old new before then Faulty = (read ≡ Err (Refused then)) × (new ≡ old)
 OpenAnswers read old new before then NoMemory = (new ≡ old) × (then ≡ before)
 OpenAnswers _ _ _ _ _ _ = ⊥
 
 -- ---- another handle on what a handle has
 
-unfoldable pub ShareAnswers : Option Seen → Option Seen → Option Seen → Answer → Type 0
+unfoldable pub ShareAnswers : Option HandleSeen → Option HandleSeen → Option HandleSeen → Answer
+    → Type 0
 ShareAnswers (Some seen) old new Done = new ≡ Some seen
 ShareAnswers (Some seen) old new NoMemory = new ≡ old
 ShareAnswers None old new Closed = new ≡ old
@@ -58,9 +60,9 @@ ShareAnswers _ _ _ _ = ⊥
 
 -- ---- a word is asked
 
-unfoldable pub WordAnswers : Option Seen → List ℕ → Answer → Type 0
-WordAnswers (Some seen) word Known = IsUtf8 word × (yields (in_force seen) (chars word) ≡ true)
-WordAnswers (Some seen) word Unknown = IsUtf8 word × (yields (in_force seen) (chars word) ≡ false)
+unfoldable pub WordAnswers : Option HandleSeen → List ℕ → Answer → Type 0
+WordAnswers (Some seen) word Known = IsUtf8 word × (yields (handle_lexicon seen) (chars word) ≡ true)
+WordAnswers (Some seen) word Unknown = IsUtf8 word × (yields (handle_lexicon seen) (chars word) ≡ false)
 WordAnswers (Some seen) word NotUtf8 = ¬ (IsUtf8 word)
 WordAnswers (Some seen) word NoMemory = Unit {0}
 WordAnswers None word Closed = Unit {0}
@@ -70,13 +72,14 @@ WordAnswers _ _ _ = ⊥
 
 -- the array begins with the marks of the text, as many as it has room for, and they are counted
 abbrev pub AreMarks : List Mark → List MarkSpan → List MarkSpan → ℕ → Type 0
-AreMarks marks old new count = (new ≡ written marks old) × (count ≡ length marks)
+AreMarks marks old new count = (new ≡ array_with_marks marks old) × (count ≡ length marks)
 
-unfoldable pub MarkAnswers : Option Seen → List ℕ → List MarkSpan → List MarkSpan → ℕ → ℕ → Answer
+unfoldable pub MarkAnswers : Option HandleSeen → List ℕ → List MarkSpan → List MarkSpan → ℕ → ℕ
+    → Answer
     → Type 0
 MarkAnswers (Some seen) text old new before then Done =
     IsUtf8 text × (length text < 2 ^ 32)
-    × AreMarks (marks_in (in_force seen) (chars text)) old new then
+    × AreMarks (marks_in (handle_lexicon seen) (chars text)) old new then
 MarkAnswers (Some seen) text old new before then NotUtf8 =
     ¬ (IsUtf8 text) × (length text < 2 ^ 32) × (new ≡ old) × (then ≡ before)
 MarkAnswers (Some seen) text old new before then TooLong =
@@ -88,13 +91,13 @@ MarkAnswers _ _ _ _ _ _ _ = ⊥
 -- ---- a line is added to the personal words
 
 -- the item of the line is behind the others
-abbrev pub IsAdded : Seen → List ℕ → Option Seen → Type 0
-IsAdded seen text new = (item : OwnItem)
+abbrev pub IsWordAdded : HandleSeen → List ℕ → Option HandleSeen → Type 0
+IsWordAdded seen text new = (item : OwnItem)
     × (added seen.base.affixes seen.own text ≡ Ok (Some item))
     × (new ≡ Some (record seen { own = seen.own ++ item ∷ [] }))
 
-unfoldable pub AddAnswers : Option Seen → List ℕ → Option Seen → Answer → Type 0
-AddAnswers (Some seen) text new Done = IsUtf8 text × IsAdded seen text new
+unfoldable pub AddAnswers : Option HandleSeen → List ℕ → Option HandleSeen → Answer → Type 0
+AddAnswers (Some seen) text new Done = IsUtf8 text × IsWordAdded seen text new
 AddAnswers (Some seen) text new Blank =
     IsUtf8 text × (added seen.base.affixes seen.own text ≡ Ok None) × (new ≡ Some seen)
 AddAnswers (Some seen) text new EmptyWord =
@@ -108,7 +111,8 @@ AddAnswers _ _ _ _ = ⊥
 
 -- ---- a list of personal words takes the place of another
 
-unfoldable pub ListAnswers : (Affixes → Result (List OwnItem) Refusal) → Option Seen → Option Seen
+unfoldable pub ListAnswers : (Affixes → Result (List OwnItem) Refusal) → Option HandleSeen
+    → Option HandleSeen
     → Fault → Fault → Answer → Type 0
 ListAnswers read (Some seen) new before then Done =
     (own : List OwnItem) × (read seen.base.affixes ≡ Ok own)

@@ -1,15 +1,15 @@
 //! What each call does, before its answer is made a number.
 
 ghost use Rattle.std.specs.Prelude.{◌≡◌, ◌<◌, ◌^◌, length, Option, Some, None, Ok, IfOk, IfErr};
-ghost use Rattle.lists.specs.Answers.{GivesDue};
-ghost use Rattle.affedit_c.specs.Faults.{MayCome, dictionary_read, list_read};
+ghost use Rattle.mark_types.specs.lists.Answers.{GivesDue};
+ghost use Rattle.affedit_c.specs.Faults.{MayComeOfCalls, dictionary_read, list_read};
 ghost use Rattle.affedit_c.specs.Answers.{OpenAnswers, ShareAnswers, WordAnswers, MarkAnswers};
 ghost use Rattle.affedit_c.specs.Answers.{AddAnswers, ListAnswers};
 
 use crate::answers::Answer;
 use crate::faults::{Fault, Refusal};
 use crate::handle::Dictionary;
-use crate::kept::Kept;
+use crate::kept::KeptDictionary;
 use crate::marking::{MarkSpan, write_marks};
 use crate::reading::read_lexicon;
 use personal_words::{OwnLineFault, OwnLineWhy};
@@ -45,12 +45,12 @@ pub fn open(
 
 /// The dictionary of these bytes, ready to be asked.
 #[tactic(auto, unfolding(crate::specs::Faults::dictionary_read))]
-fn opened(alloc: Global, aff: &[u8], dic: &[u8]) -> Result<Box<Kept>, Refusal>
-    ensures { GivesDue MayCome (λ kept. kept.value)
+fn opened(alloc: Global, aff: &[u8], dic: &[u8]) -> Result<Box<KeptDictionary>, Refusal>
+    ensures { GivesDue MayComeOfCalls (λ kept. kept.value)
         (dictionary_read aff.now dic.now) result }
 {
     let base = read_lexicon(alloc, aff, dic)?;
-    Ok(Kept::new(alloc, base)?)
+    Ok(KeptDictionary::new(alloc, base)?)
 }
 
 /// Lets another handle have what a handle has.
@@ -89,7 +89,7 @@ pub fn ask(alloc: Global, dictionary: &mut Dictionary, word: &[u8]) -> Answer
 }
 
 #[tactic(auto, unfolding(crate::specs::Answers::WordAnswers))]
-fn ask_kept(alloc: Global, kept: &mut Kept, word: &[u8]) -> Answer
+fn ask_kept(alloc: Global, kept: &mut KeptDictionary, word: &[u8]) -> Answer
     ensures answer { WordAnswers (Some kept.old) word.now result }
     ensures same { kept.new ≡ kept.old }
 {
@@ -127,7 +127,7 @@ pub fn mark(
 #[tactic(auto, unfolding(crate::specs::Answers::MarkAnswers))]
 fn mark_kept(
     alloc: Global,
-    kept: &mut Kept,
+    kept: &mut KeptDictionary,
     text: &[u8],
     marks: &mut [MarkSpan],
     count: &mut usize,
@@ -164,7 +164,7 @@ pub fn add(alloc: Global, dictionary: &mut Dictionary, line: &[u8]) -> Answer
 }
 
 #[tactic(auto, unfolding(crate::specs::Answers::AddAnswers))]
-fn add_kept(alloc: Global, kept: &mut Kept, line: &[u8]) -> Answer
+fn add_kept(alloc: Global, kept: &mut KeptDictionary, line: &[u8]) -> Answer
     ensures { AddAnswers (Some kept.old) line.now (Some kept.new) result }
 {
     let Ok(line) = str::from_utf8(line) else {
@@ -199,7 +199,12 @@ pub fn take_list(
 }
 
 #[tactic(auto, unfolding(crate::specs::Answers::ListAnswers))]
-fn take_kept_list(alloc: Global, kept: &mut Kept, list: &[u8], fault: &mut Fault) -> Answer
+fn take_kept_list(
+    alloc: Global,
+    kept: &mut KeptDictionary,
+    list: &[u8],
+    fault: &mut Fault,
+) -> Answer
     ensures { ListAnswers (list_read list.now) (Some kept.old) (Some kept.new) fault.old fault.new
         result }
 {

@@ -1,12 +1,12 @@
 //! Why files are refused.
 
 ghost use Rattle.std.specs.Prelude.{◌≡◌};
-ghost use Rattle.dic_reader.specs.Faults.{cause_number};
-ghost use Rattle.affedit_c.specs.Faults.{fault_at, too_long};
+ghost use Rattle.dic_reader.specs.Faults.{dic_cause_number};
+ghost use Rattle.affedit_c.specs.Faults.{refused_at_line, refused_too_long};
 ghost use Rattle.affedit_c.specs.declared.faults.Refusal.TheVariants.{NoMemory as OutOfMemory};
 
 use dic_reader::DicWhy;
-use lists::NoMemory;
+use mark_types::lists::NoMemory;
 
 /// The .aff file of a dictionary, among the files that may have a fault.
 pub const AFF_FILE: u32 = 1;
@@ -42,7 +42,7 @@ pub enum Refusal {
 impl Refusal {
     /// A fault at a line of a file.
     pub fn at(file: u32, line: u64, cause: u8) -> Refusal
-        ensures { result ≡ fault_at file line cause }
+        ensures { result ≡ refused_at_line file line cause }
     {
         let cause = u32::from(cause);
         Refusal::Refused(Fault { line, file, cause })
@@ -50,7 +50,7 @@ impl Refusal {
 
     /// A file has too many bytes.
     pub fn too_long(file: u32) -> Refusal
-        ensures { result ≡ too_long file }
+        ensures { result ≡ refused_too_long file }
     {
         Refusal::at(file, 0, 0)
     }
@@ -65,9 +65,9 @@ impl From<NoMemory> for Refusal {
 }
 
 /// The place of a cause among all causes of a .dic file.
-#[tactic(auto, unfolding(dic_reader::specs::Faults::cause_number))]
+#[tactic(auto, unfolding(dic_reader::specs::Faults::dic_cause_number))]
 pub fn dic_cause(why: DicWhy) -> u8
-    ensures { result ≡ cause_number why }
+    ensures { result ≡ dic_cause_number why }
 {
     match why {
         DicWhy::NotUtf8 => 1,

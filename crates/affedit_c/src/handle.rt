@@ -3,7 +3,7 @@
 ghost use Rattle.std.specs.Prelude.{◌≡◌, Some, None, is_some, option_map};
 
 use crate::held::Held;
-use crate::kept::Kept;
+use crate::kept::KeptDictionary;
 use std::alloc::Global;
 use std::mem::{forget, replace};
 
@@ -28,7 +28,7 @@ impl Dictionary {
     }
 
     /// A handle on what is kept.
-    pub fn of(kept: Box<Kept>) -> Dictionary
+    pub fn of(kept: Box<KeptDictionary>) -> Dictionary
         ensures { result.held.value ≡ Some kept.value }
     {
         Dictionary {
@@ -38,7 +38,7 @@ impl Dictionary {
     }
 
     /// Takes what is kept, if anything is, and leaves a closed handle.
-    pub fn take(&mut self, alloc: Global) -> Option<Box<Kept>>
+    pub fn take(&mut self, alloc: Global) -> Option<Box<KeptDictionary>>
         ensures taken { option_map (λ kept. kept.value) result ≡ self.old.held.value }
         ensures closed { self.new.held.value ≡ None }
     {
@@ -46,7 +46,7 @@ impl Dictionary {
     }
 
     /// What is kept, if anything is.
-    fn into_kept(self) -> Option<Box<Kept>>
+    fn into_kept(self) -> Option<Box<KeptDictionary>>
         ensures { option_map (λ kept. kept.value) result ≡ self.held.value }
     {
         let Dictionary { held, is_open } = self;

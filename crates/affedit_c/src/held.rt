@@ -2,9 +2,9 @@
 
 ghost use Rattle.std.specs.Prelude.{◌≡◌, Option, Some, None, IsSome};
 ghost use Rattle.std.specs.Box.Ownership.{box_owns};
-ghost use Rattle.affedit_c.specs.Dictionaries.{Seen};
+ghost use Rattle.affedit_c.specs.Dictionaries.{HandleSeen};
 
-use crate::kept::Kept;
+use crate::kept::KeptDictionary;
 use std::alloc::{Allocator, Global};
 use std::marker::Model;
 use std::ptr::null_mut;
@@ -47,13 +47,13 @@ pub struct Held {
     at: *mut u8,
     /// It takes no bytes.
     alloc: Global,
-    pub ghost value: { Option Seen },
+    pub ghost value: { Option HandleSeen },
 }
 
 impl Model for Held {
     ghost use Rattle.std_heap.specs.contracts.GlobalAllocator.TheImpl.{ghosts};
     ghost use Rattle.affedit_c.specs.Holding.{may_own};
-    ghost use Rattle.affedit_c.specs.contracts.kept.Kept.{the_row};
+    ghost use Rattle.affedit_c.specs.contracts.kept.KeptDictionary.{the_row};
 
     ghost also_owns = { λ held.
         may_own (ghosts.dealloc_token held.alloc) the_row held.at held.value };
@@ -74,21 +74,21 @@ impl Held {
     }
 
     /// What a box owns.
-    pub fn of(kept: Box<Kept>) -> Held
+    pub fn of(kept: Box<KeptDictionary>) -> Held
         ensures { result.value ≡ Some kept.value }
     {
         Held::of_parts(Parts::of(kept))
     }
 
     /// What is there, as a box.
-    pub fn into_box(self) -> Box<Kept>
+    pub fn into_box(self) -> Box<KeptDictionary>
         requires { IsSome self.value }
         ensures { self.value ≡ Some result.value }
     {
         self.into_parts().into_box()
     }
 
-    fn of_parts(parts: Parts<Kept, Global>) -> Held
+    fn of_parts(parts: Parts<KeptDictionary, Global>) -> Held
         ensures { result.value ≡ Some parts.value }
     {
         let Parts { ptr, alloc } = parts;
@@ -98,13 +98,13 @@ impl Held {
         }
     }
 
-    fn into_parts(self) -> Parts<Kept, Global>
+    fn into_parts(self) -> Parts<KeptDictionary, Global>
         requires { IsSome self.value }
         ensures { self.value ≡ Some result.value }
     {
         let Held { at, alloc } = self;
         Parts {
-            ptr: at as *mut Kept,
+            ptr: at as *mut KeptDictionary,
             alloc,
         }
     }

@@ -3,22 +3,22 @@
 ghost use Rattle.std.specs.Prelude.{◌≡◌, ◌<◌, ◌^◌, length, IfOk, IfErr, OnErr, OnOk};
 ghost use Rattle.std.specs.Arc.{arc_value};
 ghost use Rattle.std.specs.Str.{chars};
-ghost use Rattle.lists.specs.Answers.{GivesDue};
-ghost use Rattle.spell_types.specs.Yields.{yields};
+ghost use Rattle.mark_types.specs.lists.Answers.{GivesDue};
+ghost use Rattle.mark_types.specs.spell_types.Yields.{yields};
 ghost use Rattle.paragraph_marks.specs.Paragraphs.{marks_in};
 ghost use Rattle.personal_words.specs.Extended.{extended};
-ghost use Rattle.personal_words.specs.Lists.{added, IsAdded, IsRefused};
-ghost use Rattle.affedit_c.specs.Dictionaries.{IsLoaded, in_force, without_words};
-ghost use Rattle.affedit_c.specs.Faults.{MayCome, list_read};
+ghost use Rattle.personal_words.specs.Lists.{added, IsAdded, IsOwnLineRefused};
+ghost use Rattle.affedit_c.specs.Dictionaries.{IsLoaded, handle_lexicon, without_words};
+ghost use Rattle.affedit_c.specs.Faults.{MayComeOfCalls, list_read};
 
 use crate::faults::Refusal;
 use crate::reading::read_list;
 use crate::remembering::Remembering;
-use lists::{Copied, NoMemory};
+use mark_types::lists::{Copied, NoMemory};
+use mark_types::spell_types::{Lexicon, chars_of};
 use mark_types::{Asker, Marks};
 use paragraph_marks::check;
 use personal_words::{OwnLineFault, OwnList, extend};
-use spell_types::{Lexicon, chars_of};
 use std::alloc::Global;
 use std::marker::Model;
 use std::sync::Arc;
@@ -28,34 +28,34 @@ use word_verdict::Speller;
 /// the words if there are any. Handles share the base, and what it was extended to; each remembers
 /// verdicts of its own.
 #[derive(Drop)]
-pub struct Kept {
+pub struct KeptDictionary {
     base: Arc<Speller>,
     own: OwnList,
     /// The dictionary in force beside its last verdicts, once it was asked.
     asker: Option<Remembering>,
 }
 
-impl Model for Kept {
+impl Model for KeptDictionary {
     ghost use Rattle.std.specs.Arc.{arc_value};
-    ghost use Rattle.affedit_c.specs.Dictionaries.{IsKept, Seen};
+    ghost use Rattle.affedit_c.specs.Dictionaries.{IsHandleKept, HandleSeen};
 
-    ghost Value = { Seen };
+    ghost Value = { HandleSeen };
 
     ghost view = { λ inside. record { base = arc_value inside.base; own = inside.own } };
 
     ghost invariant = { λ inside.
-        IsKept (arc_value inside.base) inside.own inside.asker };
+        IsHandleKept (arc_value inside.base) inside.own inside.asker };
 }
 
-impl Kept {
+impl KeptDictionary {
     /// A dictionary without personal words.
-    pub fn new(alloc: Global, base: Lexicon) -> Result<Box<Kept>, NoMemory>
+    pub fn new(alloc: Global, base: Lexicon) -> Result<Box<KeptDictionary>, NoMemory>
         requires { IsLoaded base }
         ensures { IfOk result (λ kept. kept.value ≡ without_words base) }
     {
         let Lexicon { affixes, entries } = base;
         let speller = Speller::build(alloc, affixes, entries)?;
-        let kept = Kept {
+        let kept = KeptDictionary {
             base: Arc::new(alloc, speller)?,
             own: OwnList::new(alloc),
             asker: None,
@@ -64,10 +64,10 @@ impl Kept {
     }
 
     /// An equal value, over the same dictionary in memory.
-    pub fn share(&self, alloc: Global) -> Result<Box<Kept>, NoMemory>
+    pub fn share(&self, alloc: Global) -> Result<Box<KeptDictionary>, NoMemory>
         ensures { IfOk result (λ kept. kept.value ≡ self.now) }
     {
-        let kept = Kept {
+        let kept = KeptDictionary {
             base: Arc::try_clone(&self.base)?,
             own: self.own.copy(alloc)?,
             asker: shared(alloc, &self.asker)?,
@@ -78,7 +78,7 @@ impl Kept {
     /// Whether the dictionary in force generates a word.
     pub fn knows(&mut self, alloc: Global, word: &str) -> Result<bool, NoMemory>
         ensures answer { IfOk result
-            (λ answer. answer ≡ yields (in_force self.old) (chars word.now)) }
+            (λ answer. answer ≡ yields (handle_lexicon self.old) (chars word.now)) }
         ensures same { self.new ≡ self.old }
     {
         let characters = chars_of(alloc, word)?;
@@ -92,7 +92,7 @@ impl Kept {
     pub fn marks(&mut self, alloc: Global, text: &str) -> Result<Marks, NoMemory>
         requires { length text.now < 2 ^ 32 }
         ensures marks { IfOk result
-            (λ marks. marks ≡ marks_in (in_force self.old) (chars text.now)) }
+            (λ marks. marks ≡ marks_in (handle_lexicon self.old) (chars text.now)) }
         ensures same { self.new ≡ self.old }
     {
         let mut asker = self.take_asker(alloc)?;
@@ -107,7 +107,7 @@ impl Kept {
             IsAdded (added self.old.base.affixes self.old.own line.now) self.old.own has
             self.new.own) }
         ensures refused { IfErr result
-            (IsRefused (added self.old.base.affixes self.old.own line.now)) }
+            (IsOwnLineRefused (added self.old.base.affixes self.old.own line.now)) }
         ensures base { self.new.base ≡ self.old.base }
         ensures err { OnErr result (self.new ≡ self.old) }
     {
@@ -119,7 +119,7 @@ impl Kept {
 
     /// Takes the personal words of a list in place of those that there are.
     pub fn take_list(&mut self, alloc: Global, bytes: &[u8]) -> Result<(), Refusal>
-        ensures due { GivesDue MayCome (λ _. self.new.own)
+        ensures due { GivesDue MayComeOfCalls (λ _. self.new.own)
             (list_read bytes.now self.old.base.affixes) result }
         ensures base { self.new.base ≡ self.old.base }
         ensures err { OnErr result (self.new ≡ self.old) }
@@ -132,7 +132,7 @@ impl Kept {
 
     /// Takes what is asked: the dictionary in force beside its last verdicts.
     fn take_asker(&mut self, alloc: Global) -> Result<Remembering, NoMemory>
-        ensures asker { IfOk result (λ asker. asker ≡ in_force self.old) }
+        ensures asker { IfOk result (λ asker. asker ≡ handle_lexicon self.old) }
         ensures same { self.new ≡ self.old }
     {
         match self.asker.take() {
@@ -142,9 +142,9 @@ impl Kept {
     }
 
     /// The dictionary in force, made anew where there are personal words.
-    #[tactic(auto, unfolding(crate::specs::Dictionaries::in_force))]
+    #[tactic(auto, unfolding(crate::specs::Dictionaries::handle_lexicon))]
     fn in_force(&self, alloc: Global) -> Result<Arc<Speller>, NoMemory>
-        ensures { IfOk result (λ speller. arc_value speller ≡ in_force self.now) }
+        ensures { IfOk result (λ speller. arc_value speller ≡ handle_lexicon self.now) }
     {
         if self.own.is_empty() {
             return Ok(Arc::try_clone(&self.base)?);

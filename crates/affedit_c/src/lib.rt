@@ -4,7 +4,7 @@
 #![tactic(auto)]
 
 ghost use Rattle.std.specs.Prelude.{◌≡◌, None};
-ghost use Rattle.affedit_c.specs.Answers.{Says, OpenAnswers, ShareAnswers, WordAnswers};
+ghost use Rattle.affedit_c.specs.Answers.{SaysAnswer, OpenAnswers, ShareAnswers, WordAnswers};
 ghost use Rattle.affedit_c.specs.Answers.{MarkAnswers, AddAnswers, ListAnswers};
 ghost use Rattle.affedit_c.specs.Faults.{dictionary_read, list_read};
 
@@ -34,7 +34,7 @@ pub extern "C" fn affedit_open(
     dictionary: &mut Dictionary,
     fault: &mut Fault,
 ) -> u32
-    ensures { Says (OpenAnswers (dictionary_read aff.now dic.now) dictionary.old.held.value
+    ensures { SaysAnswer (OpenAnswers (dictionary_read aff.now dic.now) dictionary.old.held.value
         dictionary.new.held.value fault.old fault.new) result }
 {
     calls::open(alloc, aff, dic, dictionary, fault).number()
@@ -55,7 +55,7 @@ pub extern "C" fn affedit_share(
     dictionary: &mut Dictionary,
     other: &mut Dictionary,
 ) -> u32
-    ensures answer { Says (ShareAnswers dictionary.old.held.value other.old.held.value
+    ensures answer { SaysAnswer (ShareAnswers dictionary.old.held.value other.old.held.value
         other.new.held.value) result }
     ensures same { dictionary.new.held.value ≡ dictionary.old.held.value }
 {
@@ -65,7 +65,7 @@ pub extern "C" fn affedit_share(
 /// Whether the dictionary generates a word.
 #[unsafe(no_mangle)]
 pub extern "C" fn affedit_word(alloc: Global, dictionary: &mut Dictionary, word: &[u8]) -> u32
-    ensures answer { Says (WordAnswers dictionary.old.held.value word.now) result }
+    ensures answer { SaysAnswer (WordAnswers dictionary.old.held.value word.now) result }
     ensures same { dictionary.new.held.value ≡ dictionary.old.held.value }
 {
     calls::ask(alloc, dictionary, word).number()
@@ -80,7 +80,7 @@ pub extern "C" fn affedit_marks(
     marks: &mut [MarkSpan],
     count: &mut usize,
 ) -> u32
-    ensures answer { Says (MarkAnswers dictionary.old.held.value text.now marks.old marks.new
+    ensures answer { SaysAnswer (MarkAnswers dictionary.old.held.value text.now marks.old marks.new
         count.old count.new) result }
     ensures same { dictionary.new.held.value ≡ dictionary.old.held.value }
 {
@@ -90,7 +90,7 @@ pub extern "C" fn affedit_marks(
 /// Adds the item of a line to the personal words of a handle.
 #[unsafe(no_mangle)]
 pub extern "C" fn affedit_add(alloc: Global, dictionary: &mut Dictionary, line: &[u8]) -> u32
-    ensures { Says (AddAnswers dictionary.old.held.value line.now dictionary.new.held.value)
+    ensures { SaysAnswer (AddAnswers dictionary.old.held.value line.now dictionary.new.held.value)
         result }
 {
     calls::add(alloc, dictionary, line).number()
@@ -105,7 +105,7 @@ pub extern "C" fn affedit_list(
     list: &[u8],
     fault: &mut Fault,
 ) -> u32
-    ensures { Says (ListAnswers (list_read list.now) dictionary.old.held.value
+    ensures { SaysAnswer (ListAnswers (list_read list.now) dictionary.old.held.value
         dictionary.new.held.value fault.old fault.new) result }
 {
     calls::take_list(alloc, dictionary, list, fault).number()

@@ -1,7 +1,7 @@
 //! Marks in an array of the caller's.
 
 ghost use Rattle.std.specs.Prelude.{◌≡◌, length, map};
-ghost use Rattle.affedit_c.specs.Marks.{span_of, written};
+ghost use Rattle.affedit_c.specs.Marks.{span_of_mark, array_with_marks};
 
 use mark_types::Mark;
 
@@ -16,7 +16,7 @@ pub struct MarkSpan {
 
 /// Puts marks at the front of an array, as many as it has room for.
 pub fn write_marks(marks: &[Mark], array: &mut [MarkSpan])
-    ensures { array.new ≡ written marks.now array.old }
+    ensures { array.new ≡ array_with_marks marks.now array.old }
 {
     let mut place = 0;
     while place < marks.len() && place < array.len() {
@@ -26,7 +26,7 @@ pub fn write_marks(marks: &[Mark], array: &mut [MarkSpan])
 }
 
 fn span_of(mark: &Mark) -> MarkSpan
-    ensures { result ≡ span_of mark.now }
+    ensures { result ≡ span_of_mark mark.now }
 {
     MarkSpan {
         from: mark.from,

@@ -3,7 +3,7 @@
 ghost use Rattle.std.specs.Prelude.{◌≡◌, IfOk};
 ghost use Rattle.std.specs.Arc.{arc_value};
 
-use lists::NoMemory;
+use mark_types::lists::NoMemory;
 use mark_types::{Asker, Judge};
 use std::alloc::Global;
 use std::marker::Model;
@@ -28,7 +28,7 @@ pub struct Remembering {
 impl Model for Remembering {
     ghost use Rattle.std.specs.Prelude.{◌≡◌};
     ghost use Rattle.std.specs.Arc.{arc_value};
-    ghost use Rattle.spell_types.specs.declared.Lexicon.{Lexicon};
+    ghost use Rattle.mark_types.specs.spell_types.declared.Lexicon.{Lexicon};
 
     ghost Value = { Lexicon };
 

@@ -13,7 +13,7 @@ use Rattle.spell_types.specs.declared.rules.Rule.{Rule}
 use Rattle.spell_types.specs.Conditions.{fits_front, fits_back}
 use Rattle.spell_types.specs.Attaching.{may_strip, attached_suffix, attached_prefix, attached_on}
 use Rattle.spell_types.specs.Attaching.{attached, IsUndone}
-use Rattle.lists.specs.Laws.{take-joined}
+use Rattle.spell_types.specs.lists.Laws.{take-joined}
 use Rattle.affix_classes.specs.Undoing.{undone_suffix, undone_prefix, undone_on}
 
 -- where the old part stands at this end of a word, the new part stands there after the change, and

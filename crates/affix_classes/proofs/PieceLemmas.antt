@@ -8,8 +8,9 @@ use Rattle.std.proofs.Math.Seq.{take-append_seam, drop-append-add}
 use Rattle.std.specs.Option.{option_map}
 use Rattle.std.specs.List.{AllByRecursion, position, position_or_len}
 use Rattle.spell_types.specs.declared.rules.Piece.{Piece}
-use Rattle.lists.specs.Laws.{take-rest}
-use Rattle.affix_classes.specs.ConditionTexts.{opens, closes, plain_piece, bracket_piece, bracket}
+use Rattle.spell_types.specs.lists.Laws.{take-rest}
+use Rattle.affix_classes.specs.ConditionTexts.{opens_set, closes_set, plain_piece, bracket_piece}
+use Rattle.affix_classes.specs.ConditionTexts.{bracket}
 use Rattle.affix_classes.specs.ConditionTexts.{first_piece, followed_by, pieces_behind, pieces_of}
 
 -- what was read, with what the rest is behind it
@@ -43,28 +44,28 @@ unfolding pieces_of
 pieces_of-none c text none =
     ap (option_and_then (λ found. followed_by found.0 (pieces_behind found.1 text))) none
 
-pub pieces_of-plain : (c : ℕ) (text : List ℕ) → opens c ≡ false
+pub pieces_of-plain : (c : ℕ) (text : List ℕ) → opens_set c ≡ false
     → pieces_of (c ∷ text) ≡ followed_by (plain_piece c) (pieces_of text)
 pieces_of-plain c text plain =
     pieces_of-piece c text (plain_piece c) 0
     (ap (λ b. cond b (bracket text) (Some (plain_piece c, 0))) plain)
 
-closed_at : (inside text : List ℕ) → AllByRecursion (λ c. closes c ≡ false) inside
-    → position_or_len closes (inside ++ 93 ∷ text) ≡ length inside
+closed_at : (inside text : List ℕ) → AllByRecursion (λ c. closes_set c ≡ false) inside
+    → position_or_len closes_set (inside ++ 93 ∷ text) ≡ length inside
 closed_at [] text each = refl
 closed_at (c ∷ inside) text each =
-    ap (λ b. cond (not b) (1 + position_or_len closes (inside ++ 93 ∷ text)) 0) each.0
+    ap (λ b. cond (not b) (1 + position_or_len closes_set (inside ++ 93 ∷ text)) 0) each.0
     ∙ omega (arith, closed_at inside text each.1)
 
-never_closed : (text : List ℕ) → AllByRecursion (λ c. closes c ≡ false) text
-    → position_or_len closes text ≡ length text
+never_closed : (text : List ℕ) → AllByRecursion (λ c. closes_set c ≡ false) text
+    → position_or_len closes_set text ≡ length text
 never_closed [] each = refl
 never_closed (c ∷ text) each =
-    ap (λ b. cond (not b) (1 + position_or_len closes text) 0) each.0
+    ap (λ b. cond (not b) (1 + position_or_len closes_set text) 0) each.0
     ∙ omega (arith, never_closed text each.1)
 
-position-closed : (inside text : List ℕ) → AllByRecursion (λ c. closes c ≡ false) inside
-    → position closes (inside ++ 93 ∷ text) ≡ Some (length inside)
+position-closed : (inside text : List ℕ) → AllByRecursion (λ c. closes_set c ≡ false) inside
+    → position closes_set (inside ++ 93 ∷ text) ≡ Some (length inside)
 position-closed inside text each =
     let whole = inside ++ 93 ∷ text in
     let shorter : nat_lt (length inside) (length whole) ≡ true =
@@ -72,14 +73,14 @@ position-closed inside text each =
     ap (λ n. cond (nat_lt n (length whole)) (Some n) None) (closed_at inside text each)
     ∙ ap (λ b. cond b (Some (length inside)) None) shorter
 
-position-unclosed : (text : List ℕ) → AllByRecursion (λ c. closes c ≡ false) text
-    → position closes text ≡ None
+position-unclosed : (text : List ℕ) → AllByRecursion (λ c. closes_set c ≡ false) text
+    → position closes_set text ≡ None
 position-unclosed text each =
     let no_shorter : nat_lt (length text) (length text) ≡ false = le-ltb _ _ (omega arith) in
     ap (λ n. cond (nat_lt n (length text)) (Some n) None) (never_closed text each)
     ∙ ap (λ b. cond b (Some (length text)) None) no_shorter
 
-pub pieces_of-bracket : (inside text : List ℕ) → AllByRecursion (λ c. closes c ≡ false) inside
+pub pieces_of-bracket : (inside text : List ℕ) → AllByRecursion (λ c. closes_set c ≡ false) inside
     → pieces_of (91 ∷ (inside ++ 93 ∷ text)) ≡ followed_by (bracket_piece inside) (pieces_of text)
 pieces_of-bracket inside text each =
     let whole = inside ++ 93 ∷ text in
@@ -90,7 +91,7 @@ pieces_of-bracket inside text each =
     ∙ ap (λ rest. followed_by (bracket_piece inside) (pieces_of rest))
     (drop-append-add inside (93 ∷ text) 1)
 
-pub pieces_of-unclosed : (text : List ℕ) → AllByRecursion (λ c. closes c ≡ false) text
+pub pieces_of-unclosed : (text : List ℕ) → AllByRecursion (λ c. closes_set c ≡ false) text
     → pieces_of (91 ∷ text) ≡ None
 pieces_of-unclosed text each =
     pieces_of-none 91 text

@@ -9,12 +9,12 @@ use Rattle.spell_types.specs.declared.rules.Piece.{Piece}
 use Rattle.spell_types.specs.declared.rules.Piece.TheVariants.{Any, One, Among, NotAmong}
 
 -- `[`
-abbrev pub opens : ℕ → Bool
-opens c = c == 91
+abbrev pub opens_set : ℕ → Bool
+opens_set c = c == 91
 
 -- `]`
-abbrev pub closes : ℕ → Bool
-closes c = c == 93
+abbrev pub closes_set : ℕ → Bool
+closes_set c = c == 93
 
 -- `.` is any character, and each other character is itself
 abbrev pub plain_piece : ℕ → Piece
@@ -29,11 +29,11 @@ bracket_piece (c ∷ more) = if c == 94 then NotAmong more else Among (c ∷ mor
 -- what is read of a bracket: inside are the characters before the first `]`, which belongs to it
 abbrev pub bracket : List ℕ → Option (Piece × ℕ)
 bracket behind =
-    option_map (λ place. (bracket_piece (take place behind), place + 1)) (position closes behind)
+    option_map (λ place. (bracket_piece (take place behind), place + 1)) (position closes_set behind)
 
 -- the piece that begins with a character, and how many of the characters behind it belong to it
 abbrev pub first_piece : ℕ → List ℕ → Option (Piece × ℕ)
-first_piece c behind = if opens c then bracket behind else Some (plain_piece c, 0)
+first_piece c behind = if opens_set c then bracket behind else Some (plain_piece c, 0)
 
 -- the piece, and behind it those that the rest is
 abbrev pub followed_by : Piece → Option (List Piece) → Option (List Piece)

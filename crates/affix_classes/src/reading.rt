@@ -4,11 +4,12 @@ ghost use Rattle.std.specs.Prelude.{◌≡◌, ◌≢◌, ℕ, ◌≤◌, false,
 ghost use Rattle.std.specs.Prelude.{None, IfOk, IfErr};
 ghost use Rattle.std.specs.List.{AllByRecursion, position};
 ghost use Rattle.std.specs.Str.{chars};
-ghost use Rattle.affix_classes.specs.ConditionTexts.{opens, closes, plain_piece, bracket_piece};
+ghost use Rattle.affix_classes.specs.ConditionTexts.{opens_set, closes_set, plain_piece};
+ghost use Rattle.affix_classes.specs.ConditionTexts.{bracket_piece};
 ghost use Rattle.affix_classes.specs.ConditionTexts.{first_piece, followed_by, pieces_of};
 ghost use Rattle.affix_classes.specs.ConditionTexts.{condition_of};
 
-use lists::{Items, NoMemory};
+use spell_types::lists::{Items, NoMemory};
 use spell_types::{Chars, Condition, Piece};
 use std::alloc::Global;
 
@@ -49,12 +50,12 @@ pub fn read_condition(alloc: Global, text: &str) -> Result<Condition, ConditionF
 /// bracket that no `]` closes is no condition.
 pub fn conditions_are_read_by_pieces()
     ensures end { pieces_of [] ≡ Some [] }
-    ensures plain { (c : ℕ) (text : List ℕ) → opens c ≡ false
+    ensures plain { (c : ℕ) (text : List ℕ) → opens_set c ≡ false
         → pieces_of (c ∷ text) ≡ followed_by (plain_piece c) (pieces_of text) }
-    ensures bracket { (inside text : List ℕ) → AllByRecursion (λ c. closes c ≡ false) inside
+    ensures bracket { (inside text : List ℕ) → AllByRecursion (λ c. closes_set c ≡ false) inside
         → pieces_of (91 ∷ (inside ++ 93 ∷ text)) ≡ followed_by (bracket_piece inside)
         (pieces_of text) }
-    ensures unclosed { (text : List ℕ) → AllByRecursion (λ c. closes c ≡ false) text
+    ensures unclosed { (text : List ℕ) → AllByRecursion (λ c. closes_set c ≡ false) text
         → pieces_of (91 ∷ text) ≡ None }
 {}
 
@@ -108,7 +109,7 @@ fn read_piece(alloc: Global, c: char, behind: &[char]) -> Result<(Piece, usize),
 
 /// The place of the first `]`.
 fn closing_place(text: &[char]) -> Option<usize>
-    ensures { result ≡ position closes text.now }
+    ensures { result ≡ position closes_set text.now }
 {
     text.iter().position(|c| *c == ']')
 }

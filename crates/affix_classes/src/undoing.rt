@@ -6,7 +6,7 @@ ghost use Rattle.spell_types.specs.declared.rules.Side.{Side};
 ghost use Rattle.spell_types.specs.Attaching.{attached, IsUndone};
 ghost use Rattle.affix_classes.specs.Undoing.{undone_suffix, undone_prefix, undone_on};
 
-use lists::NoMemory;
+use spell_types::lists::NoMemory;
 use spell_types::{Chars, Rule, Side, joined, matches_back, matches_front};
 use std::alloc::Global;
 

@@ -18,7 +18,7 @@ use Rattle.spell_types.specs.Flags.{has, has_flag_of}
 use Rattle.spell_types.specs.Licences.{holds_of, allows, carried_by, is_allowed, is_first_allowed}
 use Rattle.spell_types.specs.Licences.{is_second_allowed, is_prefix_allowed, is_crossing_right}
 use Rattle.spell_types.specs.Licences.{meets_signs, meets_need, meets_circumfix, is_forbidden}
-use Rattle.lists.specs.Laws.{any-at, any-contains}
+use Rattle.spell_types.specs.lists.Laws.{any-at, any-contains}
 use Rattle.affix_strip.specs.Classes.{HasClasses}
 use Rattle.affix_strip.specs.Tables.{is_forbidden_entry, takes_affixes}
 use Rattle.affix_strip.specs.Tables.{OfForbidden, AllowsNone}

@@ -17,7 +17,7 @@ use Rattle.spell_types.specs.declared.rules.Side.TheVariants.{Prefix, Suffix}
 use Rattle.spell_types.specs.Derivations.{affix_on, rule_on, is_right, form_of, derivation_of}
 use Rattle.spell_types.specs.Flags.{has}
 use Rattle.spell_types.specs.Licences.{is_licensed}
-use Rattle.lists.specs.Laws.{any-at}
+use Rattle.spell_types.specs.lists.Laws.{any-at}
 use Rattle.affix_strip.specs.Parts.{put_on, stem_of, with_first, with_suffixes, with_all, Any}
 use Rattle.affix_strip.specs.Parts.{Outside, Passes, AtSome, From, FromAll, RuleFrom, Peels}
 use Rattle.affix_strip.specs.Peeling.{Peeled, ArePeeled, may_undo_at}

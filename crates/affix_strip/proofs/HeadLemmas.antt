@@ -10,7 +10,7 @@ use Rattle.std.proofs.lemmas.List.{take-take, take-append-le}
 use Rattle.std.proofs.lemmas.Option.{option_and_then_some, same_Some}
 use Rattle.key_filter.specs.declared.KeyFilter.{KeyFilter}
 use Rattle.key_filter.specs.Filter.{may_have}
-use Rattle.lists.specs.Laws.{any-contains}
+use Rattle.spell_types.specs.lists.Laws.{any-contains}
 use Rattle.spell_types.specs.declared.Entry.{Entry}
 use Rattle.spell_types.specs.declared.Lexicon.{Lexicon}
 use Rattle.spell_types.specs.declared.derivations.Derivation.{Derivation}
@@ -28,7 +28,8 @@ use Rattle.affix_strip.specs.declared.edges.Edge.{Edge}
 use Rattle.affix_strip.specs.declared.edges.Those.TheVariants.{All}
 use Rattle.affix_strip.specs.Edges.{IsEdge, IsSilent, NoneBegin}
 use Rattle.affix_strip.specs.Hashes.{hash_of}
-use Rattle.affix_strip.specs.Heads.{cut_of, head_of, AreHeadsOf, IsHeaded, IsUnheaded, Unheaded}
+use Rattle.affix_strip.specs.Heads.{cut_of, shortest_head, AreHeadsOf, IsHeaded, IsUnheaded}
+use Rattle.affix_strip.specs.Heads.{Unheaded}
 use Rattle.affix_strip.specs.Heads.{MayHeads, NoneHeads}
 use Rattle.affix_strip.proofs.EdgeLemmas.{none-there, some-there, up-to}
 use Rattle.affix_strip.proofs.InsideLemmas.{Names, names-of, own, own-form, noted, sided, on-side}
@@ -167,7 +168,7 @@ suffixes-keep : (full_strip : Bool) (n : Named) (most : ℕ) (stem longer : List
     → ((rule : Rule) → n.second ≡ Some rule → rule.side ≡ Suffix)
     → with_affix full_strip n.first n.entry.word ≡ Some stem
     → with_affix full_strip n.second stem ≡ Some longer
-    → take (length n.entry.word - most) longer ≡ head_of most n.entry.word
+    → take (length n.entry.word - most) longer ≡ shortest_head most n.entry.word
 suffixes-keep full_strip n most stem longer few first second inner outer =
     by (some-there (length word - most))
   where
@@ -280,7 +281,7 @@ module _ (lexicon : Lexicon) (heads : KeyFilter) (are : AreHeadsOf lexicon heads
 
   headed : (edge : Edge) → IsEdge lexicon.affixes.rules Prefix All edge → (text : List ℕ)
       → NoneBegin edge text → form_of lexicon d ≡ Some text
-      → take (length names.entry.word - are.most) text ≡ head_of are.most names.entry.word
+      → take (length names.entry.word - are.most) text ≡ shortest_head are.most names.entry.word
   headed edge is text none form =
       one (with_affix full n.first names.entry.word) refl
       (sym (own-form lexicon d names) ∙ form)
@@ -291,7 +292,7 @@ module _ (lexicon : Lexicon) (heads : KeyFilter) (are : AreHeadsOf lexicon heads
       two : (stem : List ℕ) → with_affix full n.first names.entry.word ≡ Some stem
           → (found : Option (List ℕ)) → with_affix full n.second stem ≡ found
           → option_and_then (with_affix full n.prefix) found ≡ Some text
-          → take (length names.entry.word - are.most) text ≡ head_of are.most names.entry.word
+          → take (length names.entry.word - are.most) text ≡ shortest_head are.most names.entry.word
       two stem inner None at made = absurd (cc)
       two stem inner (Some longer) at made =
           ap (take (length names.entry.word - are.most))
@@ -303,7 +304,7 @@ module _ (lexicon : Lexicon) (heads : KeyFilter) (are : AreHeadsOf lexicon heads
       one : (found : Option (List ℕ)) → with_affix full n.first names.entry.word ≡ found
           → option_and_then (with_affix full n.prefix)
           (option_and_then (with_affix full n.second) found) ≡ Some text
-          → take (length names.entry.word - are.most) text ≡ head_of are.most names.entry.word
+          → take (length names.entry.word - are.most) text ≡ shortest_head are.most names.entry.word
       one None at made = absurd (cc)
       one (Some stem) at made = two stem at (with_affix full n.second stem) refl made
 
@@ -318,7 +319,7 @@ none-barred told lexicon heads is word (Unheaded filter at none begin) d license
     forbidden =
     true≢false (sym (are.are d.entry entry there forbidden)
     ∙ ap (λ t. may_have filter (hash_of t))
-    (sym (ap (λ (e : Entry). head_of are.most e.word) same)
+    (sym (ap (λ (e : Entry). shortest_head are.most e.word) same)
     ∙ sym front ∙ ap (λ k. take k word) (omega (arith, within)))
     ∙ none (min (length names.entry.word - are.most) (length word)) (omega arith))
   where
@@ -331,7 +332,7 @@ none-barred told lexicon heads is word (Unheaded filter at none begin) d license
     same : names.entry ≡ entry
     same = same_Some names.entry entry (sym names.at ∙ there)
 
-    front : take (length names.entry.word - are.most) word ≡ head_of are.most names.entry.word
+    front : take (length names.entry.word - are.most) word ≡ shortest_head are.most names.entry.word
     front = headed lexicon filter are told d names heads.prefixes is.prefixes word begin form
 
     within : length names.entry.word - are.most ≤ length word

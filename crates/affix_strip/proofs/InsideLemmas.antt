@@ -13,7 +13,7 @@ use Rattle.std.proofs.lemmas.Bool.{or_right}
 use Rattle.std.proofs.lemmas.Option.{option_and_then_some, same_Some}
 use Rattle.std.proofs.lemmas.Slice.Eq.{bytes_eq-Decides}
 use Rattle.key_filter.specs.Filter.{may_have}
-use Rattle.lists.specs.Laws.{any-at, any-contains}
+use Rattle.spell_types.specs.lists.Laws.{any-at, any-contains}
 use Rattle.spell_types.specs.declared.Entry.{Entry}
 use Rattle.spell_types.specs.declared.Lexicon.{Lexicon}
 use Rattle.spell_types.specs.declared.derivations.Derivation.{Derivation}
@@ -42,11 +42,12 @@ use Rattle.affix_strip.specs.declared.edges.Edge.{Edge}
 use Rattle.affix_strip.specs.declared.inside.Inside.{Inside}
 use Rattle.affix_strip.specs.declared.edges.Those.{Those}
 use Rattle.affix_strip.specs.declared.edges.Those.TheVariants.{All, Carrying}
-use Rattle.affix_strip.specs.Edges.{is_one_of, IsSilent, IsNoted, IsEdge, IsBegun}
+use Rattle.affix_strip.specs.Edges.{is_rule_among, IsSilent, IsNoted, IsEdge, IsBegun}
 use Rattle.affix_strip.specs.Edges.{Silent, Before}
 use Rattle.affix_strip.specs.Hashes.{hash_of}
 use Rattle.affix_strip.specs.Inside.{one_fits, has_step, StandsInside, ByFlags, InRule}
-use Rattle.affix_strip.specs.Inside.{carries_sign, HasGiven, HasInnerFlags, IsInside, IsUnmade}
+use Rattle.affix_strip.specs.Inside.{carries_sign, HasGiven, HasInnerFlags, IsInsideOfLexicon}
+use Rattle.affix_strip.specs.Inside.{IsUnmade}
 use Rattle.affix_strip.specs.Classes.{HasClasses}
 use Rattle.affix_strip.specs.Tables.{AllowsNone}
 use Rattle.affix_strip.proofs.BarringLemmas.{no-affixes}
@@ -99,7 +100,7 @@ module _ (lexicon : Lexicon) (d : Derivation) (names : Names lexicon d) where
 -- ---- affixes that stand there
 -- each affix is one of those of its side
 pub record Wants (lexicon : Lexicon) (those : Those) (n : Named) : Type 0 where
-  pub prefix : (rule : Rule) → n.prefix ≡ Some rule → is_one_of those rule ≡ true
+  pub prefix : (rule : Rule) → n.prefix ≡ Some rule → is_rule_among those rule ≡ true
   pub first : (rule : Rule) → n.first ≡ Some rule
       → has rule.carried lexicon.affixes.signs.permit ≡ true
   pub second : (rule : Rule) → n.second ≡ Some rule
@@ -438,11 +439,11 @@ module _ (told : (set : List Flag) (flag : Flag) → IsTrue (has set (Some flag)
 -- an affix that is named is a rule of the side, and what it adds is noted
 pub noted : (rules : List Rule) (side : Side) (those : Those) (edge : Edge) → IsEdge rules side those edge
     → (named : Option ℕ) (rule : Rule) → affix_on rules side named ≡ Some rule
-    → is_one_of those rule ≡ true → IsNoted edge rule
+    → is_rule_among those rule ≡ true → IsNoted edge rule
 noted rules side those edge are named rule is one =
     option_and_then_some (rule_on rules side) named rule is (λ place there on.
     are place rule (on-rule rules side place rule on)
-    (and_from (is_same_side side rule.side) (is_one_of those rule)
+    (and_from (is_same_side side rule.side) (is_rule_among those rule)
     (ap (is_same_side side) (rule_on-side rules side place rule on) ∙ own_side side) one))
 
 pub sided : (rules : List Rule) (side : Side) (named : Option ℕ) (rule : Rule)
@@ -568,7 +569,7 @@ module _ (full_strip : Bool) (inside : Inside) (fronts : Edge) (text : List ℕ)
 
 -- ---- all of it
 module _ (told : (set : List Flag) (flag : Flag) → IsTrue (has set (Some flag))
-    ↔ Contains set flag) (lexicon : Lexicon) (inside : Inside) (is : IsInside lexicon inside)
+    ↔ Contains set flag) (lexicon : Lexicon) (inside : Inside) (is : IsInsideOfLexicon lexicon inside)
     (text : List ℕ) (d : Derivation) (licensed : is_licensed lexicon d ≡ true)
     (form : form_of lexicon d ≡ Some text) where
   abbrev names : Names lexicon d

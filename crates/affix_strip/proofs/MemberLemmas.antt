@@ -7,8 +7,8 @@ use Rattle.std.specs.Option.{option_map}
 use Rattle.std.proofs.lemmas.Bool.{and_parts, and_from}
 use Rattle.std.proofs.lemmas.List.Elements.{All-contains, filter_passes}
 use Rattle.std.proofs.lemmas.Option.{slice_get_within}
-use Rattle.lists.specs.Laws.{contains-map, contains-flat_map}
-use Rattle.lists.specs.Laws.{contains-filter, contains-range}
+use Rattle.spell_types.specs.lists.Laws.{contains-map, contains-flat_map}
+use Rattle.spell_types.specs.lists.Laws.{contains-filter, contains-range}
 use Rattle.spell_types.specs.declared.Entry.{Entry}
 use Rattle.spell_types.specs.declared.Lexicon.{Lexicon}
 use Rattle.spell_types.specs.declared.derivations.Derivation.{Derivation}

@@ -7,12 +7,12 @@ use Rattle.std.specs.Option.{option_cmp}
 use Rattle.std.specs.Ordering.{ordering_then, nat_cmp}
 use Rattle.std.proofs.lemmas.Bool.Decides.{nat_tests}
 use Rattle.std.proofs.lemmas.List.Kept.{IsStrictlySortedBy-filter}
-use Rattle.lists.specs.Laws.{each-append, each-weaker, each-map, each-flat_map}
-use Rattle.lists.specs.Laws.{range-rises}
+use Rattle.spell_types.specs.lists.Laws.{each-append, each-weaker, each-map, each-flat_map}
+use Rattle.spell_types.specs.lists.Laws.{range-rises}
 use Rattle.spell_types.specs.declared.Lexicon.{Lexicon}
 use Rattle.spell_types.specs.declared.derivations.Derivation.{Derivation}
 use Rattle.spell_types.specs.Derivations.{choices, derivation_of, all_from, all_derivations}
-use Rattle.affix_strip.specs.Found.{derives, derivations_of, derivation_cmp, AreInOrder}
+use Rattle.affix_strip.specs.Found.{derives, derivations_of, derivation_cmp, AreDerivationsInOrder}
 
 -- ---- what holds of each
 each-always : {X : Type 0} (P : X → Type 0) → ((x : X) → P x) → (xs : List X) → AllByRecursion P xs
@@ -210,7 +210,7 @@ all-sorted lexicon =
     (range_with_len 0 (length lexicon.entries)) (range-rises 0 (length lexicon.entries))
 
 pub derivations-rise : (lexicon : Lexicon) (word : List ℕ)
-    → AreInOrder (derivations_of lexicon word)
+    → AreDerivationsInOrder (derivations_of lexicon word)
 unfolding derivations_of
 derivations-rise lexicon word =
     IsStrictlySortedBy-filter derivation_cmp (derives lexicon word) (all_derivations lexicon)

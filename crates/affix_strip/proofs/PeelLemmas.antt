@@ -13,7 +13,7 @@ use Rattle.std.proofs.lemmas.List.Elements.{Contains-append_left, Contains-appen
 use Rattle.std.proofs.lemmas.List.Elements.{Contains-append_cases}
 use Rattle.std.proofs.lemmas.Option.{option_and_then_some, cond_some, slice_get-get_or}
 use Rattle.std.proofs.lemmas.Slice.Eq.{bytes_eq-Decides}
-use Rattle.lists.specs.Laws.{contains-map}
+use Rattle.spell_types.specs.lists.Laws.{contains-map}
 use Rattle.spell_types.specs.declared.Affixes.{Affixes}
 use Rattle.spell_types.specs.declared.rules.Rule.{Rule}
 use Rattle.spell_types.specs.declared.rules.Side.{Side}
@@ -24,7 +24,8 @@ use Rattle.spell_types.specs.Derivations.{is_same_side, rule_on}
 use Rattle.affix_classes.specs.Undoing.{suffix_put_back, prefix_put_back, undone_on}
 use Rattle.affix_tables.specs.Groups.{Group, strip_in, places_in, HasPlace, AreGroups}
 use Rattle.spell_types.specs.Laws.{own_side}
-use Rattle.affix_strip.specs.Peeling.{IsOn, join, has_at, cut_off, kept_of, IsCut, Peeled}
+use Rattle.affix_strip.specs.Peeling.{IsOn, join, has_at, cut_off, kept_behind_cut, IsCutAtSide}
+use Rattle.affix_strip.specs.Peeling.{Peeled}
 use Rattle.affix_strip.specs.Peeling.{peeled_by, Leaves, IsPeeled, ArePeeled, may_undo, may_undo_at}
 use Rattle.affix_strip.proofs.UndoneWords.{undone_at}
 use Rattle.affix_strip.proofs.InverseLemmas.{rule_on-side}
@@ -94,7 +95,7 @@ map-contains f (x ∷ xs) y (suc k, within, at) =
     }
 
 module _ (rules : List Rule) (side : Side) (word : List ℕ) (count : ℕ)
-    (within : count ≤ length word) (added kept : List ℕ) (cut : IsCut side word count added kept)
+    (within : count ≤ length word) (added kept : List ℕ) (cut : IsCutAtSide side word count added kept)
     (groups : List Group) (are : AreGroups rules side added groups) where
   added-length : length added ≡ count
   added-length = ap length cut.off ∙ cut-length side word count within
@@ -114,7 +115,7 @@ module _ (rules : List Rule) (side : Side) (word : List ℕ) (count : ℕ)
             rule = rule;
             on = (at, on);
             fits = cut-has side word rule.add (adds ∙ cut.off ∙ ap (cut_off side word) (sym size));
-            is = ap (λ k. join side k rule.strip) (ap (kept_of side word) size ∙ sym cut.left)
+            is = ap (λ k. join side k rule.strip) (ap (kept_behind_cut side word) size ∙ sym cut.left)
                 ∙ ap (join side kept) strips;
           }
 
@@ -230,7 +231,8 @@ peeled-all rules side word reach count found bound past below = record {
 
 -- ---- what is undone
 undone_on-leaves : (full_strip : Bool) (side : Side) (rule : Rule) (word rest : List ℕ)
-    → has_at side word rule.add ≡ true → join side (kept_of side word (length rule.add)) rule.strip
+    → has_at side word rule.add ≡ true
+    → join side (kept_behind_cut side word (length rule.add)) rule.strip
     ≡ rest
     → undone_on side full_strip rule word
     ≡ (if may_undo full_strip side rest rule then Some rest else None)

@@ -20,7 +20,7 @@ use Rattle.spell_types.specs.declared.derivations.Derivation.{Derivation}
 use Rattle.spell_types.specs.declared.Lexicon.{Lexicon}
 use Rattle.spell_types.specs.Derivations.{form_of, derivation_of}
 use Rattle.spell_types.specs.Licences.{is_licensed}
-use Rattle.affix_strip.specs.Found.{derivation_cmp, derivations_of, AreInOrder}
+use Rattle.affix_strip.specs.Found.{derivation_cmp, derivations_of, AreDerivationsInOrder}
 use Rattle.affix_strip.proofs.MemberLemmas.{derivations-members}
 use Rattle.affix_strip.proofs.OrderLemmas.{derivations-rise}
 
@@ -104,9 +104,9 @@ pub in-order : (E : Derivation → Derivation → Bool)
     → ((x y : Derivation) → E x y ≡ true → x ≡ y)
     → (found moved kept : List Derivation) → IsPermutation found moved
     → IsSorted derivation_cmp moved → kept ≡ dedup E moved
-    → AreInOrder kept × ((d : Derivation) → Contains kept d ↔ Contains found d)
+    → AreDerivationsInOrder kept × ((d : Derivation) → Contains kept d ↔ Contains found d)
 in-order E ties exact found moved kept permutation sorted is = (
-  subst AreInOrder (sym is) (IsStrictlySortedBy-dedup derivations-total ties moved sorted),
+  subst AreDerivationsInOrder (sym is) (IsStrictlySortedBy-dedup derivations-total ties moved sorted),
   λ d. (
     λ inside. Contains-permutation moved found d (IsPermutation-sym found moved permutation)
         (Contains-from_dedup E moved d (subst (λ xs. Contains xs d) is inside)),
@@ -184,7 +184,7 @@ same-is x y same =
 
 -- what has the members of all derivations, in order, is the list of all
 pub same-derivations : (lexicon : Lexicon) (word : List ℕ) (found : List Derivation)
-    → AreInOrder found
+    → AreDerivationsInOrder found
     → ((d : Derivation) → Contains found d
     ↔ ((is_licensed lexicon d ≡ true) × (form_of lexicon d ≡ Some word)))
     → found ≡ derivations_of lexicon word

@@ -5,7 +5,7 @@ use Rattle.std.proofs.Common.{if◌then◌else◌}
 use Rattle.std.specs.List.{flat_map}
 use Rattle.std.proofs.lemmas.Option.{option_and_then_some, cond_some, slice_get_within}
 use Rattle.std.proofs.lemmas.Option.{get_or_from_slice_get}
-use Rattle.lists.specs.Laws.{contains-flat_map, contains-map}
+use Rattle.spell_types.specs.lists.Laws.{contains-flat_map, contains-map}
 use Rattle.spell_types.specs.declared.flags.Flag.{Flag}
 use Rattle.spell_types.specs.declared.rules.Rule.{Rule}
 use Rattle.spell_types.specs.declared.rules.Side.{Side}

@@ -13,13 +13,13 @@ use Rattle.affix_strip.specs.declared.edges.Those.TheVariants.{All, Carrying}
 use Rattle.affix_strip.specs.Hashes.{hash_of}
 
 -- whether a rule is one of those, whatever its side
-abbrev pub is_one_of : Those → Rule → Bool
-is_one_of All rule = true
-is_one_of (Carrying flag) rule = has rule.carried flag
+abbrev pub is_rule_among : Those → Rule → Bool
+is_rule_among All rule = true
+is_rule_among (Carrying flag) rule = has rule.carried flag
 
 -- whether it is one of those of the side
 abbrev pub is_wanted : Side → Those → Rule → Bool
-is_wanted side those rule = is_same_side side rule.side && is_one_of those rule
+is_wanted side those rule = is_same_side side rule.side && is_rule_among those rule
 
 -- the rule leaves a word as it is
 abbrev pub IsSilent : Rule → Type 0

@@ -27,5 +27,5 @@ derivation_cmp d e =
     (ordering_then (option_cmp nat_cmp d.first e.first) (option_cmp nat_cmp d.second e.second)))
 
 -- each derivation stands before all after it, so that none stands in the list twice
-abbrev pub AreInOrder : List Derivation → Type 0
-AreInOrder found = IsStrictlySortedBy derivation_cmp found
+abbrev pub AreDerivationsInOrder : List Derivation → Type 0
+AreDerivationsInOrder found = IsStrictlySortedBy derivation_cmp found

@@ -34,16 +34,16 @@ AreStripsWithin rules longest =
     (place : ℕ) (rule : Rule) → slice_get rules place ≡ Some rule → length rule.strip ≤ longest
 
 -- what suffixes leave of a word that take off so many characters at most
-abbrev pub head_of : ℕ → List ℕ → List ℕ
-head_of most word = take (length word - most) word
+abbrev pub shortest_head : ℕ → List ℕ → List ℕ
+shortest_head most word = take (length word - most) word
 
 -- the head of the entry's word is there, if the entry is forbidden
 abbrev pub IsNotedHead : Option Flag → ℕ → KeyFilter → Entry → Type 0
 IsNotedHead forbidden most heads entry =
-    has entry.flags forbidden ≡ true → may_have heads (hash_of (head_of most entry.word)) ≡ true
+    has entry.flags forbidden ≡ true → may_have heads (hash_of (shortest_head most entry.word)) ≡ true
 
-abbrev pub AreHeads : List Entry → Option Flag → ℕ → KeyFilter → Type 0
-AreHeads entries forbidden most heads =
+abbrev pub AreHeadsOfEntries : List Entry → Option Flag → ℕ → KeyFilter → Type 0
+AreHeadsOfEntries entries forbidden most heads =
     (place : ℕ) (entry : Entry) → slice_get entries place ≡ Some entry
     → IsNotedHead forbidden most heads entry
 
@@ -58,7 +58,7 @@ pub record AreHeadsOf (lexicon : Lexicon) (heads : KeyFilter) : Type 0 where
   pub strips : AreStripsWithin lexicon.affixes.rules longest
   pub most : ℕ
   pub cuts : AreCutWithin lexicon.affixes.rules classes longest most
-  pub are : AreHeads lexicon.entries lexicon.affixes.signs.forbidden most heads
+  pub are : AreHeadsOfEntries lexicon.entries lexicon.affixes.signs.forbidden most heads
 
 -- they are, if they are there
 abbrev pub MayHeads : Lexicon → Option KeyFilter → Type 0

@@ -84,11 +84,11 @@ abbrev pub HasWords : List Entry → List Flag → KeyFilter → Type 0
 HasWords entries set words = (place : ℕ) (entry : Entry) → slice_get entries place ≡ Some entry
     → IsNotedWord set words entry
 
-abbrev pub KeepsWords : KeyFilter → KeyFilter → Type 0
-KeepsWords before now = (key : ℕ) → may_have before key ≡ true → may_have now key ≡ true
+abbrev pub KeepsFilterKeys : KeyFilter → KeyFilter → Type 0
+KeepsFilterKeys before now = (key : ℕ) → may_have before key ≡ true → may_have now key ≡ true
 
 -- ---- all that is known
-pub record IsInside (lexicon : Lexicon) (inside : Inside) : Type 0 where
+pub record IsInsideOfLexicon (lexicon : Lexicon) (inside : Inside) : Type 0 where
   pub flags : List Flag
   pub has : HasInnerFlags lexicon.affixes flags
   pub words : HasWords lexicon.entries flags inside.words

@@ -32,14 +32,14 @@ cut_off Prefix word count = take count word
 cut_off Suffix word count = drop (length word - count) word
 
 -- the others
-abbrev pub kept_of : Side → List ℕ → ℕ → List ℕ
-kept_of Prefix word count = drop count word
-kept_of Suffix word count = take (length word - count) word
+abbrev pub kept_behind_cut : Side → List ℕ → ℕ → List ℕ
+kept_behind_cut Prefix word count = drop count word
+kept_behind_cut Suffix word count = take (length word - count) word
 
 -- a word that is cut so many characters from the side's end
-pub record IsCut (side : Side) (word : List ℕ) (count : ℕ) (added kept : List ℕ) : Type 0 where
+pub record IsCutAtSide (side : Side) (word : List ℕ) (count : ℕ) (added kept : List ℕ) : Type 0 where
   pub off : added ≡ cut_off side word count
-  pub left : kept ≡ kept_of side word count
+  pub left : kept ≡ kept_behind_cut side word count
 
 -- a word without an affix, and the places of the rules that may have added it
 abbrev pub Peeled : Type 0
@@ -56,7 +56,7 @@ pub record Leaves (rules : List Rule) (side : Side) (word : List ℕ) (place : �
   pub rule : Rule
   pub on : IsOn rules side place rule
   pub fits : has_at side word rule.add ≡ true
-  pub is : join side (kept_of side word (length rule.add)) rule.strip ≡ rest
+  pub is : join side (kept_behind_cut side word (length rule.add)) rule.strip ≡ rest
 
 -- the place is among those of a word that is peeled
 pub record IsPeeled (found : List Peeled) (place : ℕ) : Type 0 where

@@ -13,7 +13,7 @@ use Rattle.spell_types.specs.Flags.{has, has_flag_of}
 use Rattle.affix_tables.specs.Tables.{IsTableOf}
 use Rattle.affix_strip.specs.EntryTable.{HasEntries}
 use Rattle.affix_strip.specs.Heads.{IsHeaded}
-use Rattle.affix_strip.specs.Inside.{IsInside}
+use Rattle.affix_strip.specs.Inside.{IsInsideOfLexicon}
 use Rattle.affix_strip.specs.Lengths.{IsLongest}
 use Rattle.affix_strip.specs.Peeling.{may_undo_at}
 use Rattle.affix_strip.specs.declared.entry_table.EntryTable.{EntryTable}
@@ -74,7 +74,7 @@ pub record AreTablesOf (lexicon : Lexicon) (tables : Tables) (by_word : EntryTab
   pub barring : IsBarring lexicon tables.barring
   pub heads : IsHeaded lexicon tables.heads
   pub longest : IsLongest lexicon tables.longest
-  pub inside : IsInside lexicon tables.inside
+  pub inside : IsInsideOfLexicon lexicon tables.inside
 
 -- the tables are those of the dictionary
 abbrev pub IsReady : IndexedLexicon → Type 0

@@ -9,8 +9,8 @@ ghost use Rattle.affix_strip.specs.declared.entry_table.EntryTable.{EntryTable};
 use crate::entry_table::EntryTable;
 use crate::half::Half;
 use crate::walk::Tables;
-use lists::NoMemory;
 use spell_types::Lexicon;
+use spell_types::lists::NoMemory;
 use std::alloc::Global;
 use std::thread::{Threads, join};
 

@@ -5,7 +5,7 @@ ghost use Rattle.std.specs.List.{list_any};
 ghost use Rattle.affix_strip.specs.Tables.{IsBarring, is_forbidden_entry, takes_affixes};
 
 use crate::rule_flags::flags_of_classes;
-use lists::NoMemory;
+use spell_types::lists::NoMemory;
 use spell_types::{FlagSet, Lexicon, has, sets_have_their_flags};
 use std::alloc::Global;
 

@@ -11,7 +11,7 @@ ghost use Rattle.affix_strip.specs.Hashes.{hash_of};
 
 use crate::hashed::{START, fold};
 use key_filter::KeyFilter;
-use lists::NoMemory;
+use spell_types::lists::NoMemory;
 use spell_types::{Flag, Rule, Side, has};
 use std::alloc::Global;
 

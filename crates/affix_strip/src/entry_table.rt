@@ -8,8 +8,8 @@ ghost use Rattle.affix_strip.specs.EntryTable.{HasEntries, HasHalf, AreEntriesOf
 
 use crate::half::{Half, Places};
 use crate::hashed::{Hashed, fold, hash_of};
-use lists::NoMemory;
 use spell_types::Entries;
+use spell_types::lists::NoMemory;
 use std::alloc::Global;
 
 /// The entries of a dictionary by a hash of their words. They are not kept: each call is given

@@ -2,7 +2,8 @@
 //! divided by two. A word is compared only with those of its hash, so no words are kept beside the
 //! entries, and most that are no entry's word are known by a filter of the hashes.
 
-ghost use Rattle.std.specs.Prelude.{◌≡◌, ◌++◌, [], ◌∷◌, ◌^◌, ◌<◌, ◌%◌, ℕ, List, true, false, length};
+ghost use Rattle.std.specs.Prelude.{◌≡◌, ◌++◌, [], ◌∷◌, ◌^◌, ◌<◌, ◌%◌, ℕ, List, true, false};
+ghost use Rattle.std.specs.Prelude.{length};
 ghost use Rattle.std.specs.Prelude.{nat_eq, slice_get, OnOk, IfOk};
 ghost use Rattle.std.specs.Option.{option_flatten, option_map_or};
 ghost use Rattle.std.specs.Str.{chars};
@@ -16,8 +17,8 @@ ghost use Rattle.affix_strip.specs.EntryTable.{HasHalf, AreEntriesOf, Notes};
 use crate::hashed::hash_of;
 use indexmap::IndexMap;
 use key_filter::KeyFilter;
-use lists::NoMemory;
 use smallvec::SmallVec;
+use spell_types::lists::NoMemory;
 use spell_types::{Entries, is_spelled};
 use std::alloc::Global;
 

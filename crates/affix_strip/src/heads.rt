@@ -2,7 +2,8 @@
 //! that its front tells most words that are none, without a look at rules or entries.
 
 ghost use Rattle.std.specs.Prelude.{◌≡◌, ◌≤◌, false, length, IfOk, OnOk, IfSome};
-ghost use Rattle.affix_strip.specs.Heads.{AreCutWithin, AreHeads, AreStripsWithin, IsNotedHead};
+ghost use Rattle.affix_strip.specs.Heads.{AreCutWithin, AreHeadsOfEntries, AreStripsWithin};
+ghost use Rattle.affix_strip.specs.Heads.{IsNotedHead};
 ghost use Rattle.affix_strip.specs.Heads.{IsHeaded, IsUnheaded, KeepsHeads, MayHeads, NoneHeads};
 ghost use Rattle.affix_strip.specs.Heads.{cut_of};
 ghost use Rattle.affix_strip.specs.Tables.{IsBarring};
@@ -12,7 +13,7 @@ use crate::edges::{Edge, Those};
 use crate::hashed::{START, fold};
 use crate::rule_flags::{carry_few, flags_of_classes};
 use key_filter::KeyFilter;
-use lists::NoMemory;
+use spell_types::lists::NoMemory;
 use spell_types::{
     Entries, EntryRef, Flag, FlagSet, Lexicon, Rule, Side, chars_of, has, has_flag_of,
 };
@@ -102,7 +103,7 @@ fn heads_of(
 ) -> Result<KeyFilter, NoMemory>
     requires { IsBarring lexicon.now barring }
     ensures { IfOk result
-        (AreHeads lexicon.now.entries lexicon.now.affixes.signs.forbidden most) }
+        (AreHeadsOfEntries lexicon.now.entries lexicon.now.affixes.signs.forbidden most) }
 {
     if let Barring::Nowhere = barring {
         return KeyFilter::new(alloc, 0);

@@ -7,8 +7,9 @@ ghost use Rattle.spell_types.specs.declared.derivations.Derivation.{Derivation};
 ghost use Rattle.spell_types.specs.Derivations.{form_of};
 ghost use Rattle.spell_types.specs.Licences.{is_licensed};
 ghost use Rattle.affix_strip.specs.Inside.{StandsInside, carries_sign, HasInnerFlags, HasGiven};
-ghost use Rattle.affix_strip.specs.Inside.{HasSteps, HasPatterns, KeepsFlags, HasWords, KeepsWords};
-ghost use Rattle.affix_strip.specs.Inside.{IsInside, IsUnmade};
+ghost use Rattle.affix_strip.specs.Inside.{HasSteps, HasPatterns, KeepsFlags, HasWords};
+ghost use Rattle.affix_strip.specs.Inside.{KeepsFilterKeys};
+ghost use Rattle.affix_strip.specs.Inside.{IsInsideOfLexicon, IsUnmade};
 ghost use Rattle.affix_strip.specs.Hashes.{hash_of};
 ghost use Rattle.key_filter.specs.Filter.{may_have};
 
@@ -16,7 +17,7 @@ use crate::edges::{Edge, Those};
 use crate::hashed::{START, fold, hash_of};
 use crate::rule_flags::flags_of_classes;
 use key_filter::KeyFilter;
-use lists::NoMemory;
+use spell_types::lists::NoMemory;
 use spell_types::{
     Affixes, Entries, EntryRef, Flag, FlagSet, Lexicon, Pattern, PatternStep, Place, Rule, Side,
     Signs, has, sets_have_their_flags,
@@ -39,7 +40,7 @@ pub(crate) struct Inside {
 impl Inside {
     /// What is known of a dictionary's parts.
     pub(crate) fn new(alloc: Global, lexicon: &Lexicon) -> Result<Inside, NoMemory>
-        ensures { IfOk result (IsInside lexicon.now) }
+        ensures { IfOk result (IsInsideOfLexicon lexicon.now) }
     {
         let rules = &lexicon.affixes.rules;
         let permitted = Those::Carrying(lexicon.affixes.signs.permit);
@@ -54,7 +55,7 @@ impl Inside {
 
     /// Whether a derivation with this form may stand at a place before another part.
     pub(crate) fn may_have(&self, text: &[char], place: Place) -> bool
-        ensures { (lexicon : Lexicon) → IsInside lexicon self.now → result ≡ false
+        ensures { (lexicon : Lexicon) → IsInsideOfLexicon lexicon self.now → result ≡ false
             → (d : Derivation) → is_licensed lexicon d ≡ true → form_of lexicon d ≡ Some text.now
             → ¬ (StandsInside lexicon place d) }
     {
@@ -93,7 +94,7 @@ fn words_with(alloc: Global, entries: &Entries, flags: &FlagSet) -> Result<KeyFi
 /// Adds the hash of an entry's word.
 fn add_word(entry: &EntryRef<'_>, words: &mut KeyFilter)
     ensures there { may_have words.new (hash_of entry.now.word) ≡ true }
-    ensures kept { KeepsWords words.old words.new }
+    ensures kept { KeepsFilterKeys words.old words.new }
 {
     words.insert(hash_of(entry.word()));
 }

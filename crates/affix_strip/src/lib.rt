@@ -9,7 +9,7 @@ ghost use Rattle.spell_types.specs.Derivations.{form_of};
 ghost use Rattle.spell_types.specs.Bases.{is_alone_in_case};
 ghost use Rattle.spell_types.specs.Licences.{is_licensed, is_derived, is_barred};
 ghost use Rattle.spell_types.specs.Sanity.{IsSane};
-ghost use Rattle.affix_strip.specs.Found.{derivations_of, derivation_cmp, AreInOrder};
+ghost use Rattle.affix_strip.specs.Found.{derivations_of, derivation_cmp, AreDerivationsInOrder};
 ghost use Rattle.affix_strip.specs.Inside.{StandsInside};
 
 mod at_once;
@@ -26,7 +26,7 @@ mod rule_flags;
 mod visiting;
 mod walk;
 
-use lists::NoMemory;
+use spell_types::lists::NoMemory;
 use spell_types::{Case, Derivation, Lexicon, Place};
 use std::alloc::Global;
 use std::cmp::Ordering;
@@ -152,12 +152,12 @@ pub fn derivations_are()
         Contains (derivations_of lexicon word) d
         ↔ ((is_licensed lexicon d ≡ true) × (form_of lexicon d ≡ Some word)) }
     ensures rising { (lexicon : Lexicon) (word : List ℕ)
-        → AreInOrder (derivations_of lexicon word) }
+        → AreDerivationsInOrder (derivations_of lexicon word) }
 {}
 
 /// Puts derivations in order, and keeps each once.
 fn put_in_order(found: &mut Vec<Derivation>)
-    ensures order { AreInOrder found.new.items }
+    ensures order { AreDerivationsInOrder found.new.items }
     ensures members { (d : Derivation) → Contains found.new.items d ↔ Contains found.old.items d }
 {
     found.sort_unstable_by(|d, other| compare(d, other));

@@ -5,12 +5,12 @@ ghost use Rattle.spell_types.specs.declared.rules.Rule.{Rule};
 ghost use Rattle.affix_tables.specs.Groups.{AreGroups};
 ghost use Rattle.affix_tables.specs.Tables.{IsTableOf};
 ghost use Rattle.affix_strip.specs.Hashes.{IsHashed};
-ghost use Rattle.affix_strip.specs.Peeling.{IsCut, IsOn, has_at, join, peeled_by, ArePeeled};
+ghost use Rattle.affix_strip.specs.Peeling.{IsCutAtSide, IsOn, has_at, join, peeled_by, ArePeeled};
 
 use crate::hashed::Hashed;
 use affix_tables::{AffixTables, Groups, group_places, group_strip};
-use lists::NoMemory;
 use spell_types::Side;
+use spell_types::lists::NoMemory;
 use std::alloc::Global;
 use std::marker::Model;
 
@@ -138,7 +138,7 @@ fn groups<'a>(tables: &'a AffixTables, side: Side, added: &[char]) -> Groups<'a>
 /// So many characters at the side's end of a word, and the others.
 fn cut<'a>(side: Side, word: &'a [char], count: usize) -> (&'a [char], &'a [char])
     requires { count ≤ length word.now }
-    ensures { IsCut side word.now count result.0.now result.1.now }
+    ensures { IsCutAtSide side word.now count result.0.now result.1.now }
 {
     match side {
         Side::Prefix => (&word[..count], &word[count..]),

@@ -6,7 +6,7 @@ ghost use Rattle.spell_types.specs.Flags.{has};
 ghost use Rattle.affix_strip.specs.Classes.{HasClasses};
 ghost use Rattle.affix_strip.specs.Tables.{HasCarried, AreSeconds, carried_by_suffix};
 
-use lists::NoMemory;
+use spell_types::lists::NoMemory;
 use spell_types::{Flag, FlagSet, Rule, Side, has, sets_have_their_flags};
 use std::alloc::Global;
 

@@ -6,7 +6,7 @@ ghost use Rattle.spell_types.specs.Bases.{is_alone_in_case};
 ghost use Rattle.spell_types.specs.Licences.{is_forbidden};
 ghost use Rattle.affix_strip.specs.Parts.{Sight, sees_by, Shows};
 
-use lists::NoMemory;
+use spell_types::lists::NoMemory;
 use spell_types::{Case, Derivation, Lexicon, alone_in_case, forbidden};
 
 /// Who is shown derivations, one after another, and may end the walk to them.

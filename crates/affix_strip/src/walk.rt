@@ -29,7 +29,7 @@ use crate::rule_flags::second_suffixes;
 use crate::visiting::{Forbidden, Question, Test, Visitor};
 use affix_classes::{matches_back, matches_front, undoing_leads_back};
 use affix_tables::AffixTables;
-use lists::NoMemory;
+use spell_types::lists::NoMemory;
 use spell_types::{Derivation, Lexicon, Place, Rule, Side, licensed, sets_have_their_flags};
 use std::alloc::Global;
 use std::thread::Threads;

@@ -17,8 +17,8 @@ use Rattle.spell_types.specs.declared.rules.Side.{Side}
 use Rattle.spell_types.specs.declared.rules.Side.TheVariants.{Prefix, Suffix}
 use Rattle.spell_types.specs.Derivations.{is_same_side}
 use Rattle.std.specs.Cmp.{both_ways}
-use Rattle.affix_tables.specs.declared.Table.{Table}
-use Rattle.lists.specs.Laws.{range_more}
+use Rattle.affix_tables.specs.declared.SideTable.{SideTable}
+use Rattle.spell_types.specs.lists.Laws.{range_more}
 use Rattle.affix_tables.specs.Places.{adds_on, places_where, suffix_places, prefix_places}
 use Rattle.affix_tables.specs.Tables.{groups_at, all_places, IsTable, endings_below, fronts_below}
 use Rattle.affix_tables.specs.Tables.{front_places, ending_places}
@@ -39,7 +39,7 @@ flat_map_moved f g moved (x ∷ xs) =
     (flat_map_moved f g moved xs)
 
 -- the places of all groups of a text
-abbrev places_of : Table → List ℕ → List ℕ
+abbrev places_of : SideTable → List ℕ → List ℕ
 places_of table text = all_places (groups_at table.by_text.entries text)
 
 -- ---- tests
@@ -126,7 +126,7 @@ module _ (side : Side) (size : ℕ) (text : ℕ → List ℕ) (fits : List ℕ �
       next : count + 1 ≡ suc count
       next = omega arith
 
-  all-shorter : (table : Table) → IsTable rules side table
+  all-shorter : (table : SideTable) → IsTable rules side table
       → places_where (adds_on side (shorter (min table.longest size + 1))) rules
       ≡ places_where (adds_on side fits) rules
   all-shorter table holds =
@@ -142,7 +142,7 @@ module _ (side : Side) (size : ℕ) (text : ℕ → List ℕ) (fits : List ℕ �
       by true false a is = refl
       by false f a is = refl
 
-  all-gathered : (table : Table) → IsTable rules side table
+  all-gathered : (table : SideTable) → IsTable rules side table
       → IsPermutation
       (flat_map (λ count. places_of table (text count))
       (range_with_len 0 (min table.longest size + 1))) (places_where (adds_on side fits) rules)
@@ -219,21 +219,21 @@ pub rest-whole : (word : List ℕ) (place : ℕ) → take (length word - place) 
 rest-whole word place =
     take_all (length word - place) (drop place word) (omega (arith, length-drop place word))
 
-pub endings-more : (table : Table) (word : List ℕ) (count : ℕ) (text found : List ℕ)
+pub endings-more : (table : SideTable) (word : List ℕ) (count : ℕ) (text found : List ℕ)
     → text ≡ drop (length word - count) word → found ≡ endings_below table word count
     → found ++ places_of table text ≡ endings_below table word (count + 1)
 endings-more table word count text found is before =
     ap₂ (λ ys zs. ys ++ zs) before (ap (places_of table) is)
     ∙ sym (flat_map_more (λ n. places_of table (drop (length word - n) word)) count)
 
-pub fronts-more : (table : Table) (word : List ℕ) (count : ℕ) (text found : List ℕ)
+pub fronts-more : (table : SideTable) (word : List ℕ) (count : ℕ) (text found : List ℕ)
     → text ≡ take count word → found ≡ fronts_below table word count
     → found ++ places_of table text ≡ fronts_below table word (count + 1)
 fronts-more table word count text found is before =
     ap₂ (λ ys zs. ys ++ zs) before (ap (places_of table) is)
     ∙ sym (flat_map_more (λ n. places_of table (take n word)) count)
 
-pub suffixes-found : (rules : List Rule) (table : Table) (word sorted : List ℕ)
+pub suffixes-found : (rules : List Rule) (table : SideTable) (word sorted : List ℕ)
     → IsTable rules Suffix table → IsPermutation (ending_places table word) sorted
     → IsSorted nat_cmp sorted → sorted ≡ suffix_places rules word
 unfolding suffix_places
@@ -244,7 +244,7 @@ suffixes-found rules table word sorted holds moved in_order =
     (ends_with nat_eq word) (the_end word) rules table holds)
     moved in_order (places-rise (adds_on Suffix (ends_with nat_eq word)) rules)
 
-pub prefixes-found : (rules : List Rule) (table : Table) (word sorted : List ℕ)
+pub prefixes-found : (rules : List Rule) (table : SideTable) (word sorted : List ℕ)
     → IsTable rules Prefix table → IsPermutation (front_places table word) sorted
     → IsSorted nat_cmp sorted → sorted ≡ prefix_places rules word
 unfolding prefix_places

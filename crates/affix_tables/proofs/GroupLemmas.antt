@@ -25,7 +25,7 @@ use Rattle.spell_types.specs.declared.rules.Side.{Side}
 use Rattle.spell_types.specs.Derivations.{is_same_side}
 use Rattle.key_filter.specs.Filter.{may_have}
 use Rattle.spell_types.specs.Laws.{own_side, same_side}
-use Rattle.affix_tables.specs.declared.Table.{Table}
+use Rattle.affix_tables.specs.declared.SideTable.{SideTable}
 use Rattle.affix_tables.specs.Ends.{key_at}
 use Rattle.affix_tables.specs.Groups.{Group, places_in, AreApart, HasPlace, AreGroups}
 use Rattle.affix_tables.specs.Places.{exchanges, places_where}
@@ -259,7 +259,7 @@ exchanging rules side added strip place = (
           sym ((bytes_eq-Decides strip rule.strip).0 two.1),
         )
 
-pub are-groups : (rules : List Rule) (side : Side) (table : Table) (added : List ℕ)
+pub are-groups : (rules : List Rule) (side : Side) (table : SideTable) (added : List ℕ)
     (groups : List Group) → groups ≡ groups_at table.by_text.entries added → AreApart groups
     → IsTable rules side table → AreGroups rules side added groups
 are-groups rules side table added groups are apart holds = record {
@@ -293,7 +293,7 @@ unfolding IsDistinct
 none-apart = tt
 
 -- a text without a key is added by no rule
-pub no-groups : (rules : List Rule) (side : Side) (table : Table) (added : List ℕ)
+pub no-groups : (rules : List Rule) (side : Side) (table : SideTable) (added : List ℕ)
     → may_have table.texts (key_at side added (length added)) ≡ false → IsTable rules side table
     → AreGroups rules side added []
 no-groups rules side table added none holds = record {

@@ -13,7 +13,7 @@ use Rattle.std.proofs.lemmas.List.Kept.{IsStrictlySortedBy-filter}
 use Rattle.std.proofs.lemmas.List.Sorted.{IsPermutation-refl, IsPermutation-cons}
 use Rattle.std.proofs.lemmas.List.Sorted.{IsPermutation-middle, IsPermutation-trans}
 use Rattle.std.proofs.lemmas.Option.{slice_get_within}
-use Rattle.lists.specs.Laws.{range_more, contains-filter, contains-range, range-rises}
+use Rattle.spell_types.specs.lists.Laws.{range_more, contains-filter, contains-range, range-rises}
 use Rattle.spell_types.specs.declared.rules.Rule.{Rule}
 use Rattle.affix_tables.specs.Places.{passes, places_where}
 

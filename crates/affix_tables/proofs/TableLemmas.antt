@@ -8,13 +8,14 @@ use Rattle.std.proofs.lemmas.List.Sorted.{IsPermutation-trans}
 use Rattle.spell_types.specs.declared.rules.Rule.{Rule}
 use Rattle.spell_types.specs.declared.rules.Side.{Side}
 use Rattle.spell_types.specs.Derivations.{is_same_side}
-use Rattle.affix_tables.specs.declared.Table.{Table}
+use Rattle.affix_tables.specs.declared.SideTable.{SideTable}
 use Rattle.affix_tables.specs.Ends.{key_at, HasEnds, HasText, KeepsKeys}
 use Rattle.affix_tables.specs.Places.{adds_on, exchanges, places_where}
 use Rattle.affix_tables.specs.Tables.{places_at, groups_at, all_places, Puts, IsTable}
 use Rattle.affix_tables.proofs.PlaceLemmas.{slice_get-more, places-more}
 
-pub no_rules : (side : Side) (table : Table) → table.by_text.entries ≡ [] → IsTable [] side table
+pub no_rules : (side : Side) (table : SideTable) → table.by_text.entries ≡ []
+    → IsTable [] side table
 no_rules side table empty = record {
   at_strip = λ text strip. ap (λ entries. places_at (groups_at entries text) strip) empty;
   at_text = λ text. subst (λ places. IsPermutation places [])
@@ -24,7 +25,7 @@ no_rules side table empty = record {
   texts = λ place rule at on. absurd (cc);
 }
 
-pub rule_of_side : (rules : List Rule) (side : Side) (rule : Rule) (old new : Table)
+pub rule_of_side : (rules : List Rule) (side : Side) (rule : Rule) (old new : SideTable)
     → is_same_side side rule.side ≡ true
     → Puts old.by_text.entries new.by_text.entries rule.add rule.strip (length rules)
     → new.longest ≡ max old.longest (length rule.add) → HasEnds side rule.add new.ends
@@ -81,7 +82,7 @@ rule_of_side rules side rule old new on put longest has keeps has-text keeps-tex
     there place other other_on (inr is) =
         subst (λ (r : Rule). HasText side r.add new.texts) is has-text
 
-pub rule_of_other_side : (rules : List Rule) (side : Side) (rule : Rule) (table : Table)
+pub rule_of_other_side : (rules : List Rule) (side : Side) (rule : Rule) (table : SideTable)
     → is_same_side side rule.side ≡ false → IsTable rules side table
     → IsTable (rules ++ rule ∷ []) side table
 rule_of_other_side rules side rule table off was = record {

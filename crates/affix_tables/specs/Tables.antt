@@ -13,7 +13,7 @@ use Rattle.spell_types.specs.declared.rules.Rule.{Rule}
 use Rattle.spell_types.specs.declared.rules.Side.{Side}
 use Rattle.spell_types.specs.declared.rules.Side.TheVariants.{Prefix, Suffix}
 use Rattle.spell_types.specs.Derivations.{is_same_side}
-use Rattle.affix_tables.specs.declared.Table.{Table}
+use Rattle.affix_tables.specs.declared.SideTable.{SideTable}
 use Rattle.affix_tables.specs.declared.AffixTables.{AffixTables}
 use Rattle.affix_tables.specs.Ends.{HasEnds, HasText}
 use Rattle.affix_tables.specs.Groups.{Group}
@@ -52,7 +52,7 @@ pub record Puts {S : Type 0}
 -- the table of the rules of a side: at each text the rules that add it, in groups by what they
 -- strip off; no rule of the side adds more characters than the bound, and all that they add, and
 -- its ends, have their keys
-pub record IsTable (rules : List Rule) (side : Side) (table : Table) : Type 0 where
+pub record IsTable (rules : List Rule) (side : Side) (table : SideTable) : Type 0 where
   pub at_strip : (text strip : List ℕ) → places_at (groups_at table.by_text.entries text) strip
       ≡ places_where (exchanges side text strip) rules
   pub at_text : (text : List ℕ) → IsPermutation (all_places (groups_at table.by_text.entries text))
@@ -70,22 +70,22 @@ pub record IsTableOf (rules : List Rule) (tables : AffixTables) : Type 0 where
   pub prefixes : IsTable rules Prefix tables.prefixes
 
 -- the places at the endings of a word that have fewer than so many characters, by their lengths
-abbrev pub endings_below : Table → List ℕ → ℕ → List ℕ
+abbrev pub endings_below : SideTable → List ℕ → ℕ → List ℕ
 endings_below table word count =
     flat_map (λ n. all_places (groups_at table.by_text.entries (drop (length word - n) word)))
     (range_with_len 0 count)
 
 -- the same of its fronts
-abbrev pub fronts_below : Table → List ℕ → ℕ → List ℕ
+abbrev pub fronts_below : SideTable → List ℕ → ℕ → List ℕ
 fronts_below table word count =
     flat_map (λ n. all_places (groups_at table.by_text.entries (take n word)))
     (range_with_len 0 count)
 
 -- The places at all endings of a word that have no more characters than some rule adds. They are
 -- not in order.
-abbrev pub ending_places : Table → List ℕ → List ℕ
+abbrev pub ending_places : SideTable → List ℕ → List ℕ
 ending_places table word = endings_below table word (min table.longest (length word) + 1)
 
 -- the same of its fronts
-abbrev pub front_places : Table → List ℕ → List ℕ
+abbrev pub front_places : SideTable → List ℕ → List ℕ
 front_places table word = fronts_below table word (min table.longest (length word) + 1)

@@ -20,7 +20,7 @@ ghost use Rattle.affix_tables.specs.Tables.{front_places, IsTable, IsTableOf};
 use indexmap::IndexMap;
 use indexmap::map::Slice;
 use key_filter::KeyFilter;
-use lists::NoMemory;
+use spell_types::lists::NoMemory;
 use spell_types::{Rule, Side};
 use std::alloc::Global;
 
@@ -35,8 +35,8 @@ const FACTOR: u64 = 0x9E37_79B9_7F4A_7C15;
 /// an answer names them by their places in the list that the tables were made of.
 #[derive(Drop)]
 pub struct AffixTables {
-    suffixes: Table,
-    prefixes: Table,
+    suffixes: SideTable,
+    prefixes: SideTable,
 }
 
 /// The groups of rules that add one text: each text that one of them strips off, and the places of
@@ -48,7 +48,7 @@ type GroupMap = IndexMap<Vec<char>, Vec<u32>>;
 
 /// The rules of one side.
 #[derive(Drop)]
-struct Table {
+struct SideTable {
     /// At each text that a rule adds, the rules that add it, by the texts that they strip off.
     by_text: IndexMap<Vec<char>, GroupMap>,
     /// No rule adds more characters.
@@ -155,11 +155,11 @@ pub fn places_are()
 {}
 
 /// The table of the rules of a side.
-fn table_of(alloc: Global, side: Side, rules: &[Rule]) -> Result<Table, NoMemory>
+fn table_of(alloc: Global, side: Side, rules: &[Rule]) -> Result<SideTable, NoMemory>
     requires { length rules.now < 2 ^ 32 }
     ensures { IfOk result (λ made. IsTable rules.now side made) }
 {
-    let mut table = Table {
+    let mut table = SideTable {
         by_text: IndexMap::new(alloc),
         longest: 0,
         ends: KeyFilter::new(alloc, rules.len())?,
@@ -177,7 +177,7 @@ fn add_rule(
     side: Side,
     rule: &Rule,
     place: u32,
-    table: &mut Table,
+    table: &mut SideTable,
 ) -> Result<(), NoMemory>
     ensures { OnOk result ((rules : List Rule) → length rules ≡ place → IsTable rules side table.old
         → IsTable (rules ++ rule.now ∷ []) side table.new) }
@@ -212,7 +212,7 @@ fn is_on(side: Side, rule: &Rule) -> bool
 fn put(
     alloc: Global,
     side: Side,
-    table: &mut Table,
+    table: &mut SideTable,
     added: &[char],
     stripped: &[char],
     place: u32,
@@ -346,7 +346,7 @@ fn put_at(
 
 /// The places at the endings of a word that are no longer than a text of the table, by their
 /// lengths.
-fn places_at_endings(alloc: Global, table: &Table, word: &[char]) -> Result<Vec<u32>, NoMemory>
+fn places_at_endings(alloc: Global, table: &SideTable, word: &[char]) -> Result<Vec<u32>, NoMemory>
     ensures { IfOk result (λ found. found.items ≡ ending_places table.now word.now) }
 {
     let mut found = Vec::new(alloc);
@@ -358,7 +358,7 @@ fn places_at_endings(alloc: Global, table: &Table, word: &[char]) -> Result<Vec<
 
 /// The places at the fronts of a word that are no longer than a text of the table, by their
 /// lengths.
-fn places_at_fronts(alloc: Global, table: &Table, word: &[char]) -> Result<Vec<u32>, NoMemory>
+fn places_at_fronts(alloc: Global, table: &SideTable, word: &[char]) -> Result<Vec<u32>, NoMemory>
     ensures { IfOk result (λ found. found.items ≡ front_places table.now word.now) }
 {
     let mut found = Vec::new(alloc);
@@ -386,7 +386,7 @@ fn add_places(
 
 /// The groups of the rules of a table's side that add this text. Most texts that no rule adds are
 /// not looked up.
-fn groups_adding<'a>(side: Side, table: &'a Table, added: &[char]) -> Groups<'a>
+fn groups_adding<'a>(side: Side, table: &'a SideTable, added: &[char]) -> Groups<'a>
     ensures { (rules : List Rule) → IsTable rules side table.now
         → AreGroups rules side added.now result }
 {

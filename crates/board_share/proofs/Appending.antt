@@ -6,7 +6,7 @@ use Rattle.std.proofs.lemmas.Bool.Decides.{nat_tests}
 use mathlib.Core.List.{IsPrefix}
 use prog.Atomic.{either}
 use Rattle.logbook.specs.Pages.{Cell, cell, keeps, no_nib, step, Moves, Goes}
-use Rattle.board_share.specs.Logs.{Adds, IsKept}
+use Rattle.board_share.specs.Logs.{AppendsEntry, IsLogKept}
 use Rattle.board_share.proofs.Prefixes.{prefix_whole}
 
 abbrev pub shown : {E : Type 0} → List E → List E
@@ -18,8 +18,8 @@ moved before after answer = Unit {0}
 -- by whether the number is the one that is expected
 pub append-goes : {E : Type 0} (list seen : List E) (entry : E) (count : ℕ) → length seen ≡ count
     → IsPrefix seen list → (here : Bool) → (length list == count) ≡ here
-    → Goes IsKept shown moved 0 (seen, (no_nib, None)) (λ n. either (n == count) (count + 1) n)
-    (Adds (step 0 count (count + 1) entry) (seen, (no_nib, None)))
+    → Goes IsLogKept shown moved 0 (seen, (no_nib, None)) (λ n. either (n == count) (count + 1) n)
+    (AppendsEntry (step 0 count (count + 1) entry) (seen, (no_nib, None)))
     ((length list, true) ∷ (0, true) ∷ []) list
 append-goes list seen entry count long begins true is =
     let here : length list ≡ count = grind (arith, nat_tests) in
@@ -50,11 +50,11 @@ append-goes list seen entry count long begins false is =
 
 -- whatever the list is by then, the step adds the entry to all that was seen, or adds none
 pub append-moves : {E : Type 0} (seen : List E) (entry : E) (count : ℕ) → length seen ≡ count
-    → Moves IsKept shown moved 0 (seen, (no_nib, None)) (λ n. either (n == count) (count + 1) n)
-    (Adds (step 0 count (count + 1) entry) (seen, (no_nib, None)))
+    → Moves IsLogKept shown moved 0 (seen, (no_nib, None)) (λ n. either (n == count) (count + 1) n)
+    (AppendsEntry (step 0 count (count + 1) entry) (seen, (no_nib, None)))
 append-moves {E} seen entry count long cells list kept begins away =
     let P : List Cell → Type 0 = λ c. (0 < length c) × ((cell c 0).1 ≡ true)
-    × Goes IsKept shown moved 0 (seen, (no_nib, None)) (λ n. either (n == count) (count + 1) n)
-    (Adds (step 0 count (count + 1) entry) (seen, (no_nib, None))) c list in
+    × Goes IsLogKept shown moved 0 (seen, (no_nib, None)) (λ n. either (n == count) (count + 1) n)
+    (AppendsEntry (step 0 count (count + 1) entry) (seen, (no_nib, None))) c list in
     subst P (sym kept)
     (omega arith, refl, append-goes list seen entry count long begins (length list == count) refl)

@@ -7,8 +7,8 @@ use Rattle.std.proofs.lemmas.Bool.{false≢true}
 use Rattle.std.proofs.lemmas.Bool.Decides.{nat_tests}
 use Rattle.std.proofs.lemmas.List.Quantifiers.{position-Some}
 use Rattle.std.proofs.lemmas.Option.{cond_some, none-some, slice_get-get_or}
-use Rattle.lists.specs.Answers.{IsDueOr}
-use Rattle.paragraph_text.specs.Paragraphs.{Paragraph}
+use Rattle.mark_types.specs.lists.Answers.{IsDueOr}
+use Rattle.edit_core.specs.paragraph_text.Paragraphs.{Paragraph}
 use Rattle.edit_core.specs.Events.{AClaim}
 use Rattle.edit_core.specs.Laws.{find-beside}
 use Rattle.edit_core.specs.Runs.{is_waiting}

@@ -7,8 +7,9 @@ use Rattle.std.proofs.lemmas.List.FromFn.{length-range_with_len}
 use Rattle.std.proofs.lemmas.List.Sorted.{length_permutation, sum_by-IsPermutation}
 use Rattle.std.proofs.lemmas.List.Sums.{count_by-le-length}
 use Rattle.std.specs.List.Sorted.{IsPermutation}
-use Rattle.lists.specs.Laws.{each-weaker}
-use Rattle.edit_core.specs.Runs.{Entry, IsRun, Run, all_kinds, asked_by, asked_kinds, entries_by}
+use Rattle.mark_types.specs.lists.Laws.{each-weaker}
+use Rattle.edit_core.specs.Runs.{Entry, IsRun, Run, all_kinds, events_asked_by, asked_kinds}
+use Rattle.edit_core.specs.Runs.{entries_by}
 use Rattle.edit_core.specs.Runs.{entries_through}
 use Rattle.edit_core.specs.declared.event.EventKind.{EventKind}
 use Rattle.edit_core.specs.declared.event.EventKind.TheVariants as kind
@@ -22,7 +23,7 @@ pub record KindsAddUp : Type 0 where
   pub through : (by : ℕ) (entries : List Entry)
       → entries_through by entries ≡ sum_by (λ asked. entries_by asked by entries) all_kinds
   pub asked : (by : ℕ) (entries : List Entry)
-      → asked_by by entries ≡ sum_by (λ asked. entries_by asked by entries) asked_kinds
+      → events_asked_by by entries ≡ sum_by (λ asked. entries_by asked by entries) asked_kinds
 
 -- no more was counted than came through a number
 counted-most : KindsAddUp → (history : Run) (eye : EyeSeen) → IsSeenIn history eye
@@ -44,7 +45,7 @@ has-events law history eye is all =
     let through : entries_through eye.number history.entries ≡ 0 + n kind.Edit + n kind.Load
     + n kind.Claim + n kind.Finish + n kind.Park + n kind.Ask =
     law.through eye.number history.entries in
-    let asked : asked_by eye.number history.entries ≡ 0 + n kind.Edit + n kind.Load + n kind.Park
+    let asked : events_asked_by eye.number history.entries ≡ 0 + n kind.Edit + n kind.Load + n kind.Park
     + n kind.Ask = law.asked eye.number history.entries in
     let c = is.counted in
     record {

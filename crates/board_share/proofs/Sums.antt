@@ -4,7 +4,7 @@ use Rattle.std.proofs.Common.{cond, get_or, ltb, List, [], ◌∷◌, length, ma
 use Rattle.std.specs.List.{AllByRecursion, count_by, range_with_len, sum_by}
 use Rattle.std.proofs.lemmas.Bool.Decides.{nat_tests}
 use Rattle.std.proofs.lemmas.List.Sums.{count_by-le-length, sum_by-cons, sum_by_push}
-use Rattle.lists.specs.Laws.{range_more}
+use Rattle.mark_types.specs.lists.Laws.{range_more}
 
 -- what holds where two things hold
 pub each-both : {X : Type 0} (P Q S : X → Type 0) → ((x : X) → P x → Q x → S x) → (xs : List X)

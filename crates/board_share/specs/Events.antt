@@ -4,9 +4,9 @@ use Rattle.std.specs.Prelude.{slice_get}
 use Rattle.std.specs.Arc.{arc_value}
 use Rattle.std.specs.List.{AllByRecursion}
 use mathlib.Core.List.{IsPrefix}
-use Rattle.spell_types.specs.declared.Lexicon.{Lexicon}
-use Rattle.paragraph_text.specs.Paragraphs.{Paragraph}
-use Rattle.paragraph_text.specs.declared.edits.Edit.TheVariants.{Insert}
+use Rattle.mark_types.specs.spell_types.declared.Lexicon.{Lexicon}
+use Rattle.edit_core.specs.paragraph_text.Paragraphs.{Paragraph}
+use Rattle.edit_core.specs.paragraph_text.declared.edits.Edit.TheVariants.{Insert}
 use Rattle.edit_core.specs.Events.{SeenEvent, AnEdit, AClaim, AFinish}
 use Rattle.edit_core.specs.Runs.{Entry, IsCheckOf, Run, is_waiting, last_board}
 use Rattle.edit_core.specs.Seen.{Seen}
@@ -34,9 +34,9 @@ MayPublish run (AFinish worker id rev dict text lexicon) = KnowsCheck run id rev
 MayPublish run _ = Unit {0}
 
 -- the id of the paragraph that an event puts in, which is the next one
-abbrev pub made_by : ℕ → SeenEvent → Option ℕ
-made_by next_id (AnEdit session (Insert before text)) = Some next_id
-made_by next_id _ = None
+abbrev pub id_made_by : ℕ → SeenEvent → Option ℕ
+id_made_by next_id (AnEdit session (Insert before text)) = Some next_id
+id_made_by next_id _ = None
 
 -- what is told of an event that made a board of another
 abbrev pub told_of : Seen → SeenEvent → Seen → Told
@@ -44,7 +44,7 @@ told_of before event after = record {
   point = after.point;
   text = after.text_version;
   dict = after.dict_version;
-  made = made_by before.next_id event;
+  made = id_made_by before.next_id event;
 }
 
 -- behind all that the eye knew stand events that it had not seen, and last its own

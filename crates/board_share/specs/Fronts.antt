@@ -4,13 +4,13 @@ use Rattle.logbook.specs.Pages.{Book, Named}
 use Rattle.edit_core.specs.Runs.{Entry, IsRun, entries_of, last_board}
 use Rattle.edit_core.specs.Seen.{Seen}
 use Rattle.board_share.specs.Eyes.{IsCounted, entries_in}
-use Rattle.board_share.specs.Logs.{head_of}
+use Rattle.board_share.specs.Logs.{head_of_book}
 use Rattle.edit_core.specs.declared.event.EventKind.TheVariants as kind
 use Rattle.board_share.specs.declared.counts.Counts.{Counts}
 use Rattle.board_share.specs.declared.counts.Totals.{Totals}
 
 -- the entries of a book, so many of them, which are a history that comes to this board
-pub record IsFront (book : Book) (opening : Seen) (count : ℕ) (kept : Book) (entries : List Entry)
+pub record IsFrontOfBook (book : Book) (opening : Seen) (count : ℕ) (kept : Book) (entries : List Entry)
     (board : Seen) : Type 0 where
   pub number : count ≡ length entries
   pub book_is : kept ≡ book
@@ -34,7 +34,7 @@ pub record AreTotals (entries : List Entry) (totals : Totals) : Type 0 where
 -- many entries the ledger has counted; of the ledger's parts none is left
 pub record IsScribe (entries : List Entry) (book : Book) (head : Named) (opening kept : Seen)
     (total parts amount : ℕ) (totals : Totals) : Type 0 where
-  pub head_is : head ≡ head_of book
+  pub head_is : head ≡ head_of_book book
   pub opening_is : kept ≡ opening
   pub total_is : total ≡ length entries
   pub none_left : (parts ≡ 0) × (amount ≡ 0)

@@ -1,7 +1,7 @@
 -- What a desk's name stands for.
 use Rattle.std.specs.Prelude.{◌≡◌, ℕ, []}
 use Rattle.logbook.specs.Pages.{Book}
-use Rattle.spell_types.specs.Blank.{blank_lexicon}
+use Rattle.mark_types.specs.spell_types.Blank.{blank_lexicon}
 use Rattle.edit_core.specs.Seen.{Seen, opening_of}
 
 -- a desk's name before any desk has it: the ledger that is open under it, in how many parts, and

@@ -3,7 +3,7 @@
 use Rattle.std.specs.Prelude.{◌≡◌, ℕ, Bool, true, false, ◌&&◌, ◌==◌, List, ◌++◌, Some, slice_get}
 use Rattle.std.specs.Option.{option_map_or}
 use mathlib.Core.List.{IsPrefix}
-use Rattle.paragraph_text.specs.Paragraphs.{Paragraph}
+use Rattle.edit_core.specs.paragraph_text.Paragraphs.{Paragraph}
 use Rattle.edit_core.specs.Runs.{Entry, last_board}
 use Rattle.edit_core.specs.Seen.{Seen}
 use Rattle.edit_core.specs.Steps.{found, is_open}

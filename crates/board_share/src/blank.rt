@@ -1,7 +1,7 @@
 //! The name of a desk.
 
 ghost use Rattle.std.specs.Prelude.{◌≡◌, [], ◌<◌};
-ghost use Rattle.board_share.specs.Logs.{head_of};
+ghost use Rattle.board_share.specs.Logs.{head_of_book};
 
 use crate::log::Law;
 use crate::note::Note;
@@ -43,7 +43,7 @@ pub struct Blank<J: Judge> {
 
 impl<J: Judge> Model for Blank<J> {
     ghost use Rattle.std.specs.Prelude.{◌≡◌, []};
-    ghost use Rattle.board_share.specs.Logs.{head_of};
+    ghost use Rattle.board_share.specs.Logs.{head_of_book};
     ghost use Rattle.board_share.specs.Namings.{BlankSeen};
 
     ghost Value = { BlankSeen };
@@ -55,7 +55,7 @@ impl<J: Judge> Model for Blank<J> {
     } };
 
     ghost invariant = { λ inside.
-        (inside.seen.log ≡ []) × (inside.head ≡ head_of inside.seen.book) };
+        (inside.seen.log ≡ []) × (inside.head ≡ head_of_book inside.seen.book) };
 }
 
 impl<J: Judge> Blank<J> {

@@ -3,9 +3,9 @@
 ghost use Rattle.std.specs.Prelude.{◌≡◌};
 ghost use Rattle.board_share.specs.declared.claim.ClaimFault.TheVariants.{NoMemory as OutOfMemory};
 
-use lists::NoMemory;
+use mark_types::lists::NoMemory;
+use mark_types::text_lines::Text;
 use std::sync::Arc;
-use text_lines::Text;
 
 /// A paragraph that a worker holds, and what it is to be checked by.
 #[derive(Drop)]

@@ -4,7 +4,7 @@ ghost use Rattle.std.specs.Prelude.{◌≡◌, ◌<◌, ◌≤◌, map, OnErr, O
 ghost use Rattle.std.specs.Prelude.{IfNone, IsPermutation, IsSome};
 ghost use Rattle.std.specs.Arc.{arc_value};
 ghost use Rattle.std.specs.List.{range_with_len};
-ghost use Rattle.lists.specs.Answers.{IsDueOr};
+ghost use Rattle.mark_types.specs.lists.Answers.{IsDueOr};
 ghost use Rattle.edit_core.specs.Events.{event_of};
 ghost use Rattle.edit_core.specs.Seen.{IsOpening};
 ghost use Rattle.edit_core.specs.Steps.{first_refusal};
@@ -24,8 +24,8 @@ use crate::eye::Eye;
 use crate::scribe::Scribe;
 use crate::told::Told;
 use edit_core::{Board, Event, Refusal};
-use lists::NoMemory;
 use mark_types::Judge;
+use mark_types::lists::NoMemory;
 use std::alloc::Global;
 use std::sync::{Mutex, Wait};
 

@@ -3,7 +3,7 @@
 ghost use Rattle.std.specs.Prelude.{◌≡◌, ◌+◌, ◌++◌, ◌∷◌, [], true, IfErr, IfOk, OnOk};
 ghost use Rattle.std.specs.Arc.{arc_value};
 ghost use mathlib.Core.List.{IsPrefix};
-ghost use Rattle.lists.specs.Answers.{IsDueOr};
+ghost use Rattle.mark_types.specs.lists.Answers.{IsDueOr};
 ghost use Rattle.edit_core.specs.Events.{event_of, kind_of};
 ghost use Rattle.edit_core.specs.Runs.{IsRun};
 ghost use Rattle.edit_core.specs.Steps.{Step, first_refusal};
@@ -21,8 +21,8 @@ use crate::laws::counts_stay_true;
 use crate::note::Note;
 use edit_core::{Board, Event, EventKind, Progress, Refusal};
 use left_right::ReadHandle;
-use lists::NoMemory;
 use mark_types::Judge;
+use mark_types::lists::NoMemory;
 use std::alloc::Global;
 use std::marker::Model;
 use std::sync::Arc;

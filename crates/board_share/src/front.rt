@@ -4,7 +4,7 @@ ghost use Rattle.std.specs.Prelude.{◌≡◌, ◌<◌, ◌^◌, ◌++◌, ◌�
 ghost use Rattle.std.specs.Prelude.{Some, IfErr, IfOk, IfSome, OnOk};
 ghost use Rattle.std.specs.Arc.{arc_value};
 ghost use mathlib.Core.List.{IsPrefix};
-ghost use Rattle.lists.specs.Answers.{IsDueOr};
+ghost use Rattle.mark_types.specs.lists.Answers.{IsDueOr};
 ghost use Rattle.edit_core.specs.Events.{AClaim, event_of};
 ghost use Rattle.edit_core.specs.Runs.{IsRun, is_waiting, last_board};
 ghost use Rattle.edit_core.specs.Seen.{IsOpening};
@@ -12,7 +12,7 @@ ghost use Rattle.edit_core.specs.Steps.{Step, first_refusal};
 ghost use Rattle.edit_core.specs.declared.refusal.Refusal.TheVariants.{NoMemory as OutOfMemory};
 ghost use Rattle.board_share.specs.Events.{IsFirstOf, MayPublish};
 ghost use Rattle.board_share.specs.Fronts.{AreTotals};
-ghost use Rattle.board_share.specs.Logs.{head_of};
+ghost use Rattle.board_share.specs.Logs.{head_of_book};
 
 use crate::blank::Naming;
 use crate::claim::Claim;
@@ -23,9 +23,9 @@ use crate::log::{Law, append};
 use crate::note::Note;
 use edit_core::{Board, Event, Refusal, fronts_are_runs, runs_go_on};
 use left_right::Absorb;
-use lists::NoMemory;
 use logbook::{Seen, Word};
 use mark_types::Judge;
+use mark_types::lists::NoMemory;
 use std::alloc::{AllocError, Global};
 use std::marker::{Model, PhantomData};
 use std::sync::Arc;
@@ -44,14 +44,14 @@ impl<J: Judge, D: Naming> Model for Front<J, D> {
     ghost use Rattle.std.specs.Prelude.{List};
     ghost use Rattle.std.specs.Arc.{arc_value};
     ghost use Rattle.edit_core.specs.Runs.{Entry};
-    ghost use Rattle.board_share.specs.Fronts.{IsFront};
+    ghost use Rattle.board_share.specs.Fronts.{IsFrontOfBook};
 
     ghost Value = { List Entry };
 
     ghost view = { λ inside. inside.seen.log };
 
     ghost invariant = { λ inside.
-        IsFront D.book D.opening inside.count inside.seen.book inside.seen.log
+        IsFrontOfBook D.book D.opening inside.count inside.seen.book inside.seen.log
         (arc_value inside.board) };
 }
 
@@ -219,7 +219,7 @@ impl<J: Judge + Drop, D: Naming> Front<J, D> {
         note: &Note<J>,
         board: Arc<Board<J>>,
     ) -> Option<Front<J, D>>
-        requires head { head.now ≡ head_of D.book }
+        requires head { head.now ≡ head_of_book D.book }
         requires step { Step (last_board D.opening self.now) note.now.event note.now.board }
         requires board { arc_value board ≡ note.now.board }
         ensures longer { IfSome result (λ front. front ≡ self.now ++ note.now ∷ []) }

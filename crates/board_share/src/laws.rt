@@ -4,7 +4,7 @@ ghost use Rattle.std.specs.Prelude.{◌≡◌, ◌<◌, ◌≤◌, ◌^◌, ◌+
 ghost use Rattle.std.specs.Prelude.{position, slice_get, None, Some, IsPermutation};
 ghost use Rattle.std.specs.List.{AllByRecursion, range_with_len, sum_by};
 ghost use mathlib.Core.List.{IsPrefix};
-ghost use Rattle.paragraph_text.specs.Paragraphs.{Paragraph};
+ghost use Rattle.edit_core.specs.paragraph_text.Paragraphs.{Paragraph};
 ghost use Rattle.edit_core.specs.Events.{SeenEvent, AClaim, kind_of};
 ghost use Rattle.edit_core.specs.Runs.{Entry, IsRun, Run, is_waiting};
 ghost use Rattle.edit_core.specs.Seen.{IsValidBoard, Seen};

@@ -20,5 +20,7 @@ pub use claim::{Claim, ClaimFault};
 pub use closed::Closed;
 pub use counts::Counts;
 pub use desk::Desk;
+pub use edit_core;
+pub use edit_core::paragraph_text;
 pub use eye::Eye;
 pub use told::Told;

@@ -1,7 +1,7 @@
 //! The list of events, which exists in the proofs alone: at run time it is their number.
 
 ghost use Rattle.std.specs.Prelude.{◌≡◌, ◌<◌, ◌^◌, ◌++◌, ◌∷◌, [], true, length};
-ghost use Rattle.board_share.specs.Logs.{head_of};
+ghost use Rattle.board_share.specs.Logs.{head_of_book};
 
 use logbook::{Gain, Offer, Plain, Play, Rule, Seen, Word};
 
@@ -11,9 +11,9 @@ pub struct Law;
 impl<E> Rule<E, u64> for Law {
     ghost use Rattle.std.specs.Prelude.{[]};
     ghost use base.Fml.{ftrue};
-    ghost use Rattle.board_share.specs.Logs.{IsKept};
+    ghost use Rattle.board_share.specs.Logs.{IsLogKept};
 
-    ghost holds = { λ cells list. IsKept cells list };
+    ghost holds = { λ cells list. IsLogKept cells list };
 
     ghost first = { [] };
 
@@ -39,9 +39,9 @@ impl<E> Gain<E, u64> for Nothing {
 pub struct Add;
 
 impl<E> Play<E, u64> for Add {
-    ghost use Rattle.board_share.specs.Logs.{Adds};
+    ghost use Rattle.board_share.specs.Logs.{AppendsEntry};
 
-    ghost then = { Adds };
+    ghost then = { AppendsEntry };
 }
 
 /// What the step asks for: the entry.
@@ -61,7 +61,7 @@ pub fn append<E>(
     count: u64,
     entry: &E,
 ) -> bool
-    requires head { head.now ≡ head_of seen.old.book }
+    requires head { head.now ≡ head_of_book seen.old.book }
     requires count { count ≡ length seen.old.log }
     requires room { count < 2 ^ 62 }
     ensures book { seen.new.book ≡ seen.old.book }

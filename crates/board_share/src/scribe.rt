@@ -4,7 +4,7 @@ ghost use Rattle.std.specs.Prelude.{◌≡◌, ◌<◌, ◌≤◌, ◌++◌, ◌
 ghost use Rattle.std.specs.Prelude.{IfErr, IfOk, IfSome, IfNone, IsPermutation, IsSome};
 ghost use Rattle.std.specs.Arc.{arc_value};
 ghost use Rattle.std.specs.List.{AllByRecursion, range_with_len, sum_by};
-ghost use Rattle.lists.specs.Answers.{IsDueOr};
+ghost use Rattle.mark_types.specs.lists.Answers.{IsDueOr};
 ghost use Rattle.edit_core.specs.Events.{event_of, kind_of};
 ghost use Rattle.edit_core.specs.Runs.{last_board};
 ghost use Rattle.edit_core.specs.Seen.{IsOpening};
@@ -13,10 +13,10 @@ ghost use Rattle.edit_core.specs.declared.event.EventKind.TheVariants as kind;
 ghost use Rattle.edit_core.specs.declared.refusal.Refusal.TheVariants.{NoMemory as OutOfMemory};
 ghost use Rattle.board_share.specs.Endings.{IsSeenIn, IsTheirs};
 ghost use Rattle.board_share.specs.Events.{IsClaimFault, IsClaimed, IsPublished, MayPublish};
-ghost use Rattle.board_share.specs.Events.{NoneWaits, made_by};
+ghost use Rattle.board_share.specs.Events.{NoneWaits, id_made_by};
 ghost use Rattle.board_share.specs.Eyes.{CountsNothing, CountsOne, IsLater, counted, entries_in};
 ghost use Rattle.board_share.specs.Eyes.{fresh_eye, last_of};
-ghost use Rattle.board_share.specs.Logs.{head_of};
+ghost use Rattle.board_share.specs.Logs.{head_of_book};
 ghost use Rattle.board_share.specs.Namings.{IsNamed};
 
 use crate::blank::{Blank, Naming};
@@ -29,12 +29,12 @@ use crate::laws::all_events_are_theirs;
 use crate::log::Law;
 use crate::note::Note;
 use crate::told::Told;
+use edit_core::paragraph_text::Edit;
 use edit_core::{Board, Event, EventKind, Refusal, entries_add_up};
 use left_right::{Absorb, WriteHandle};
-use lists::NoMemory;
 use logbook::Word;
 use mark_types::Judge;
-use paragraph_text::Edit;
+use mark_types::lists::NoMemory;
 use std::alloc::Global;
 use std::marker::Model;
 use std::snapshot::Snapshot;
@@ -256,7 +256,7 @@ impl<J: Judge + Drop, D: Naming, R: Wait + Drop> Scribe<J, D, R> {
 
 /// The id of the paragraph that an event puts in, if this is the next one.
 fn made_by<J: Judge>(event: &Event<J>, next_id: u64) -> Option<u64>
-    ensures { result ≡ made_by next_id (event_of J.lexicon event.now) }
+    ensures { result ≡ id_made_by next_id (event_of J.lexicon event.now) }
 {
     match event {
         Event::Edit {

@@ -12,8 +12,8 @@ use Rattle.break_points.specs.declared.Judged.TheVariants.{Base, Other, Barred}
 use Rattle.break_points.specs.declared.table.Stretch.{Stretch}
 use Rattle.break_points.specs.declared.ways.Way.{Way}
 use Rattle.break_points.specs.declared.ways.Way.TheVariants.{Between}
-use Rattle.break_points.specs.Judging.{is_base, is_barred, is_base_by, is_barred_by}
-use Rattle.break_points.specs.Pieces.{all_left, is_shorter, is_broken_by, ways_of}
+use Rattle.break_points.specs.Judging.{is_judged_base, is_judged_barred, is_base_by, is_barred_by}
+use Rattle.break_points.specs.Pieces.{all_left, is_shorter, is_broken_as_judged, ways_of}
 use Rattle.break_points.proofs.Breaking.{⊎_else, broken-by_ways}
 
 pub ok_weaker : {E : Type 0} (r : Result Bool E) (P Q : Bool → Type 0)
@@ -24,32 +24,32 @@ ok_weaker (Err e) P Q h p = tt
 -- the answer, once the judge has answered
 by_answer : (judged : List ℕ → Judged) (breaks : List Anchored) (word : List ℕ) (verdict : Judged)
     → verdict ≡ judged word
-    → is_broken_by judged breaks word
-    ≡ (is_base verdict
-    || (not (is_barred verdict) && list_any (all_left (is_broken_by judged breaks) word)
+    → is_broken_as_judged judged breaks word
+    ≡ (is_judged_base verdict
+    || (not (is_judged_barred verdict) && list_any (all_left (is_broken_as_judged judged breaks) word)
     (ways_of breaks word)))
 by_answer judged breaks word verdict e =
     broken-by_ways (is_base_by judged) (is_barred_by judged) breaks word
-    ∙ ap (λ v. is_base v
-    || (not (is_barred v) && list_any (all_left (is_broken_by judged breaks) word)
+    ∙ ap (λ v. is_judged_base v
+    || (not (is_judged_barred v) && list_any (all_left (is_broken_as_judged judged breaks) word)
     (ways_of breaks word))) (sym e)
 
 pub base_decided : (judged : List ℕ → Judged) (breaks : List Anchored) (word : List ℕ)
     (verdict : Judged) → verdict ≡ judged word → verdict ≡ Base
-    → true ≡ is_broken_by judged breaks word
+    → true ≡ is_broken_as_judged judged breaks word
 base_decided judged breaks word verdict e is = sym (by_answer judged breaks word Base (sym is ∙ e))
 
 pub barred_decided : (judged : List ℕ → Judged) (breaks : List Anchored) (word : List ℕ)
     (verdict : Judged) → verdict ≡ judged word → verdict ≡ Barred
-    → false ≡ is_broken_by judged breaks word
+    → false ≡ is_broken_as_judged judged breaks word
 barred_decided judged breaks word verdict e is =
     sym (by_answer judged breaks word Barred (sym is ∙ e))
 
 -- the ways decide a piece that may be broken
 pub parts_decided : (judged : List ℕ → Judged) (breaks : List Anchored) (word : List ℕ)
     (verdict : Judged) (answer : Bool) → verdict ≡ judged word → verdict ≡ Other
-    → answer ≡ list_any (all_left (is_broken_by judged breaks) word) (ways_of breaks word)
-    → answer ≡ is_broken_by judged breaks word
+    → answer ≡ list_any (all_left (is_broken_as_judged judged breaks) word) (ways_of breaks word)
+    → answer ≡ is_broken_as_judged judged breaks word
 parts_decided judged breaks word verdict answer e is says =
     says ∙ sym (by_answer judged breaks word Other (sym is ∙ e))
 

@@ -11,8 +11,9 @@ use Rattle.std.proofs.lemmas.List.Elements.{All-contains, filter_passes}
 use Rattle.std.proofs.lemmas.List.Folds.{list_any-append}
 use Rattle.std.proofs.lemmas.Option.{cond_some}
 use Rattle.std.proofs.lemmas.Slice.Eq.{bytes_eq-Decides}
-use Rattle.lists.specs.Laws.{contains-head, contains-tail, contains-filter, contains-range}
-use Rattle.lists.specs.Laws.{any-contains}
+use Rattle.spell_types.specs.lists.Laws.{contains-head, contains-tail, contains-filter}
+use Rattle.spell_types.specs.lists.Laws.{contains-range}
+use Rattle.spell_types.specs.lists.Laws.{any-contains}
 use Rattle.spell_types.specs.declared.breaks.Anchored.{Anchored}
 use Rattle.spell_types.specs.Breaks.{parts_at}
 use Rattle.std.specs.Cmp.{both_ways}

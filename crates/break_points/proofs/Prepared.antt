@@ -15,26 +15,26 @@ use Rattle.std.proofs.lemmas.Bool.Decides.{nat_tests}
 use Rattle.std.proofs.lemmas.Cmp.{nat_list_cmp_total, on_total, then_total, eq_by_cmp_equiv}
 use Rattle.std.proofs.lemmas.List.Kept.{IsStrictlySortedBy-dedup, Any-dedup, Contains-from_dedup}
 use Rattle.std.proofs.lemmas.List.Sorted.{Contains-permutation, IsPermutation-sym}
-use Rattle.lists.specs.Laws.{contains-map}
+use Rattle.spell_types.specs.lists.Laws.{contains-map}
 use Rattle.spell_types.specs.declared.breaks.Anchored.{Anchored}
 use Rattle.spell_types.specs.Breaks.{is_broken, IsBroken, whole, between, behind, before}
-use Rattle.lists.specs.TextOrder.{AreInOrder}
-use Rattle.break_points.specs.Patterns.{Pattern, anchored_of, BreakAlike}
+use Rattle.spell_types.specs.lists.TextOrder.{AreInOrder}
+use Rattle.break_points.specs.Patterns.{BreakPattern, anchored_of, BreakAlike}
 use Rattle.break_points.proofs.Texts.{made-of}
 use Rattle.break_points.proofs.Trees.{broken_tree, tree_broken}
 use mathlib.Core.Bool.{beq}
 
 -- ---- the order of patterns, and their equality
-abbrev pub pattern_cmp : Pattern → Pattern → Ordering
+abbrev pub pattern_cmp : BreakPattern → BreakPattern → Ordering
 pattern_cmp p q =
     ordering_then (slice_cmp nat_cmp p.0.items q.0.items)
     (ordering_then (bool_cmp p.1.0 q.1.0) (bool_cmp p.1.1 q.1.1))
 
 pattern-total : IsTotalOrder pattern_cmp
 pattern-total =
-    let total = then_total (on_total (λ (p : Pattern). p.0.items) nat_list_cmp_total)
-    (then_total (on_total (λ (p : Pattern). p.1.0) bool_cmp_total)
-    (on_total (λ (p : Pattern). p.1.1) bool_cmp_total)) in
+    let total = then_total (on_total (λ (p : BreakPattern). p.0.items) nat_list_cmp_total)
+    (then_total (on_total (λ (p : BreakPattern). p.1.0) bool_cmp_total)
+    (on_total (λ (p : BreakPattern). p.1.1) bool_cmp_total)) in
     record { antisymm = total.antisymm; trans = total.trans; congr = total.congr }
 
 equal-text : (xs ys : List ℕ) → slice_cmp nat_cmp xs ys ≡ Equal → xs ≡ ys
@@ -63,7 +63,7 @@ then-equal Less more is = absurd (cc)
 then-equal Equal more is = (refl, is)
 then-equal Greater more is = absurd (cc)
 
-equal-pattern : (p q : Pattern) → pattern_cmp p q ≡ Equal → anchored_of p ≡ anchored_of q
+equal-pattern : (p q : BreakPattern) → pattern_cmp p q ≡ Equal → anchored_of p ≡ anchored_of q
 equal-pattern p q is =
     let first = then-equal (slice_cmp nat_cmp p.0.items q.0.items) _ is in
     let rest = then-equal (bool_cmp p.1.0 q.1.0) _ first.1 in
@@ -80,7 +80,8 @@ is-equal Equal is = refl
 is-equal Greater is = absurd (false≢true is)
 
 -- ---- in order, each once
-strict-next : (ps : List Pattern) → IsStrictlySortedBy pattern_cmp ps → (k : ℕ) (d : Pattern)
+strict-next : (ps : List BreakPattern) → IsStrictlySortedBy pattern_cmp ps
+    → (k : ℕ) (d : BreakPattern)
     → k + 1 < length ps → pattern_cmp (get_or ps k d) (get_or ps (k + 1) d) ≡ Less
 unfolding IsStrictlySortedBy
 strict-next [] up k d within = absurd (omega (arith, within))
@@ -96,8 +97,8 @@ then-reversed Less more is = absurd (cc)
 then-reversed Equal more is = refl
 then-reversed Greater more is = refl
 
-pub kept-in_order : (E : Pattern → Pattern → Bool)
-    → ((p q : Pattern) → E p q ≡ eq_by_cmp pattern_cmp p q) → (moved kept : List Pattern)
+pub kept-in_order : (E : BreakPattern → BreakPattern → Bool)
+    → ((p q : BreakPattern) → E p q ≡ eq_by_cmp pattern_cmp p q) → (moved kept : List BreakPattern)
     → IsSorted pattern_cmp moved → kept ≡ dedup E moved → AreInOrder kept
 kept-in_order E ties moved kept sorted is = λ k d above within.
     let strict : IsStrictlySortedBy pattern_cmp kept =
@@ -141,9 +142,10 @@ same-members breaks other more less = λ base barred word.
     (broken_more base barred breaks other more word)
     (broken_more base barred other breaks less word)
 
-pub kept-alike : (E : Pattern → Pattern → Bool)
-    → ((p q : Pattern) → E p q ≡ eq_by_cmp pattern_cmp p q)
-    → (copies moved kept : List Pattern) (breaks : List Anchored) → map anchored_of copies ≡ breaks
+pub kept-alike : (E : BreakPattern → BreakPattern → Bool)
+    → ((p q : BreakPattern) → E p q ≡ eq_by_cmp pattern_cmp p q)
+    → (copies moved kept : List BreakPattern) (breaks : List Anchored)
+    → map anchored_of copies ≡ breaks
     → IsPermutation copies moved → kept ≡ dedup E moved
     → BreakAlike (map anchored_of kept) breaks
 kept-alike E ties copies moved kept breaks are permutation is =
@@ -167,7 +169,8 @@ kept-alike E ties copies moved kept breaks are permutation is =
         (Contains-permutation moved copies own.0 (IsPermutation-sym copies moved permutation)
         (Contains-from_dedup E moved own.0 (subst (λ ps. Contains ps own.0) is own.1)))))
 
-    one : (b : Anchored) (p : Pattern) → anchored_of p ≡ b → Any (λ q. E p q ≡ true) (dedup E moved)
+    one : (b : Anchored) (p : BreakPattern) → anchored_of p ≡ b
+        → Any (λ q. E p q ≡ true) (dedup E moved)
         → Contains (map anchored_of kept) b
     one b p made (k, q, within, at, same) =
         subst (Contains (map anchored_of kept))
@@ -182,7 +185,7 @@ kept-alike E ties copies moved kept breaks are permutation is =
         (Contains-permutation copies moved own.0 permutation own.1))
 
 -- ---- equality of patterns, as their order has it
-abbrev pub same_pattern : Pattern → Pattern → Bool
+abbrev pub same_pattern : BreakPattern → BreakPattern → Bool
 same_pattern p q = pointwise nat_eq p.0.items q.0.items && (beq p.1.0 q.1.0 && beq p.1.1 q.1.1)
 
 bool-ties : (a b : Bool) → beq a b ≡ is_eq (bool_cmp a b)
@@ -191,7 +194,7 @@ bool-ties true false = refl
 bool-ties false true = refl
 bool-ties false false = refl
 
-pub pattern-ties : (p q : Pattern) → same_pattern p q ≡ eq_by_cmp pattern_cmp p q
+pub pattern-ties : (p q : BreakPattern) → same_pattern p q ≡ eq_by_cmp pattern_cmp p q
 pattern-ties p q =
     both_tied (pointwise nat_eq p.0.items q.0.items) (beq p.1.0 q.1.0 && beq p.1.1 q.1.1)
     (slice_cmp nat_cmp p.0.items q.0.items)

@@ -9,17 +9,17 @@ use Rattle.std.proofs.lemmas.Map.Lookups.{exact_pairs, exact_unsigned}
 use Rattle.std.proofs.lemmas.Option.{same_Some}
 use Rattle.break_points.specs.declared.table.Stretch.{Stretch}
 use Rattle.break_points.specs.declared.table.Table.{Table}
-use Rattle.break_points.specs.Pieces.{IsRight, place_cmp}
+use Rattle.break_points.specs.Pieces.{IsTableRight, place_cmp}
 
 pub empty_right : (right : Stretch → Bool) (table : Table) → table.answers.entries ≡ []
-    → IsRight right table
-unfolding IsRight
+    → IsTableRight right table
+unfolding IsTableRight
 empty_right right table empty = λ piece answer found. cc
 
 pub read_right : (right : Stretch → Bool) (table : Table) (piece : Stretch) (found : Option Bool)
-    → found ≡ get place_cmp table.answers (piece.from, piece.to) → IsRight right table
+    → found ≡ get place_cmp table.answers (piece.from, piece.to) → IsTableRight right table
     → IfSome found (λ answer. answer ≡ right piece)
-unfolding IsRight
+unfolding IsTableRight
 read_right right table piece None is all = tt
 read_right right table piece (Some answer) is all = all piece answer (sym is)
 
@@ -38,8 +38,8 @@ same_place piece other same =
 pub put_right : (right : Stretch → Bool) (table new : Table) (piece : Stretch) (answer : Bool)
     → ((q : ℕ × ℕ) → get place_cmp new.answers q ≡ cond (is_eq (place_cmp (piece.from, piece.to) q))
     (Some answer) (get place_cmp table.answers q))
-    → IsRight right table → answer ≡ right piece → IsRight right new
-unfolding IsRight
+    → IsTableRight right table → answer ≡ right piece → IsTableRight right new
+unfolding IsTableRight
 put_right right table new piece answer puts all is = λ other found given.
     (elim (is_eq (place_cmp (piece.from, piece.to) (other.from, other.to))) as
     (λ b. is_eq (place_cmp (piece.from, piece.to) (other.from, other.to)) ≡ b

@@ -10,12 +10,13 @@ use Rattle.std.proofs.lemmas.List.Elements.{All-append, All-map, All-same}
 use Rattle.std.proofs.lemmas.List.Elements.{Contains-get_or, Contains-append_left}
 use Rattle.std.proofs.lemmas.List.Elements.{Contains-append_right}
 use Rattle.std.proofs.lemmas.Slice.Eq.{bytes_eq-Decides}
-use Rattle.lists.specs.Laws.{contains-head, contains-tail, contains-filter, contains-map}
-use Rattle.lists.specs.Laws.{contains-none, filter-holds, filter-among}
+use Rattle.spell_types.specs.lists.Laws.{contains-head, contains-tail, contains-filter}
+use Rattle.spell_types.specs.lists.Laws.{contains-map}
+use Rattle.spell_types.specs.lists.Laws.{contains-none, filter-holds, filter-among}
 use Rattle.spell_types.specs.declared.breaks.Anchored.{Anchored}
-use Rattle.lists.specs.TextOrder.{AreInOrder, beginning, having}
+use Rattle.spell_types.specs.lists.TextOrder.{AreInOrder, beginning, having}
 use Rattle.break_points.specs.declared.occurrences.Occurrence.{Occurrence}
-use Rattle.break_points.specs.Patterns.{Pattern, anchored_of}
+use Rattle.break_points.specs.Patterns.{BreakPattern, anchored_of}
 use Rattle.break_points.specs.Occurrences.{occurrence_of, IsOccurrence}
 
 -- ---- what stays among others
@@ -34,10 +35,11 @@ made-of {X} {Y} f (x ∷ xs) y (k, within, at) = by (made-of f xs y) k within at
         (low.0, contains-tail x low.0 xs low.1, low.2)
 
 -- ---- occurrences of one length
-abbrev pub same_text : List ℕ → Pattern → Bool
+abbrev pub same_text : List ℕ → BreakPattern → Bool
 same_text text p = pointwise nat_eq p.0.items text
 
-each_sound : (patterns : List Pattern) (word : List ℕ) (place len : ℕ) → place + len ≤ length word
+each_sound : (patterns : List BreakPattern) (word : List ℕ) (place len : ℕ)
+    → place + len ≤ length word
     → All (IsOccurrence (map anchored_of patterns) word)
     (map (occurrence_of place len) (having (take len (drop place word)) patterns))
 each_sound patterns word place len within =
@@ -47,10 +49,10 @@ each_sound patterns word place len within =
     text : List ℕ
     text = take len (drop place word)
 
-    found : List Pattern
+    found : List BreakPattern
     found = having text patterns
 
-    one : (p : Pattern) → Contains (having text patterns) p
+    one : (p : BreakPattern) → Contains (having text patterns) p
         → IsOccurrence (map anchored_of patterns) word (occurrence_of place len p)
     one p inside =
         let same : p.0.items ≡ text =
@@ -65,9 +67,9 @@ each_sound patterns word place len within =
         }
 
 -- the pattern of an occurrence
-own_pattern : (patterns : List Pattern) (word : List ℕ) (occurrence : Occurrence)
+own_pattern : (patterns : List BreakPattern) (word : List ℕ) (occurrence : Occurrence)
     → IsOccurrence (map anchored_of patterns) word occurrence
-    → (p : Pattern) × Contains patterns p
+    → (p : BreakPattern) × Contains patterns p
     × (anchored_of p
     ≡ record {
       text = take occurrence.len (drop occurrence.place word);
@@ -76,7 +78,7 @@ own_pattern : (patterns : List Pattern) (word : List ℕ) (occurrence : Occurren
     })
 own_pattern patterns word occurrence is = made-of anchored_of patterns _ is.among
 
-each_whole : (patterns : List Pattern) (word : List ℕ) (occurrence : Occurrence)
+each_whole : (patterns : List BreakPattern) (word : List ℕ) (occurrence : Occurrence)
     → IsOccurrence (map anchored_of patterns) word occurrence
     → Contains (map (occurrence_of occurrence.place occurrence.len)
     (having (take occurrence.len (drop occurrence.place word)) patterns)) occurrence
@@ -85,7 +87,7 @@ each_whole patterns word occurrence is = by (own_pattern patterns word occurrenc
     text : List ℕ
     text = take occurrence.len (drop occurrence.place word)
 
-    by : ((p : Pattern) × Contains patterns p
+    by : ((p : BreakPattern) × Contains patterns p
         × (anchored_of p
         ≡ record { text = text; front = occurrence.front; back = occurrence.back }))
         → Contains (map (occurrence_of occurrence.place occurrence.len) (having text patterns))
@@ -106,7 +108,7 @@ each_whole patterns word occurrence is = by (own_pattern patterns word occurrenc
         ((bytes_eq-Decides p.0.items text).1 items)))
 
 -- where no pattern begins with the next front no occurrence is longer
-none_longer : (patterns : List Pattern) (word : List ℕ) (occurrence : Occurrence) (n : ℕ)
+none_longer : (patterns : List BreakPattern) (word : List ℕ) (occurrence : Occurrence) (n : ℕ)
     → n ≤ length (drop occurrence.place word)
     → beginning (take n (drop occurrence.place word)) patterns ≡ []
     → IsOccurrence (map anchored_of patterns) word occurrence → occurrence.len < n
@@ -117,7 +119,7 @@ none_longer patterns word occurrence n within none is =
     rest = drop occurrence.place word
 
     by : (occurrence.len < n) ⊎ (n ≤ occurrence.len)
-        → ((p : Pattern) × Contains patterns p
+        → ((p : BreakPattern) × Contains patterns p
         × (anchored_of p
         ≡ record {
           text = take occurrence.len (drop occurrence.place word);
@@ -131,21 +133,21 @@ none_longer patterns word occurrence n within none is =
         ap (λ k. take k p.0.items) (length-take-le n rest within) ∙ ap (take n) items
         ∙ take-take n occurrence.len rest long in
         absurd (contains-none (beginning (take n rest) patterns) p none
-        (contains-filter (λ (q : Pattern). starts_with nat_eq q.0.items (take n rest)) patterns p
+        (contains-filter (λ (q : BreakPattern). starts_with nat_eq q.0.items (take n rest)) patterns p
         among
         ((bytes_eq-Decides (take n rest) (take (length (take n rest)) p.0.items)).1 (sym front))))
 
 -- ---- occurrences of one length more
-pub record Adds (patterns : List Pattern) (word : List ℕ) (place len : ℕ)
+pub record Adds (patterns : List BreakPattern) (word : List ℕ) (place len : ℕ)
     (earlier later : List Occurrence) : Type 0 where
   within : place + len ≤ length word
   is : later ≡ earlier
       ++ map (occurrence_of place len) (having (take len (drop place word)) patterns)
 
-pub adds : (patterns alike found : List Pattern) (word text : List ℕ) (place len : ℕ)
+pub adds : (patterns alike found : List BreakPattern) (word text : List ℕ) (place len : ℕ)
     (earlier later : List Occurrence) → text ≡ drop place word → place + len ≤ length word
     → AreInOrder patterns → alike ≡ beginning (take len text) patterns
-    → ((all : List Pattern) (front : List ℕ) → AreInOrder all → length front ≡ len
+    → ((all : List BreakPattern) (front : List ℕ) → AreInOrder all → length front ≡ len
     → alike ≡ beginning front all → found ≡ having front all)
     → later ≡ earlier ++ map (occurrence_of place len) found
     → Adds patterns word place len earlier later
@@ -159,7 +161,7 @@ adds patterns alike found word text place len earlier later rest within sorted s
           ∙ ap (λ t. having (take len t) patterns) rest);
     }
 
-pub adds-kept : (patterns : List Pattern) (word : List ℕ) (place len : ℕ)
+pub adds-kept : (patterns : List BreakPattern) (word : List ℕ) (place len : ℕ)
     (earlier later : List Occurrence) → Adds patterns word place len earlier later
     → (occurrence : Occurrence) → Contains earlier occurrence → Contains later occurrence
 adds-kept patterns word place len earlier later adding occurrence inside =
@@ -168,7 +170,7 @@ adds-kept patterns word place len earlier later adding occurrence inside =
     (map (occurrence_of place len) (having (take len (drop place word)) patterns)) occurrence
     inside)
 
-pub adds-sound : (patterns : List Pattern) (word : List ℕ) (place len : ℕ)
+pub adds-sound : (patterns : List BreakPattern) (word : List ℕ) (place len : ℕ)
     (earlier later : List Occurrence) → Adds patterns word place len earlier later
     → All (IsOccurrence (map anchored_of patterns) word) earlier
     → All (IsOccurrence (map anchored_of patterns) word) later
@@ -180,7 +182,7 @@ adds-sound patterns word place len earlier later adding sound =
     (map (occurrence_of place len) (having (take len (drop place word)) patterns)) sound
     (each_sound patterns word place len adding.within))
 
-adds-here : (patterns : List Pattern) (word : List ℕ) (place len : ℕ)
+adds-here : (patterns : List BreakPattern) (word : List ℕ) (place len : ℕ)
     (earlier later : List Occurrence) → Adds patterns word place len earlier later
     → (occurrence : Occurrence) → occurrence.place ≡ place → occurrence.len ≡ len
     → IsOccurrence (map anchored_of patterns) word occurrence → Contains later occurrence
@@ -196,7 +198,7 @@ adds-here patterns word place len earlier later adding occurrence at long is =
     (each_whole patterns word occurrence is))))
 
 -- all that are no longer are there
-pub adds-whole : (patterns : List Pattern) (word : List ℕ) (place len : ℕ)
+pub adds-whole : (patterns : List BreakPattern) (word : List ℕ) (place len : ℕ)
     (earlier later : List Occurrence) → Adds patterns word place len earlier later
     → ((occurrence : Occurrence) → occurrence.place ≡ place → occurrence.len < len
     → IsOccurrence (map anchored_of patterns) word occurrence → Contains earlier occurrence)
@@ -214,7 +216,7 @@ adds-whole patterns word place len earlier later adding shorter occurrence at be
         (omega (arith, below, more)) is
 
 -- where no pattern begins with the next front, those are all
-pub adds-all : (patterns : List Pattern) (word text : List ℕ) (place len : ℕ)
+pub adds-all : (patterns : List BreakPattern) (word text : List ℕ) (place len : ℕ)
     (earlier later : List Occurrence) → text ≡ drop place word → len + 1 ≤ length text
     → beginning (take (len + 1) text) patterns ≡ []
     → Adds patterns word place len earlier later
@@ -230,7 +232,7 @@ adds-all patterns word text place len earlier later rest within none adding shor
     (ap (λ t. beginning (take (len + 1) t) patterns) (sym same) ∙ none) is) is
 
 -- and so at the end of the word
-pub adds-last : (patterns : List Pattern) (word text : List ℕ) (place : ℕ)
+pub adds-last : (patterns : List BreakPattern) (word text : List ℕ) (place : ℕ)
     (earlier later : List Occurrence) → text ≡ drop place word → place < length word
     → Adds patterns word place (length text) earlier later
     → ((occurrence : Occurrence) → occurrence.place ≡ place → occurrence.len < length text

@@ -20,7 +20,7 @@ use Rattle.spell_types.specs.declared.breaks.Anchored.{Anchored}
 use Rattle.spell_types.specs.Breaks.{parts_at, parted_at, parted, behind_front, before_end, ways_by}
 use Rattle.spell_types.specs.Breaks.{ways_to_break, is_broken_within, is_broken, IsBroken, whole}
 use Rattle.spell_types.specs.Breaks.{between, behind, before}
-use Rattle.lists.specs.Laws.{take-joined}
+use Rattle.spell_types.specs.lists.Laws.{take-joined}
 use Rattle.break_points.proofs.Breaking.{⊎_else, base_within, within_more, stable}
 
 -- ---- one of the patterns breaks the word

@@ -8,9 +8,9 @@ use Rattle.break_points.specs.declared.occurrences.Occurrence.{Occurrence}
 use Rattle.break_points.specs.declared.table.Stretch.{Stretch}
 use Rattle.break_points.specs.declared.ways.Way.{Way}
 use Rattle.break_points.specs.declared.ways.Way.TheVariants.{Between, Behind, Before}
-use Rattle.break_points.specs.Patterns.{Pattern}
+use Rattle.break_points.specs.Patterns.{BreakPattern}
 
-abbrev pub occurrence_of : ℕ → ℕ → Pattern → Occurrence
+abbrev pub occurrence_of : ℕ → ℕ → BreakPattern → Occurrence
 occurrence_of place len p = record { place = place; len = len; front = p.1.0; back = p.1.1 }
 
 -- the text of one of the patterns stands there

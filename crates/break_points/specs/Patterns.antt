@@ -2,13 +2,13 @@
 use Rattle.std.specs.Prelude.{◌≡◌, ℕ, Bool, List}
 use Rattle.spell_types.specs.declared.breaks.Anchored.{Anchored}
 use Rattle.spell_types.specs.Breaks.{is_broken}
-use Rattle.lists.specs.TextOrder.{Row}
+use Rattle.spell_types.specs.lists.TextOrder.{Row}
 
 -- a text, and whether it is anchored at the front and at the back
-abbrev pub Pattern : Type 0
-Pattern = Row (Bool × Bool)
+abbrev pub BreakPattern : Type 0
+BreakPattern = Row (Bool × Bool)
 
-abbrev pub anchored_of : Pattern → Anchored
+abbrev pub anchored_of : BreakPattern → Anchored
 anchored_of p = record { text = p.0.items; front = p.1.0; back = p.1.1 }
 
 -- the same words are broken by the patterns of one list as by those of another

@@ -15,21 +15,21 @@ use Rattle.break_points.specs.declared.ways.Way.TheVariants.{Between, Behind, Be
 use Rattle.break_points.specs.Judging.{is_base_by, is_barred_by}
 
 -- whether a word is accepted as it stands or in pieces
-abbrev pub is_broken_by : (List ℕ → Judged) → List Anchored → List ℕ → Bool
-is_broken_by judged breaks word = is_broken (is_base_by judged) (is_barred_by judged) breaks word
+abbrev pub is_broken_as_judged : (List ℕ → Judged) → List Anchored → List ℕ → Bool
+is_broken_as_judged judged breaks word = is_broken (is_base_by judged) (is_barred_by judged) breaks word
 
 -- the same of a piece of a word
 abbrev pub is_broken_piece : (List ℕ → Judged) → List Anchored → List ℕ → Stretch → Bool
 is_broken_piece judged breaks word piece =
-    is_broken_by judged breaks (slice_range word piece.from piece.to)
+    is_broken_as_judged judged breaks (slice_range word piece.from piece.to)
 
 -- the order of the table's keys
 abbrev pub place_cmp : ℕ × ℕ → ℕ × ℕ → Ordering
 place_cmp a b = ordering_then (nat_cmp a.0 b.0) (nat_cmp a.1 b.1)
 
 -- what stands in the table is right
-unfoldable pub IsRight : (Stretch → Bool) → Table → Type 0
-IsRight right table = (piece : Stretch) (answer : Bool)
+unfoldable pub IsTableRight : (Stretch → Bool) → Table → Type 0
+IsTableRight right table = (piece : Stretch) (answer : Bool)
     → get place_cmp table.answers (piece.from, piece.to) ≡ Some answer → answer ≡ right piece
 
 -- whether all that a way leaves of a piece passes a test

@@ -10,7 +10,8 @@ ghost use Rattle.spell_types.specs.Breaks.{is_broken, IsBroken};
 ghost use Rattle.break_points.specs.declared.Judged.{Judged};
 ghost use Rattle.break_points.specs.Judging.{is_base_by, is_barred_by, AnswersAs};
 ghost use Rattle.break_points.specs.Occurrences.{AreOccurrences};
-ghost use Rattle.break_points.specs.Pieces.{is_broken_piece, is_broken_by, IsRight, is_shorter};
+ghost use Rattle.break_points.specs.Pieces.{is_broken_piece, is_broken_as_judged, IsTableRight};
+ghost use Rattle.break_points.specs.Pieces.{is_shorter};
 ghost use Rattle.break_points.specs.Pieces.{all_left, ways_of};
 
 mod breaks;
@@ -19,9 +20,9 @@ mod table;
 mod ways;
 
 pub use breaks::Breaks;
-use lists::NoMemory;
 use occurrences::{Occurrence, occurrences_in};
 use spell_types::Anchored;
+use spell_types::lists::NoMemory;
 use std::alloc::Global;
 use table::{Stretch, Table};
 use ways::Way;
@@ -66,7 +67,7 @@ impl Breaks {
     ) -> Result<bool, NoMemory>
         requires { F.IsAlwaysCallable judge.now }
         ensures { (judged : List ℕ → Judged) → AnswersAs (FnReturnsAt F.Fn judge.now) judged
-            → IfOk result (λ answer. answer ≡ is_broken_by judged self.now word.now) }
+            → IfOk result (λ answer. answer ≡ is_broken_as_judged judged self.now word.now) }
     {
         match judge(word)? {
             Judged::Base => return Ok(true),
@@ -102,9 +103,9 @@ fn decide<F: Fn(&[char]) -> Result<Judged, NoMemory>>(
     ensures { (judged : List ℕ → Judged) (breaks : List Anchored)
         → AnswersAs (FnReturnsAt F.Fn judge.now) judged
         → AreOccurrences breaks word.now occurrences.now
-        → IsRight (is_broken_piece judged breaks word.now) table.old
+        → IsTableRight (is_broken_piece judged breaks word.now) table.old
         → IfOk result (λ answer. (answer ≡ is_broken_piece judged breaks word.now piece)
-        × IsRight (is_broken_piece judged breaks word.now) table.new) }
+        × IsTableRight (is_broken_piece judged breaks word.now) table.new) }
 {
     if let Some(answer) = table.get(piece) {
         return Ok(answer);
@@ -129,9 +130,9 @@ fn decide_anew<F: Fn(&[char]) -> Result<Judged, NoMemory>>(
     ensures { (judged : List ℕ → Judged) (breaks : List Anchored)
         → AnswersAs (FnReturnsAt F.Fn judge.now) judged
         → AreOccurrences breaks word.now occurrences.now
-        → IsRight (is_broken_piece judged breaks word.now) table.old
+        → IsTableRight (is_broken_piece judged breaks word.now) table.old
         → IfOk result (λ answer. (answer ≡ is_broken_piece judged breaks word.now piece)
-        × IsRight (is_broken_piece judged breaks word.now) table.new) }
+        × IsTableRight (is_broken_piece judged breaks word.now) table.new) }
 {
     match judge(&word[piece.from..piece.to])? {
         Judged::Base => Ok(true),
@@ -155,12 +156,12 @@ fn decide_parts<F: Fn(&[char]) -> Result<Judged, NoMemory>>(
     ensures { (judged : List ℕ → Judged) (breaks : List Anchored)
         → AnswersAs (FnReturnsAt F.Fn judge.now) judged
         → AreOccurrences breaks word.now occurrences.now
-        → IsRight (is_broken_piece judged breaks word.now) table.old
+        → IsTableRight (is_broken_piece judged breaks word.now) table.old
         → IfOk result (λ answer. (answer
-        ≡ list_any (all_left (is_broken_by judged breaks)
+        ≡ list_any (all_left (is_broken_as_judged judged breaks)
         (slice_range word.now piece.from piece.to))
         (ways_of breaks (slice_range word.now piece.from piece.to)))
-        × IsRight (is_broken_piece judged breaks word.now) table.new) }
+        × IsTableRight (is_broken_piece judged breaks word.now) table.new) }
 {
     for occurrence in occurrences {
         if let Some(way) = occurrence.way(piece) {
@@ -189,10 +190,10 @@ fn decide_way<F: Fn(&[char]) -> Result<Judged, NoMemory>>(
     ensures { (judged : List ℕ → Judged) (breaks : List Anchored)
         → AnswersAs (FnReturnsAt F.Fn judge.now) judged
         → AreOccurrences breaks word.now occurrences.now
-        → IsRight (is_broken_piece judged breaks word.now) table.old
+        → IsTableRight (is_broken_piece judged breaks word.now) table.old
         → IfOk result (λ answer. (answer
-        ≡ all_left (is_broken_by judged breaks) (slice_range word.now piece.from piece.to) way)
-        × IsRight (is_broken_piece judged breaks word.now) table.new) }
+        ≡ all_left (is_broken_as_judged judged breaks) (slice_range word.now piece.from piece.to) way)
+        × IsTableRight (is_broken_piece judged breaks word.now) table.new) }
 {
     match way {
         Way::Between(end, start) => Ok(

@@ -3,17 +3,17 @@
 ghost use Rattle.std.specs.Prelude.{◌≡◌, ◌++◌, ◌≤◌, ◌<◌, ◌+◌, ℕ, true, false, length, map, take};
 ghost use Rattle.std.specs.Prelude.{drop, Contains, OnOk, IfOk};
 ghost use Rattle.std.specs.List.{All};
-ghost use Rattle.lists.specs.TextOrder.{AreInOrder};
+ghost use Rattle.spell_types.specs.lists.TextOrder.{AreInOrder};
 ghost use Rattle.break_points.specs.declared.occurrences.Occurrence.{Occurrence};
 ghost use Rattle.break_points.specs.Patterns.{anchored_of};
 ghost use Rattle.break_points.specs.Occurrences.{occurrence_of, IsOccurrence, AreOccurrences};
 ghost use Rattle.break_points.specs.Occurrences.{way_with, way_by};
 
-use crate::breaks::Pattern;
+use crate::breaks::BreakPattern;
 use crate::table::Stretch;
 use crate::ways::Way;
-use lists::NoMemory;
-use lists::text_order::{ending, going_on};
+use spell_types::lists::NoMemory;
+use spell_types::lists::text_order::{ending, going_on};
 use std::alloc::Global;
 
 /// The text of a pattern in a word.
@@ -77,7 +77,7 @@ impl Occurrence {
 /// The texts of patterns that stand in the word, place by place. The patterns are in order.
 pub(crate) fn occurrences_in(
     alloc: Global,
-    patterns: &[Pattern],
+    patterns: &[BreakPattern],
     word: &[char],
 ) -> Result<Vec<Occurrence>, NoMemory>
     requires { AreInOrder patterns.now }
@@ -94,7 +94,7 @@ pub(crate) fn occurrences_in(
 /// Adds the texts of patterns that stand at a place. No more characters are looked at than some
 /// pattern has there, and one.
 fn add_occurrences(
-    patterns: &[Pattern],
+    patterns: &[BreakPattern],
     word: &[char],
     place: usize,
     occurrences: &mut Vec<Occurrence>,
@@ -125,7 +125,7 @@ fn add_occurrences(
 
 /// Adds the text of each of these patterns, which have so many characters and stand at a place.
 fn add_each(
-    patterns: &[Pattern],
+    patterns: &[BreakPattern],
     place: usize,
     len: usize,
     occurrences: &mut Vec<Occurrence>,

@@ -2,9 +2,9 @@
 
 ghost use Rattle.std.specs.Prelude.{◌≡◌, ◌+◌, ◌≤◌, ◌<◌, Bool, IfSome, OnOk};
 ghost use Rattle.break_points.specs.declared.table.Stretch.{Stretch};
-ghost use Rattle.break_points.specs.Pieces.{IsRight};
+ghost use Rattle.break_points.specs.Pieces.{IsTableRight};
 
-use lists::NoMemory;
+use spell_types::lists::NoMemory;
 use std::alloc::Global;
 use std::collections::BTreeMap;
 
@@ -50,7 +50,7 @@ pub struct Table {
 impl Table {
     /// The table in which no piece stands.
     pub fn new(alloc: Global) -> Table
-        ensures { (right : Stretch → Bool) → IsRight right result }
+        ensures { (right : Stretch → Bool) → IsTableRight right result }
     {
         Table {
             answers: BTreeMap::new(alloc),
@@ -59,7 +59,7 @@ impl Table {
 
     /// The answer for a piece, if it is decided.
     pub fn get(&self, piece: Stretch) -> Option<bool>
-        ensures { (right : Stretch → Bool) → IsRight right self.now
+        ensures { (right : Stretch → Bool) → IsTableRight right self.now
             → IfSome result (λ answer. answer ≡ right piece) }
     {
         self.answers.get(&(piece.from, piece.to)).copied()
@@ -67,8 +67,8 @@ impl Table {
 
     /// Keeps the answer for a piece.
     pub fn put(&mut self, piece: Stretch, answer: bool) -> Result<(), NoMemory>
-        ensures { (right : Stretch → Bool) → IsRight right self.old → answer ≡ right piece
-            → OnOk result (IsRight right self.new) }
+        ensures { (right : Stretch → Bool) → IsTableRight right self.old → answer ≡ right piece
+            → OnOk result (IsTableRight right self.new) }
     {
         self.answers.insert((piece.from, piece.to), answer)?;
         Ok(())

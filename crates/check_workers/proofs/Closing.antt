@@ -6,21 +6,24 @@ use Rattle.std.proofs.Common.{arith}
 use Rattle.std.specs.Option.{option_map_or, option_or}
 use Rattle.std.proofs.lemmas.Bool.{and_right, ltb-false}
 use Rattle.std.proofs.lemmas.Option.{same_Some}
-use Rattle.paragraph_text.specs.Paragraphs.{Paragraph}
-use Rattle.spell_types.specs.declared.Lexicon.{Lexicon}
-use Rattle.edit_core.specs.Events.{AFinish}
-use Rattle.edit_core.specs.Seen.{Seen}
-use Rattle.edit_core.specs.Steps.{IsRefused, Step, event_refusal, finish_refusal, first_refusal}
-use Rattle.edit_core.specs.Steps.{found, is_open, settled, unless}
-use Rattle.edit_core.specs.declared.refusal.Refusal.{Refusal}
-use Rattle.lists.specs.Answers.{IsDueOr}
-use Rattle.edit_core.specs.declared.refusal.Refusal.TheVariants.{Behind, Gone, NoMemory, Reloaded}
-use Rattle.edit_core.specs.declared.refusal.Refusal.TheVariants.{Spent}
-use Rattle.edit_core.specs.declared.state.Standing.{Standing}
-use Rattle.edit_core.specs.declared.state.Standing.TheVariants.{Waiting, Held, Parked, Finished}
+use Rattle.board_share.specs.paragraph_text.Paragraphs.{Paragraph}
+use Rattle.mark_types.specs.spell_types.declared.Lexicon.{Lexicon}
+use Rattle.board_share.specs.edit_core.Events.{AFinish}
+use Rattle.board_share.specs.edit_core.Seen.{Seen}
+use Rattle.board_share.specs.edit_core.Steps.{IsRefused, Step, event_refusal, finish_refusal}
+use Rattle.board_share.specs.edit_core.Steps.{first_refusal}
+use Rattle.board_share.specs.edit_core.Steps.{found, is_open, settled, unless}
+use Rattle.board_share.specs.edit_core.declared.refusal.Refusal.{Refusal}
+use Rattle.outside.specs.lists.Answers.{IsDueOr}
+use Rattle.board_share.specs.edit_core.declared.refusal.Refusal.TheVariants.{Behind, Gone, NoMemory}
+use Rattle.board_share.specs.edit_core.declared.refusal.Refusal.TheVariants.{Reloaded}
+use Rattle.board_share.specs.edit_core.declared.refusal.Refusal.TheVariants.{Spent}
+use Rattle.board_share.specs.edit_core.declared.state.Standing.{Standing}
+use Rattle.board_share.specs.edit_core.declared.state.Standing.TheVariants.{Waiting, Held, Parked}
+use Rattle.board_share.specs.edit_core.declared.state.Standing.TheVariants.{Finished}
 use Rattle.board_share.specs.declared.claim.ClaimFault.{ClaimFault}
 use Rattle.board_share.specs.declared.claim.ClaimFault.TheVariants as fault
-use Rattle.check_workers.specs.Ends.{IsCutShort, IsLastPoint, IsPassedOver, refusal_of}
+use Rattle.check_workers.specs.Ends.{IsCutShort, IsLastPoint, IsPassedOver, refusal_of_claim}
 use Rattle.board_share.specs.Settled.{is_open_for}
 use Rattle.check_workers.proofs.Shown.{found-as}
 
@@ -150,7 +153,7 @@ closed-passed worker id rev dict text lexicon board told (Err fault) passed due 
 
 pub short-told : (worker id rev dict : ℕ) (text : List ℕ) (lexicon : Lexicon) (board : Seen)
     (told : Refusal) (answer : Result (Unit {0}) ClaimFault)
-    → IfErr answer (λ fault. told ≡ refusal_of fault) → board.point ≤ 2 ^ 62
+    → IfErr answer (λ fault. told ≡ refusal_of_claim fault) → board.point ≤ 2 ^ 62
     → IsDueOr NoMemory (first_refusal board (AFinish worker id rev dict text lexicon)) told
     → IfErr answer (IsCutShort board)
 short-told worker id rev dict text lexicon board told (Ok done) is most due = tt

@@ -4,9 +4,9 @@ use Rattle.std.proofs.Common.{IfSome}
 use Rattle.std.specs.Arc.{arc_value}
 use Rattle.std.specs.Option.{option_map_or}
 use Rattle.std.proofs.lemmas.Bool.{eqb-true, false≢true}
-use Rattle.spell_types.specs.declared.Lexicon.{Lexicon}
-use Rattle.edit_core.specs.Runs.{IsRun, Run, last_board}
-use Rattle.edit_core.specs.Seen.{Seen}
+use Rattle.mark_types.specs.spell_types.declared.Lexicon.{Lexicon}
+use Rattle.board_share.specs.edit_core.Runs.{IsRun, Run, last_board}
+use Rattle.board_share.specs.edit_core.Seen.{Seen}
 use Rattle.board_share.specs.Eyes.{EyeSeen, IsLater}
 use Rattle.board_share.specs.declared.claim.Claim.{Claim}
 use Rattle.check_workers.specs.Knowing.{KeepsFor, KnowsClaim, KnowsKept, KnowsLexicon}

@@ -6,12 +6,13 @@ use Rattle.std.proofs.lemmas.Bool.{cases_lt}
 use Rattle.std.specs.Arc.{arc_value}
 use Rattle.std.specs.List.{AllByRecursion}
 use mathlib.Core.List.{IsPrefix}
-use Rattle.spell_types.specs.declared.Lexicon.{Lexicon}
-use Rattle.paragraph_text.specs.Paragraphs.{Paragraph, IsValidIn}
-use Rattle.paragraph_text.specs.Edits.{with_id}
-use Rattle.paragraph_text.specs.declared.limits.TheConstants.{MOST_BYTES}
-use Rattle.edit_core.specs.Runs.{AreSteps, Entry, IsCheckOf, IsRun, OnlyGrew, Run, last_board}
-use Rattle.edit_core.specs.Seen.{Seen, IsValidBoard}
+use Rattle.mark_types.specs.spell_types.declared.Lexicon.{Lexicon}
+use Rattle.board_share.specs.paragraph_text.Paragraphs.{Paragraph, IsValidIn}
+use Rattle.board_share.specs.paragraph_text.Edits.{with_id}
+use Rattle.board_share.specs.paragraph_text.declared.limits.TheConstants.{MOST_BYTES}
+use Rattle.board_share.specs.edit_core.Runs.{AreSteps, Entry, IsCheckOf, IsRun, OnlyGrew, Run}
+use Rattle.board_share.specs.edit_core.Runs.{last_board}
+use Rattle.board_share.specs.edit_core.Seen.{Seen, IsValidBoard}
 use Rattle.board_share.specs.Events.{KnowsCheck}
 use Rattle.board_share.specs.declared.claim.Claim.{Claim}
 use Rattle.check_workers.specs.Knowing.{KnowsBoard, KnowsClaim, KnowsLexicon}

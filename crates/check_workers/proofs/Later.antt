@@ -1,10 +1,10 @@
 -- One call of an eye after another.
 use Rattle.std.proofs.Common.{◌≡◌, ◌∙◌, refl, sym, subst, ℕ, ◌+◌, ◌≤◌, List, length, arith}
-use Rattle.edit_core.specs.Seen.{Seen}
-use Rattle.edit_core.specs.Runs.{last_board}
-use Rattle.spell_types.specs.declared.Lexicon.{Lexicon}
+use Rattle.board_share.specs.edit_core.Seen.{Seen}
+use Rattle.board_share.specs.edit_core.Runs.{last_board}
+use Rattle.mark_types.specs.spell_types.declared.Lexicon.{Lexicon}
 use Rattle.board_share.specs.Events.{KnowsCheck}
-use Rattle.edit_core.specs.Runs.{IsCheckOf}
+use Rattle.board_share.specs.edit_core.Runs.{IsCheckOf}
 use Rattle.board_share.specs.Eyes.{EyeSeen, IsLater, entries_in}
 use Rattle.board_share.specs.Eyes.{CountsChecks}
 use Rattle.check_workers.proofs.Prefixes.{prefix-self, prefix-trans}

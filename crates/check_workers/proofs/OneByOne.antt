@@ -6,16 +6,16 @@ use Rattle.std.proofs.Common.{append_assoc}
 use Rattle.std.proofs.lemmas.Bool.{cases_lt}
 use Rattle.std.proofs.lemmas.List.{append-nil}
 use Rattle.std.proofs.lemmas.Option.{slice_get_within}
-use Rattle.paragraph_text.specs.Paragraphs.{Paragraph}
-use Rattle.edit_core.specs.Runs.{Entry, last_board}
-use Rattle.edit_core.specs.Seen.{Seen}
-use Rattle.edit_core.specs.Steps.{is_open}
-use Rattle.edit_core.specs.declared.state.Standing.{Standing}
+use Rattle.board_share.specs.paragraph_text.Paragraphs.{Paragraph}
+use Rattle.board_share.specs.edit_core.Runs.{Entry, last_board}
+use Rattle.board_share.specs.edit_core.Seen.{Seen}
+use Rattle.board_share.specs.edit_core.Steps.{is_open}
+use Rattle.board_share.specs.edit_core.declared.state.Standing.{Standing}
 use Rattle.board_share.specs.Eyes.{EyeSeen, IsLater, last_of}
 use Rattle.board_share.specs.declared.claim.ClaimFault.{ClaimFault}
 use Rattle.board_share.specs.declared.claim.ClaimFault.TheVariants as fault
 use Rattle.board_share.specs.Settled.{AreClosedIn, IsClosedIn, IsSettled}
-use Rattle.check_workers.specs.Settling.{IsClosedAt}
+use Rattle.check_workers.specs.Settling.{CanFinishNoCheck}
 use Rattle.board_share.specs.Settled.{is_open_for}
 use Rattle.check_workers.specs.Settling.{HasOpen, IsBoardFault, IsSettledFrom}
 use Rattle.check_workers.specs.Ends.{IsCutShort}
@@ -81,7 +81,7 @@ same-place count place below few = omega (arith, below, few)
 
 pub settled-more : (count : ℕ) (board : Seen) (old middle new : EyeSeen)
     → board ≡ last_of old.run → IsLater old new → IsSettledTo count board old middle
-    → IsLater middle new → IsClosedAt board count (last_of new.run)
+    → IsLater middle new → CanFinishNoCheck board count (last_of new.run)
     → IsSettledTo (count + 1) board old new
 settled-more count board old middle new is whole so-far later closed = record {
   behind = all;

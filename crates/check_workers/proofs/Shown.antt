@@ -1,17 +1,20 @@
 -- How a paragraph stands, by what a board shows of it.
-use Rattle.std.proofs.Common.{◌≡◌, ◌∙◌, refl, sym, ap, ℕ, zero, suc, ◌+◌, ◌==◌, Bool, true, List, [], ◌∷◌}
+use Rattle.std.proofs.Common.{◌≡◌, ◌∙◌, refl, sym, ap, ℕ, zero, suc, ◌+◌, ◌==◌, Bool, true, List}
+use Rattle.std.proofs.Common.{[], ◌∷◌}
 use Rattle.std.proofs.Common.{slice_get, Option, None, Some}
 use Rattle.std.specs.Option.{option_map_or}
 use Rattle.std.proofs.lemmas.Option.{cond_some, same_Some}
-use Rattle.paragraph_text.specs.Laws.{found-none}
-use Rattle.paragraph_text.specs.Paragraphs.{Paragraph}
-use Rattle.edit_core.specs.Laws.{find-beside, none-beside}
-use Rattle.edit_core.specs.Seen.{Seen}
-use Rattle.edit_core.specs.Steps.{found, is_open, place_of}
-use Rattle.edit_core.specs.Views.{ShownMarks, Shows, is_parked, shown_from, shown_in, view_of}
-use Rattle.edit_core.specs.declared.state.Standing.{Standing}
-use Rattle.edit_core.specs.declared.state.Standing.TheVariants as standing
-use Rattle.edit_core.specs.declared.view.ParaView.{ParaView}
+use Rattle.board_share.specs.paragraph_text.Laws.{found-none}
+use Rattle.board_share.specs.paragraph_text.Paragraphs.{Paragraph}
+use Rattle.board_share.specs.edit_core.Laws.{find-beside, none-beside}
+use Rattle.board_share.specs.edit_core.Seen.{Seen}
+use Rattle.board_share.specs.edit_core.Steps.{found, is_open, place_of}
+use Rattle.board_share.specs.edit_core.Views.{ShownMarks, ShowsParagraph, is_parked, shown_from}
+use Rattle.board_share.specs.edit_core.Views.{shown_in}
+use Rattle.board_share.specs.edit_core.Views.{view_of}
+use Rattle.board_share.specs.edit_core.declared.state.Standing.{Standing}
+use Rattle.board_share.specs.edit_core.declared.state.Standing.TheVariants as standing
+use Rattle.board_share.specs.edit_core.declared.view.ParaView.{ParaView}
 use Rattle.board_share.specs.declared.claim.Claim.{Claim}
 use Rattle.check_workers.specs.Ends.{why_for, why_of}
 use Rattle.check_workers.specs.Settling.{HasOpen}
@@ -67,7 +70,7 @@ why-gone board claim none =
 
 -- the cause to stop a check, by what is shown of its paragraph and by what is in force
 pub why-shown : {J : Type 0} (board : Seen) (claim : Claim J) (place : ℕ) (view : ParaView)
-    (why : Option Why) → place_of claim.id board.paragraphs ≡ Some place → Shows board place view
+    (why : Option Why) → place_of claim.id board.paragraphs ≡ Some place → ShowsParagraph board place view
     → {dict : ℕ} {parked : Bool} → dict ≡ board.dict_version
     → parked ≡ is_parked_in (shown_in view.shown)
     → why ≡ why_for claim.rev claim.dict view.rev dict parked

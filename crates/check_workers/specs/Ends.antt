@@ -1,11 +1,11 @@
 -- Why the check of a claim stops, and why a worker does.
 use Rattle.std.specs.Prelude.{◌≡◌, ℕ, ◌<◌, ◌^◌, ◌⊎◌, Bool, ◌==◌, if◌then◌else◌, Option, None, Some}
 use Rattle.std.specs.Option.{option_map_or}
-use Rattle.edit_core.specs.Seen.{Seen}
-use Rattle.edit_core.specs.Steps.{found}
-use Rattle.edit_core.specs.Views.{is_parked}
-use Rattle.edit_core.specs.declared.refusal.Refusal.{Refusal}
-use Rattle.edit_core.specs.declared.refusal.Refusal.TheVariants as refusal
+use Rattle.board_share.specs.edit_core.Seen.{Seen}
+use Rattle.board_share.specs.edit_core.Steps.{found}
+use Rattle.board_share.specs.edit_core.Views.{is_parked}
+use Rattle.board_share.specs.edit_core.declared.refusal.Refusal.{Refusal}
+use Rattle.board_share.specs.edit_core.declared.refusal.Refusal.TheVariants as refusal
 use Rattle.board_share.specs.Events.{IsSpent}
 use Rattle.board_share.specs.Eyes.{EyeSeen, last_of}
 use Rattle.board_share.specs.declared.claim.Claim.{Claim}
@@ -50,9 +50,9 @@ IsCutShort board (fault.Spent point) = IsLastPoint board point
 IsCutShort board fault.NoMemory = Unit {0}
 
 -- the refusal that cuts such a call short
-abbrev pub refusal_of : ClaimFault → Refusal
-refusal_of (fault.Spent point) = refusal.Spent point
-refusal_of fault.NoMemory = refusal.NoMemory
+abbrev pub refusal_of_claim : ClaimFault → Refusal
+refusal_of_claim (fault.Spent point) = refusal.Spent point
+refusal_of_claim fault.NoMemory = refusal.NoMemory
 
 -- a refusal that cuts none short: the check is not wanted any more
 pub record IsPassedOver (told : Refusal) : Type 0 where

@@ -2,9 +2,9 @@
 use Rattle.std.specs.Prelude.{◌≡◌, ℕ, List, Option, IfSome}
 use Rattle.std.specs.Arc.{arc_value}
 use mathlib.Core.List.{IsPrefix}
-use Rattle.spell_types.specs.declared.Lexicon.{Lexicon}
-use Rattle.edit_core.specs.Runs.{Entry, Run, last_board}
-use Rattle.edit_core.specs.Seen.{Seen}
+use Rattle.mark_types.specs.spell_types.declared.Lexicon.{Lexicon}
+use Rattle.board_share.specs.edit_core.Runs.{Entry, Run, last_board}
+use Rattle.board_share.specs.edit_core.Seen.{Seen}
 use Rattle.board_share.specs.Events.{KnowsCheck}
 use Rattle.board_share.specs.Eyes.{EyeSeen}
 use Rattle.board_share.specs.declared.claim.Claim.{Claim}

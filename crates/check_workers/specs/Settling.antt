@@ -1,10 +1,10 @@
 -- How a board is settled paragraph by paragraph, and why it is not.
 use Rattle.std.specs.Prelude.{◌≡◌, ℕ, true, false, List, ◌++◌, None, Some, slice_get}
-use Rattle.paragraph_text.specs.Paragraphs.{Paragraph}
-use Rattle.edit_core.specs.Runs.{Entry, last_board}
-use Rattle.edit_core.specs.Seen.{Seen}
-use Rattle.edit_core.specs.Steps.{is_open}
-use Rattle.edit_core.specs.declared.state.Standing.{Standing}
+use Rattle.board_share.specs.paragraph_text.Paragraphs.{Paragraph}
+use Rattle.board_share.specs.edit_core.Runs.{Entry, last_board}
+use Rattle.board_share.specs.edit_core.Seen.{Seen}
+use Rattle.board_share.specs.edit_core.Steps.{is_open}
+use Rattle.board_share.specs.edit_core.declared.state.Standing.{Standing}
 use Rattle.board_share.specs.Eyes.{EyeSeen, last_of}
 use Rattle.board_share.specs.Settled.{AreClosedIn, is_open_for}
 use Rattle.board_share.specs.declared.claim.ClaimFault.{ClaimFault}
@@ -14,8 +14,8 @@ use Rattle.check_workers.specs.Ends.{IsLastPoint}
 
 -- no such check could on this board finish the paragraph at a place of another board, if it was
 -- open there
-abbrev pub IsClosedAt : Seen → ℕ → Seen → Type 0
-IsClosedAt board place now =
+abbrev pub CanFinishNoCheck : Seen → ℕ → Seen → Type 0
+CanFinishNoCheck board place now =
     (paragraph : Paragraph) (stands : Standing) → slice_get board.paragraphs place ≡ Some paragraph
     → slice_get board.standings place ≡ Some stands → is_open stands ≡ true
     → is_open_for paragraph.id paragraph.rev board.dict_version now ≡ false
@@ -60,8 +60,8 @@ IsSettleFault old new (fault.Spent point) = IsSpentSettling old new point
 IsSettleFault old new fault.NoMemory = Unit {0}
 
 -- where a board stands in its history, as it is told where nothing is put in
-abbrev pub told_at : Seen → Told
-told_at board = record {
+abbrev pub told_of_board : Seen → Told
+told_of_board board = record {
   point = board.point;
   text = board.text_version;
   dict = board.dict_version;

@@ -1,6 +1,6 @@
 -- How a paragraph stands, by what is shown of it.
 use Rattle.std.specs.Prelude.{Bool, false, not}
-use Rattle.edit_core.specs.Views.{ShownMarks, Marked, Unmarked}
+use Rattle.board_share.specs.edit_core.Views.{ShownMarks, Marked, Unmarked}
 
 -- whether it is parked
 abbrev pub is_parked_in : ShownMarks → Bool

@@ -3,7 +3,7 @@
 ghost use Rattle.std.specs.Prelude.{◌≡◌};
 ghost use Rattle.check_workers.specs.declared.ends.CheckEnd.TheVariants.{NoMemory as OutOfMemory};
 
-use lists::NoMemory;
+use outside::lists::NoMemory;
 use std::alloc::AllocError;
 
 /// Why the check of a claim is not wanted any more. Of several causes the first in this order is

@@ -2,20 +2,20 @@
 
 ghost use Rattle.std.specs.Prelude.{◌≡◌, false, IfErr, IfOk, OnErr, OnOk};
 ghost use Rattle.std.specs.Arc.{arc_value};
-ghost use Rattle.lists.specs.Answers.{IsDueOr};
-ghost use Rattle.edit_core.specs.Events.{AFinish};
-ghost use Rattle.edit_core.specs.Steps.{first_refusal};
-ghost use Rattle.edit_core.specs.declared.refusal.Refusal.TheVariants.{NoMemory as OutOfMemory};
+ghost use Rattle.outside.specs.lists.Answers.{IsDueOr};
+ghost use Rattle.board_share.specs.edit_core.Events.{AFinish};
+ghost use Rattle.board_share.specs.edit_core.Steps.{first_refusal};
+ghost use Rattle.board_share.specs.edit_core.declared.refusal.Refusal.TheVariants.{NoMemory as OutOfMemory};
 ghost use Rattle.board_share.specs.Events.{IsPublished};
 ghost use Rattle.board_share.specs.Eyes.{CountsNothing, CountsOne, IsLater, last_of};
-ghost use Rattle.check_workers.specs.Ends.{IsCutShort, IsPassedOver, refusal_of};
+ghost use Rattle.check_workers.specs.Ends.{IsCutShort, IsPassedOver, refusal_of_claim};
 ghost use Rattle.board_share.specs.Eyes.{CountsChecks};
 ghost use Rattle.check_workers.specs.Knowing.{KnowsClaim};
 ghost use Rattle.board_share.specs.Settled.{is_open_for};
 
 use crate::laws::finishes_close;
+use board_share::edit_core::{Event, Refusal};
 use board_share::{Claim, ClaimFault, Desk, Eye, Naming, Told};
-use edit_core::{Event, Refusal};
 use mark_types::Judge;
 use paragraph_marks::Checked;
 use std::alloc::Global;
@@ -92,7 +92,7 @@ pub(crate) fn finish_if_wanted<J: Judge + Drop, D: Naming, W: Wait + Drop>(
 /// Passes over a refusal of a finish, unless no other finish could come either.
 fn pass_over(refusal: Refusal) -> Result<(), ClaimFault>
     ensures passed { OnOk result (IsPassedOver refusal) }
-    ensures short { IfErr result (λ fault. refusal ≡ refusal_of fault) }
+    ensures short { IfErr result (λ fault. refusal ≡ refusal_of_claim fault) }
 {
     match refusal {
         Refusal::Spent { point } => Err(ClaimFault::Spent { point }),

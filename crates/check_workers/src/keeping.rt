@@ -3,7 +3,7 @@
 ghost use Rattle.std.specs.Prelude.{◌≡◌, ◌==◌, false, IfSome};
 ghost use Rattle.std.specs.Arc.{arc_value};
 ghost use Rattle.std.specs.Option.{option_map_or};
-ghost use Rattle.edit_core.specs.Runs.{IsRun, Run};
+ghost use Rattle.board_share.specs.edit_core.Runs.{IsRun, Run};
 ghost use Rattle.check_workers.specs.Knowing.{KeepsFor, KnowsClaim, KnowsKept};
 
 use crate::laws::versions_name_dictionaries;

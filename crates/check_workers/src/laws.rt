@@ -1,9 +1,9 @@
 //! What the calls of workers rest on.
 
 ghost use Rattle.std.specs.Prelude.{◌≡◌, ◌<◌, ◌≤◌, ◌^◌, ℕ, List, length, false};
-ghost use Rattle.spell_types.specs.declared.Lexicon.{Lexicon};
-ghost use Rattle.edit_core.specs.Events.{AFinish};
-ghost use Rattle.edit_core.specs.Runs.{IsRun, Run};
+ghost use Rattle.mark_types.specs.spell_types.declared.Lexicon.{Lexicon};
+ghost use Rattle.board_share.specs.edit_core.Events.{AFinish};
+ghost use Rattle.board_share.specs.edit_core.Runs.{IsRun, Run};
 ghost use Rattle.board_share.specs.Events.{IsClaimed, IsPublished, KnowsCheck};
 ghost use Rattle.board_share.specs.Eyes.{EyeSeen, IsLater, last_of};
 ghost use Rattle.board_share.specs.declared.told.Told.{Told};
@@ -11,7 +11,7 @@ ghost use Rattle.board_share.specs.declared.claim.Claim.{Claim};
 ghost use Rattle.board_share.specs.Settled.{is_open_for};
 ghost use Rattle.check_workers.specs.Knowing.{KnowsClaim, KnowsLexicon};
 
-use edit_core::{fronts_are_runs, ids_name_paragraphs, runs_go_on, runs_only_grow};
+use board_share::edit_core::{fronts_are_runs, ids_name_paragraphs, runs_go_on, runs_only_grow};
 use mark_types::Judge;
 
 /// A worker that has claimed a paragraph knows the claim's board.

@@ -1,14 +1,14 @@
 //! How a check learns that it is not wanted any more.
 
 ghost use Rattle.std.specs.Prelude.{◌≡◌, None, Some, IfErr, OnOk};
-ghost use Rattle.edit_core.specs.Views.{shown_in};
+ghost use Rattle.board_share.specs.edit_core.Views.{shown_in};
 ghost use Rattle.board_share.specs.Eyes.{CountsNothing, IsLater, last_of};
 ghost use Rattle.check_workers.specs.Ends.{IsCheckEnd, why_for, why_of};
 ghost use Rattle.check_workers.specs.Showing.{is_parked_in};
 
 use crate::ends::{CheckEnd, Why};
+use board_share::edit_core::{Board, Shown};
 use board_share::{Claim, Eye, Naming};
-use edit_core::{Board, Shown};
 use mark_types::Judge;
 
 /// Looks whether the check of a claim is still wanted, and tells the place of its paragraph. It is

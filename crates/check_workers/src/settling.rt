@@ -2,22 +2,22 @@
 
 ghost use Rattle.std.specs.Prelude.{◌≡◌, ◌<◌, ◌^◌, ℕ, false, length, IfErr, IfOk, OnOk};
 ghost use Rattle.std.specs.Arc.{arc_value};
-ghost use Rattle.edit_core.specs.Runs.{Run};
-ghost use Rattle.edit_core.specs.Views.{Shows, shown_in};
+ghost use Rattle.board_share.specs.edit_core.Runs.{Run};
+ghost use Rattle.board_share.specs.edit_core.Views.{ShowsParagraph, shown_in};
 ghost use Rattle.board_share.specs.Eyes.{IsLater, last_of};
 ghost use Rattle.board_share.specs.Eyes.{CountsChecks};
 ghost use Rattle.check_workers.specs.Knowing.{KnowsBoard, KnowsClaim};
 ghost use Rattle.board_share.specs.Settled.{IsSettled};
-ghost use Rattle.check_workers.specs.Settling.{IsBoardFault, IsClosedAt, IsSettleFault};
-ghost use Rattle.check_workers.specs.Settling.{IsSettledFrom, told_at};
+ghost use Rattle.check_workers.specs.Settling.{IsBoardFault, CanFinishNoCheck, IsSettleFault};
+ghost use Rattle.check_workers.specs.Settling.{IsSettledFrom, told_of_board};
 ghost use Rattle.check_workers.specs.Showing.{is_open_in};
 
 use crate::finishing::finish_if_wanted;
 use crate::laws::known_texts_are_short;
+use board_share::edit_core::{Board, ParaView, Shown, ids_name_paragraphs};
 use board_share::{Claim, ClaimFault, Desk, Eye, Naming, Told};
-use edit_core::{Board, ParaView, Shown, ids_name_paragraphs};
-use lists::NoMemory;
 use mark_types::Judge;
+use outside::lists::NoMemory;
 use paragraph_marks::{Checked, Checking, Plain};
 use std::alloc::Global;
 use std::sync::{Arc, Wait};
@@ -34,7 +34,7 @@ pub fn settle<J: Judge + Drop, D: Naming, W: Wait + Drop>(
     ensures later { IsLater eye.old eye.new }
     ensures counts { CountsChecks eye.old eye.new }
     ensures settled { OnOk result (IsSettled eye.old eye.new) }
-    ensures told { IfOk result (λ told. told ≡ told_at (last_of eye.new.run)) }
+    ensures told { IfOk result (λ told. told ≡ told_of_board (last_of eye.new.run)) }
     ensures short { IfErr result (IsSettleFault eye.old eye.new) }
 {
     let board = eye.look()?;
@@ -80,7 +80,7 @@ fn settle_place<J: Judge + Drop, D: Naming, W: Wait + Drop>(
     requires { KnowsBoard eye.old.run board.now }
     ensures later { IsLater eye.old eye.new }
     ensures counts { CountsChecks eye.old eye.new }
-    ensures closed { OnOk result (IsClosedAt board.now place (last_of eye.new.run)) }
+    ensures closed { OnOk result (CanFinishNoCheck board.now place (last_of eye.new.run)) }
     ensures short { IfErr result (IsBoardFault board.now (last_of eye.new.run)) }
 {
     let Some(view) = board.para(place) else {
@@ -110,7 +110,7 @@ fn is_open(shown: &Shown<'_>) -> bool
 /// What is to be checked of a paragraph of a board, as a worker is told it.
 fn claim_of<J: Judge + Drop>(board: &Board<J>, view: &ParaView<'_>) -> Result<Claim<J>, NoMemory>
     ensures known { (run : Run) (place : ℕ) → KnowsBoard run board.now
-        → Shows board.now place view.now → IfOk result (KnowsClaim J.lexicon run) }
+        → ShowsParagraph board.now place view.now → IfOk result (KnowsClaim J.lexicon run) }
     ensures id { IfOk result (λ claim. claim.id ≡ view.now.id) }
     ensures rev { IfOk result (λ claim. claim.rev ≡ view.now.rev) }
     ensures dict { IfOk result (λ claim. claim.dict ≡ board.now.dict_version) }

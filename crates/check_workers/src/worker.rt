@@ -2,11 +2,11 @@
 
 ghost use Rattle.std.specs.Prelude.{◌≡◌, IfErr, IfNone, IfOk, IfSome, IsSome, OnErr, OnOk};
 ghost use Rattle.std.specs.Arc.{arc_value};
-ghost use Rattle.lists.specs.Answers.{IsDueOr};
-ghost use Rattle.edit_core.specs.Events.{AFinish};
-ghost use Rattle.edit_core.specs.Steps.{first_refusal};
-ghost use Rattle.edit_core.specs.declared.event.EventKind.TheVariants as kind;
-ghost use Rattle.edit_core.specs.declared.refusal.Refusal.TheVariants.{NoMemory as OutOfMemory};
+ghost use Rattle.outside.specs.lists.Answers.{IsDueOr};
+ghost use Rattle.board_share.specs.edit_core.Events.{AFinish};
+ghost use Rattle.board_share.specs.edit_core.Steps.{first_refusal};
+ghost use Rattle.board_share.specs.edit_core.declared.event.EventKind.TheVariants as kind;
+ghost use Rattle.board_share.specs.edit_core.declared.refusal.Refusal.TheVariants.{NoMemory as OutOfMemory};
 ghost use Rattle.board_share.specs.Events.{IsClaimFault, IsClaimed, IsPublished, NoneWaits};
 ghost use Rattle.board_share.specs.Eyes.{CountsNothing, CountsOne, IsLater, counted, last_of};
 ghost use Rattle.check_workers.specs.Ends.{IsCheckEnd, IsCutShort};
@@ -18,8 +18,8 @@ use crate::ends::CheckEnd;
 use crate::finishing::{finish_if_wanted, finish_through};
 use crate::keeping::Kept;
 use crate::laws::claims_are_known;
+use board_share::edit_core::Refusal;
 use board_share::{Claim, ClaimFault, Desk, Eye, Naming, Told};
-use edit_core::Refusal;
 use mark_types::Judge;
 use outside::Gate;
 use paragraph_marks::Checked;

@@ -9,7 +9,7 @@ use Rattle.file_loading.specs.Ends.{EndsAs, IsOrWanting, IsPut, Whole, Cut, sink
 use Rattle.file_loading.specs.Ends.{tail_of}
 use Rattle.file_loading.specs.Failures.{last_line}
 use Rattle.command_line.specs.Forms.{IsAnswerTo}
-use Rattle.file_loading.specs.Forms.{Form, IsAnswerBy, Met, is_alone}
+use Rattle.file_loading.specs.Forms.{Form, IsAnswerBy, Met, is_the_only_line}
 use Rattle.command_line.specs.declared.requests.Request.{Request}
 use Rattle.file_loading.specs.declared.ending.End.{End}
 use Rattle.file_loading.specs.declared.ending.End.TheVariants.{Failed}
@@ -101,7 +101,7 @@ five-has-cause {met = met} {before = before} {now = now} ends five = by told_is.
     by : Tells 5 ends.due → IsFive met before now
     by (inl files) = inl (ends.answer.caused.files files)
     by (inr (inl missing)) =
-        let alone : ends.text ≡ [] = ends.answer.caused.alone (ap is_alone missing) in
+        let alone : ends.text ≡ [] = ends.answer.caused.alone (ap is_the_only_line missing) in
         inr (inr (subst (λ end. Appends before now (tail_of end)) missing
         (subst (λ text. Appends before now (text ++ tail_of ends.due)) alone told_is.1)))
     by (inr (inr input)) = inr (inl (ends.answer.caused.input input))

@@ -11,9 +11,9 @@ use Rattle.line_forms.specs.Forms.{edit_form, pipe_form}
 use Rattle.team_forms.specs.Forms.{team_form}
 use Rattle.file_loading.specs.Forms.{Form, IsAnswerBy, Met}
 
-abbrev pub form_of : Option Request → Form
+abbrev pub command_form_of : Option Request → Form
 -- words of no form
-form_of None = record {
+command_form_of None = record {
   names_files = false;
   reads_input = false;
   opens_desk = false;
@@ -21,23 +21,23 @@ form_of None = record {
   whole = λ met text end. Unit {0};
 }
 -- `check AFF DIC FILE` and options
-form_of (Some (Check names workers)) = check_form names
+command_form_of (Some (Check names workers)) = check_form names
 -- `make START SIZE`
-form_of (Some (Make asked)) = make_form asked
+command_form_of (Some (Make asked)) = make_form asked
 -- `edit AFF DIC` and options
-form_of (Some (Edit names workers)) = edit_form names workers
+command_form_of (Some (Edit names workers)) = edit_form names workers
 -- `pipe AFF DIC`
-form_of (Some (Pipe names)) = pipe_form names
+command_form_of (Some (Pipe names)) = pipe_form names
 -- `team AFF DIC SCRIPT` and `--workers N`
-form_of (Some (Team names workers)) = team_form names workers
+command_form_of (Some (Team names workers)) = team_form names workers
 -- `forms AFF DIC`
-form_of (Some (Listing names)) = listing_form names
+command_form_of (Some (Listing names)) = listing_form names
 
 -- what words ask for that do without an input and without a desk
 abbrev pub without_input : Option Request → Option Request
 without_input asked =
-    if (form_of asked).reads_input || (form_of asked).opens_desk then None else asked
+    if (command_form_of asked).reads_input || (command_form_of asked).opens_desk then None else asked
 
 -- what words may be answered, by their form
 abbrev pub IsAnswerTo : Option Request → Met → List ℕ → End → Type 0
-IsAnswerTo asked met = IsAnswerBy (is_some asked) (form_of asked) met
+IsAnswerTo asked met = IsAnswerBy (is_some asked) (command_form_of asked) met

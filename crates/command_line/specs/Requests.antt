@@ -6,7 +6,7 @@ use Rattle.std.specs.Option.{option_map}
 use Rattle.std.specs.Str.{bytes_eq}
 use Rattle.text_lines.specs.Fields.{decimal_of}
 use Rattle.file_loading.specs.Operands.{DictionaryNamed}
-use Rattle.command_line.specs.Operands.{Said}
+use Rattle.command_line.specs.Operands.{OptionValues}
 use Rattle.command_line.specs.declared.requests.Request.{Request}
 use Rattle.command_line.specs.declared.requests.Request.TheVariants.{Check, Make, Edit, Listing}
 use Rattle.command_line.specs.declared.requests.Request.TheVariants.{Pipe, Team}
@@ -32,13 +32,13 @@ own_in (name ∷ own ∷ []) = if bytes_eq name (codes "--own") then Some (Some 
 own_in _ = None
 
 -- what both options say
-abbrev pub said_of : Option ℕ → Option (Option (List ℕ)) → Option Said
+abbrev pub said_of : Option ℕ → Option (Option (List ℕ)) → Option OptionValues
 said_of (Some workers) (Some own) = Some (record { workers = workers; own = own })
 said_of _ _ = None
 
 -- the options that these words are: `--workers N`, or nothing for no workers, and behind it
 -- `--own OWN`, or nothing
-abbrev pub options_in : List (List ℕ) → Option Said
+abbrev pub options_in : List (List ℕ) → Option OptionValues
 options_in (name ∷ number ∷ more) =
     if bytes_eq name (codes "--workers") then said_of (workers_in number) (own_in more)
     else said_of (Some 0) (own_in (name ∷ number ∷ more))
@@ -54,14 +54,14 @@ only_workers_in _ = None
 -- ---- the forms of words
 
 -- the files of a dictionary, with the personal list that options name
-abbrev pub named : List ℕ → List ℕ → Said → DictionaryNamed
-named aff dic said = record { aff = aff; dic = dic; own = said.own }
+abbrev pub dictionary_named : List ℕ → List ℕ → OptionValues → DictionaryNamed
+dictionary_named aff dic said = record { aff = aff; dic = dic; own = said.own }
 
 -- `check AFF DIC FILE` and options
 abbrev pub check_in : List (List ℕ) → Option Request
 check_in (aff ∷ dic ∷ document ∷ options) =
     option_map
-    (λ said. Check (record { dictionary = named aff dic said; document = document }) said.workers)
+    (λ said. Check (record { dictionary = dictionary_named aff dic said; document = document }) said.workers)
     (options_in options)
 check_in _ = None
 
@@ -74,7 +74,7 @@ make_in _ = None
 -- `edit AFF DIC` and options
 abbrev pub edit_in : List (List ℕ) → Option Request
 edit_in (aff ∷ dic ∷ options) =
-    option_map (λ said. Edit (named aff dic said) said.workers) (options_in options)
+    option_map (λ said. Edit (dictionary_named aff dic said) said.workers) (options_in options)
 edit_in _ = None
 
 -- `forms AFF DIC`

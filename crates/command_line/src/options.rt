@@ -3,7 +3,8 @@
 ghost use Rattle.std.specs.Prelude.{◌≡◌, map};
 ghost use Rattle.std.specs.Option.{option_copied, option_map};
 ghost use Rattle.std.specs.String.{string_bytes};
-ghost use Rattle.command_line.specs.Requests.{named, only_workers_in, options_in, own_in};
+ghost use Rattle.command_line.specs.Requests.{dictionary_named, only_workers_in, options_in};
+ghost use Rattle.command_line.specs.Requests.{own_in};
 ghost use Rattle.command_line.specs.Requests.{workers_in};
 
 use file_loading::{DictionaryNames, Workers};
@@ -12,17 +13,17 @@ use text_lines::decimal;
 
 /// What options say. Contracts see it.
 #[derive(Drop)]
-pub struct Options<'a> {
+pub struct CommandOptions<'a> {
     pub workers: Workers,
     /// The personal list that is named, if one is.
     pub own: Option<&'a str>,
 }
 
-impl<'a> Model for Options<'a> {
+impl<'a> Model for CommandOptions<'a> {
     ghost use Rattle.std.specs.Option.{option_copied};
-    ghost use Rattle.command_line.specs.Operands.{Said};
+    ghost use Rattle.command_line.specs.Operands.{OptionValues};
 
-    ghost Value = { Said };
+    ghost Value = { OptionValues };
 
     ghost view = { λ inside.
         record { workers = inside.workers; own = option_copied inside.own } };
@@ -30,18 +31,18 @@ impl<'a> Model for Options<'a> {
 
 /// What these words say as options: `--workers N`, or nothing for no workers, and then `--own OWN`,
 /// or nothing.
-pub fn options_of(words: &[String]) -> Option<Options<'_>>
+pub fn options_of(words: &[String]) -> Option<CommandOptions<'_>>
     ensures { result ≡ options_in (map string_bytes words.now) }
 {
     match words {
         [name, number, more @ ..] if name.as_str() == "--workers" => {
             let workers = workers_of(number.as_str())?;
             let own = own_of(more)?;
-            Some(Options { workers, own })
+            Some(CommandOptions { workers, own })
         }
         _ => {
             let own = own_of(words)?;
-            Some(Options {
+            Some(CommandOptions {
                 workers: Workers::none(),
                 own,
             })
@@ -85,8 +86,8 @@ fn own_of(words: &[String]) -> Option<Option<&str>>
 }
 
 /// The names of a dictionary's files, with the personal list that these options name.
-pub fn named<'a>(aff: &'a str, dic: &'a str, options: &Options<'a>) -> DictionaryNames<'a>
-    ensures { result ≡ named aff.now dic.now options.now }
+pub fn named<'a>(aff: &'a str, dic: &'a str, options: &CommandOptions<'a>) -> DictionaryNames<'a>
+    ensures { result ≡ dictionary_named aff.now dic.now options.now }
 {
     DictionaryNames {
         aff,

@@ -7,7 +7,7 @@ ghost use Rattle.outside.specs.Sink.{Appends};
 ghost use Rattle.input_lines.specs.Ends.{Reading};
 ghost use Rattle.file_loading.specs.Ends.{EndsAs, sink_status};
 ghost use Rattle.file_loading.specs.Failures.{last_line};
-ghost use Rattle.command_line.specs.Forms.{IsAnswerTo, form_of, without_input};
+ghost use Rattle.command_line.specs.Forms.{IsAnswerTo, command_form_of, without_input};
 ghost use Rattle.file_loading.specs.Forms.{IsClosedAfter, IsUntouched, Met};
 ghost use Rattle.command_line.specs.Requests.{asked_in};
 ghost use Rattle.file_loading.specs.declared.failure.Failure.TheVariants.{Load};
@@ -27,7 +27,7 @@ use std::sync::Wait;
 use std::thread::Threads;
 use team_forms::team::team;
 use word_verdict::Speller;
-use worker_crew::Place;
+use worker_crew::Workplace;
 
 /// Does what the words ask for, and tells how it ended. `words` are the arguments without the
 /// program's name; everything that is printed goes to `out`. Each check of a worker passes the gate.
@@ -64,7 +64,7 @@ where
     // If the sink does not fail, the answer is whole as the form of the words says: where nothing
     // else fails and no limit is passed, all is printed, or memory was wanting.
     ensures complete { K.Sink.faults out.new ≡ K.Sink.faults out.old
-        → EndsAs ((form_of (asked_in (map string_bytes words.now))).whole (record {
+        → EndsAs ((command_form_of (asked_in (map string_bytes words.now))).whole (record {
           folder = F.told files.old;
           files_before = F.Files.faults files.old;
           files_after = F.Files.faults files.new;
@@ -78,7 +78,7 @@ where
         })) ⊥ (K.written out.old) (K.written out.new) result.status }
 
     // The history of a desk is told exactly where the words open one and the status is 0.
-    ensures closed { IsClosedAfter (form_of (asked_in (map string_bytes words.now))).opens_desk
+    ensures closed { IsClosedAfter (command_form_of (asked_in (map string_bytes words.now))).opens_desk
         result.status result.closed }
 
     // What a reader may take from these alone, whatever is told.
@@ -94,13 +94,13 @@ where
     ensures files_count { F.Files.faults files.old ≤ F.Files.faults files.new }
     ensures sink_count { K.Sink.faults out.old ≤ K.Sink.faults out.new }
 {
-    let place = Place { rt, alloc, gate };
+    let place = Workplace { rt, alloc, gate };
     answer(&place, request_of(words), files, input, out)
 }
 
 /// Does what a request asks for, and answers 2 where words ask for nothing.
 fn answer<R, F, S, K, G>(
-    place: &Place<'_, R, G>,
+    place: &Workplace<'_, R, G>,
     request: Option<Request<'_>>,
     files: &mut F,
     input: &mut S,
@@ -126,7 +126,7 @@ where
     })) (K.Sink.faults out.old < K.Sink.faults out.new) (K.written out.old) (K.written out.new)
         result.status }
     ensures complete { K.Sink.faults out.new ≡ K.Sink.faults out.old
-        → EndsAs ((form_of request.entry).whole (record {
+        → EndsAs ((command_form_of request.entry).whole (record {
           folder = F.told files.old;
           files_before = F.Files.faults files.old;
           files_after = F.Files.faults files.new;
@@ -138,7 +138,7 @@ where
           };
           closed = result.closed;
         })) ⊥ (K.written out.old) (K.written out.new) result.status }
-    ensures closed { IsClosedAfter (form_of request.entry).opens_desk result.status result.closed }
+    ensures closed { IsClosedAfter (command_form_of request.entry).opens_desk result.status result.closed }
     ensures same { F.told files.new ≡ F.told files.old }
     ensures input_count { S.Source.faults input.old ≤ S.Source.faults input.new }
     ensures files_count { F.Files.faults files.old ≤ F.Files.faults files.new }
@@ -188,7 +188,7 @@ where
 
     // If the sink does not fail, the answer is whole as the form of the words says.
     ensures complete { K.faults out.new ≡ K.faults out.old
-        → EndsAs ((form_of (without_input (asked_in (map string_bytes words.now)))).whole (record {
+        → EndsAs ((command_form_of (without_input (asked_in (map string_bytes words.now)))).whole (record {
           folder = F.told files.old;
           files_before = F.faults files.old;
           files_after = F.faults files.new;
@@ -229,7 +229,7 @@ fn answer_unread<R: Threads + Sync, F: Files, K: Sink>(
           closed = None;
         })) (K.faults out.old < K.faults out.new) (K.written out.old) (K.written out.new) result }
     ensures complete { (reading : Reading) → K.faults out.new ≡ K.faults out.old
-        → EndsAs ((form_of (without_input request.entry)).whole (record {
+        → EndsAs ((command_form_of (without_input request.entry)).whole (record {
           folder = F.told files.old;
           files_before = F.faults files.old;
           files_after = F.faults files.new;
@@ -263,7 +263,7 @@ fn tell_words<K: Sink>(alloc: Global, out: &mut K) -> u8
           closed = None;
         })) (K.faults out.old < K.faults out.new) (K.written out.old) (K.written out.new) result }
     ensures complete { (met : Met) → K.faults out.new ≡ K.faults out.old
-        → EndsAs ((form_of None).whole met) ⊥ (K.written out.old) (K.written out.new) result }
+        → EndsAs ((command_form_of None).whole met) ⊥ (K.written out.old) (K.written out.new) result }
     ensures sink_count { K.faults out.old ≤ K.faults out.new }
 {
     put_end(alloc, out, End::Failed(Failure::Words))

@@ -12,7 +12,8 @@ use Rattle.spell_types.specs.declared.patterns.PatternStep.{PatternStep}
 use Rattle.compound_pattern.specs.declared.reading.PatternFault.{PatternFault}
 use Rattle.compound_pattern.specs.declared.reading.PatternFault.TheVariants.{BadPattern, BadFlag}
 use Rattle.compound_pattern.specs.PatternTexts.{Item, flag_text, step_of, IsWrittenBy, ReadsPattern}
-use Rattle.compound_pattern.specs.PatternTexts.{HasBadFlag, items_of, with_first, steps_of, rule_of}
+use Rattle.compound_pattern.specs.PatternTexts.{HasBadFlag, pattern_items_of, with_first, steps_of}
+use Rattle.compound_pattern.specs.PatternTexts.{rule_of_items}
 use Rattle.compound_pattern.specs.PatternTexts.{pattern_of}
 use Rattle.compound_pattern.proofs.ItemLemmas.{items_of-nil, items_of-written, written-items_of}
 use Rattle.compound_pattern.proofs.ItemLemmas.{some_items}
@@ -32,11 +33,11 @@ map-steps_of kind (item ∷ more) (step ∷ steps) each =
 -- ---- what the items of a text are told to be
 -- a text of these items
 told-items : (kind : FlagKind) (text : List ℕ) (items : List Item) → IsWrittenBy kind text items
-    → items_of kind (chars text) ≡ Some items
-told-items kind text items is = ap (items_of kind) is.joined ∙ items_of-written kind items is.right
+    → pattern_items_of kind (chars text) ≡ Some items
+told-items kind text items is = ap (pattern_items_of kind) is.joined ∙ items_of-written kind items is.right
 
 rule_of-some : (kind : FlagKind) (items : List Item) → 0 < length items
-    → rule_of kind (Some items) ≡ ok_or (steps_of kind items) BadFlag
+    → rule_of_items kind (Some items) ≡ ok_or (steps_of kind items) BadFlag
 rule_of-some kind [] some = absurd (omega (arith, some))
 rule_of-some kind (item ∷ more) some = refl
 
@@ -44,7 +45,7 @@ told : (kind : FlagKind) (text : List ℕ) (items : List Item) → IsWrittenBy k
     → pattern_of kind text ≡ ok_or (steps_of kind items) BadFlag
 unfolding pattern_of
 told kind text items is =
-    ap (rule_of kind) (told-items kind text items is) ∙ rule_of-some kind items is.some
+    ap (rule_of_items kind) (told-items kind text items is) ∙ rule_of-some kind items is.some
 
 -- what the steps of items come to
 data Come (kind : FlagKind) (items : List Item) : Type 0 where
@@ -91,11 +92,11 @@ data Written (kind : FlagKind) (text : List ℕ) : Type 0 where
 
 written_or_not : (kind : FlagKind) (text : List ℕ) → Written kind text
 unfolding pattern_of
-written_or_not kind text = by (items_of kind (chars text)) refl
+written_or_not kind text = by (pattern_items_of kind (chars text)) refl
   where
-    by : (o : Option (List Item)) → items_of kind (chars text) ≡ o → Written kind text
-    by None is = by_none (ap (rule_of kind) is)
-    by (Some []) is = by_none (ap (rule_of kind) is)
+    by : (o : Option (List Item)) → pattern_items_of kind (chars text) ≡ o → Written kind text
+    by None is = by_none (ap (rule_of_items kind) is)
+    by (Some []) is = by_none (ap (rule_of_items kind) is)
     by (Some (item ∷ more)) is =
         let parts = written-items_of kind (item ∷ more) (chars text) is in
         by_items (item ∷ more) (record { some = omega arith; right = parts.1; joined = parts.0 })
@@ -199,16 +200,16 @@ begins_some text utf8 some = by (chars text) refl
     by (c ∷ rest) is = (c, rest, is)
 
 pub told-first : (kind : FlagKind) (text : List ℕ) → IsUtf8 text → 0 < length text
-    → told_after kind true [] (items_of kind (chars text)) ≡ pattern_of kind text
+    → told_after kind true [] (pattern_items_of kind (chars text)) ≡ pattern_of kind text
 unfolding pattern_of
-told-first kind text utf8 some = by (items_of kind (chars text)) refl
+told-first kind text utf8 some = by (pattern_items_of kind (chars text)) refl
   where
-    by : (o : Option (List Item)) → items_of kind (chars text) ≡ o
-        → told_after kind true [] o ≡ rule_of kind o
+    by : (o : Option (List Item)) → pattern_items_of kind (chars text) ≡ o
+        → told_after kind true [] o ≡ rule_of_items kind o
     by None is = refl
     by (Some []) is =
         let begins = begins_some text utf8 some in
-        absurd (some_items kind begins.0 begins.1 (ap (items_of kind) (sym begins.2) ∙ is))
+        absurd (some_items kind begins.0 begins.1 (ap (pattern_items_of kind) (sym begins.2) ∙ is))
     by (Some (item ∷ more)) is = same (steps_of kind (item ∷ more))
       where
         same : (o : Option (List PatternStep)) → ok_or (option_map (λ steps. [] ++ steps) o) BadFlag
@@ -219,7 +220,7 @@ told-first kind text utf8 some = by (items_of kind (chars text)) refl
 -- nothing is left
 pub told-last : (kind : FlagKind) (are_flags : Bool) (made : List PatternStep) (text rest : List ℕ)
     → length rest ≡ 0
-    → told_after kind are_flags made (items_of kind (chars rest)) ≡ pattern_of kind text
+    → told_after kind are_flags made (pattern_items_of kind (chars rest)) ≡ pattern_of kind text
     → pattern_of kind text ≡ cond are_flags (Ok made) (Err BadFlag)
 unfolding chars
 told-last kind are_flags made text [] none so_far =
@@ -234,5 +235,5 @@ told-last kind are_flags made text (b ∷ rest) none so_far = absurd (omega (ari
 pub told-empty : (kind : FlagKind) (text : List ℕ) → length text ≡ 0
     → pattern_of kind text ≡ Err BadPattern
 unfolding pattern_of chars
-told-empty kind [] none = ap (rule_of kind) (items_of-nil kind)
+told-empty kind [] none = ap (rule_of_items kind) (items_of-nil kind)
 told-empty kind (b ∷ text) none = absurd (omega (arith, none))

@@ -15,25 +15,29 @@ use Rattle.flag_sets.specs.FlagTexts.{one_flag}
 use Rattle.spell_types.specs.declared.flags.FlagKind.{FlagKind}
 use Rattle.spell_types.specs.declared.patterns.PatternStep.{PatternStep}
 use Rattle.spell_types.specs.declared.patterns.Times.{Times}
-use Rattle.compound_pattern.specs.PatternTexts.{opens, closes, WrittenFlag, enclosed, bare}
+use Rattle.compound_pattern.specs.PatternTexts.{opens_flag, closes_flag, WrittenFlag, enclosed}
+use Rattle.compound_pattern.specs.PatternTexts.{bare}
 use Rattle.compound_pattern.specs.PatternTexts.{flag_text, written_flag, is_bare_flag}
 use Rattle.compound_pattern.specs.PatternTexts.{is_right_form, sign, Item, step_of, enclosed_flag}
-use Rattle.compound_pattern.specs.PatternTexts.{times_before, followed_by, items_of, BeginsWith}
+use Rattle.compound_pattern.specs.PatternTexts.{times_before, followed_by, pattern_items_of}
+use Rattle.compound_pattern.specs.PatternTexts.{BeginsWithFlag}
 use Rattle.compound_pattern.proofs.ItemLemmas.{item_of, items_of-none, items_of-item}
 
 -- ---- a flag in parentheses
-none-closes : (text : List ℕ) → NonePass closes text → list_all (λ c. not (closes c)) text ≡ true
+none-closes : (text : List ℕ) → NonePass closes_flag text
+    → list_all (λ c. not (closes_flag c)) text ≡ true
 none-closes [] none = refl
 none-closes (c ∷ text) none =
-    ap (λ b. not b && list_all (λ c. not (closes c)) text) none.0 ∙ none-closes text none.1
+    ap (λ b. not b && list_all (λ c. not (closes_flag c)) text) none.0 ∙ none-closes text none.1
 
-never_closed : (text : List ℕ) → NonePass closes text → position_or_len closes text ≡ length text
+never_closed : (text : List ℕ) → NonePass closes_flag text
+    → position_or_len closes_flag text ≡ length text
 never_closed [] none = refl
 never_closed (c ∷ text) none =
-    ap (λ b. cond (not b) (1 + position_or_len closes text) 0) none.0
+    ap (λ b. cond (not b) (1 + position_or_len closes_flag text) 0) none.0
     ∙ omega (arith, never_closed text none.1)
 
-position-unclosed : (text : List ℕ) → NonePass closes text → position closes text ≡ None
+position-unclosed : (text : List ℕ) → NonePass closes_flag text → position closes_flag text ≡ None
 position-unclosed text none =
     let no_shorter : nat_lt (length text) (length text) ≡ false = le-ltb _ _ (omega arith) in
     ap (λ n. cond (nat_lt n (length text)) (Some n) None) (never_closed text none)
@@ -47,13 +51,13 @@ chars-close (b ∷ rest) = refl
 -- what `split_once` tells of a text behind an opening parenthesis
 pub begins_enclosed : (kind : FlagKind) (text behind : List ℕ)
     (r : Option (Bor (List ℕ) × Bor (List ℕ))) → IsUtf8 behind → chars text ≡ 40 ∷ chars behind
-    → IsSplitOnceResult 41 behind r → BeginsWith kind text r
+    → IsSplitOnceResult 41 behind r → BeginsWithFlag kind text r
 begins_enclosed kind text behind None utf8 begins (cs, encoded, none) =
     let same : cs ≡ chars behind = chars_from_encodes cs behind utf8 encoded in
-    ap (items_of kind) begins
+    ap (pattern_items_of kind) begins
     ∙ items_of-none kind 40 (chars behind)
     (ap (option_map (λ place. (enclosed (take place (chars behind)), place + 1)))
-    (position-unclosed (chars behind) (subst (NonePass closes) same none)))
+    (position-unclosed (chars behind) (subst (NonePass closes_flag) same none)))
 begins_enclosed kind text behind (Some (own, rest)) utf8 begins split =
     let i = split.0 in
     let found = split.2.0 in
@@ -73,7 +77,7 @@ begins_enclosed kind text behind (Some (own, rest)) utf8 begins split =
     chars_from_encodes found.0 own.now own_utf8 (found.1 ∙ sym split.3) in (
       enclosed (chars own.now),
       sym (encodes-chars own.now own_utf8),
-      none-closes (chars own.now) (subst (NonePass closes) same found.2),
+      none-closes (chars own.now) (subst (NonePass closes_flag) same found.2),
       begins
           ∙ ap (λ xs. 40 ∷ chars xs) parts
           ∙ ap (λ xs. 40 ∷ xs)
@@ -83,7 +87,8 @@ begins_enclosed kind text behind (Some (own, rest)) utf8 begins split =
     )
 
 -- ---- a flag without parentheses
-pub begins_bare : (kind : FlagKind) (text own rest behind : List ℕ) (c count : ℕ) → opens c ≡ false
+pub begins_bare : (kind : FlagKind) (text own rest behind : List ℕ) (c count : ℕ)
+    → opens_flag c ≡ false
     → is_bare_flag kind c ≡ true → chars text ≡ c ∷ chars behind
     → text ≡ encode_utf8 c ++ behind → count ≡ length (encode_utf8 c) → own ≡ take count text
     → rest ≡ drop count text
@@ -101,11 +106,11 @@ begins_bare kind text own rest behind c count no_mark is begins parts count_is o
           ∙ ap (λ xs. c ∷ chars xs) (sym back),
     )
 
-pub begins_none : (kind : FlagKind) (text behind : List ℕ) (c : ℕ) → opens c ≡ false
+pub begins_none : (kind : FlagKind) (text behind : List ℕ) (c : ℕ) → opens_flag c ≡ false
     → is_bare_flag kind c ≡ false → chars text ≡ c ∷ chars behind
-    → items_of kind (chars text) ≡ None
+    → pattern_items_of kind (chars text) ≡ None
 begins_none kind text behind c no_mark isnt begins =
-    ap (items_of kind) begins
+    ap (pattern_items_of kind) begins
     ∙ items_of-none kind c (chars behind)
     (ap (λ b. cond b (enclosed_flag (chars behind))
     (cond {A = Option (WrittenFlag × ℕ)} (is_bare_flag kind c) (Some (bare c, 0)) None)) no_mark
@@ -125,13 +130,13 @@ pub goes_on : (kind : FlagKind) (text own behind rest : List ℕ) (times : Times
     → times ≡ times_before (chars behind) → chars behind ≡ sign times ++ chars rest
     → step ≡ option_map (λ f. record { flag = f; times = times }) (one_flag kind own)
     → (item : Item) × (step ≡ step_of kind item)
-    × (items_of kind (chars text) ≡ followed_by item (items_of kind (chars rest)))
+    × (pattern_items_of kind (chars text) ≡ followed_by item (pattern_items_of kind (chars rest)))
 goes_on kind text own behind rest times step (flag, own_is, right, parts) times_is behind_is
     step_is = (
       item_of flag times,
       step_is ∙ ap (λ xs. option_map (λ f. record { flag = f; times = times }) (one_flag kind xs))
           own_is,
-      ap (items_of kind) (parts ∙ ap (λ xs. written_flag flag ++ xs) behind_is)
+      ap (pattern_items_of kind) (parts ∙ ap (λ xs. written_flag flag ++ xs) behind_is)
           ∙ items_of-item kind flag times (chars rest) right
           (ap times_before (sym behind_is) ∙ sym times_is),
     )

@@ -16,12 +16,12 @@ use Rattle.compound_pattern.specs.declared.reading.PatternFault.{PatternFault}
 use Rattle.compound_pattern.specs.declared.reading.PatternFault.TheVariants.{BadPattern, BadFlag}
 
 -- `(`
-abbrev pub opens : ℕ → Bool
-opens c = c == 40
+abbrev pub opens_flag : ℕ → Bool
+opens_flag c = c == 40
 
 -- `)`
-abbrev pub closes : ℕ → Bool
-closes c = c == 41
+abbrev pub closes_flag : ℕ → Bool
+closes_flag c = c == 41
 
 -- `*`
 abbrev pub is_star : ℕ → Bool
@@ -57,11 +57,11 @@ may_be_bare Num = false
 -- whether a character is a flag without parentheses
 abbrev pub is_bare_flag : FlagKind → ℕ → Bool
 is_bare_flag kind c =
-    may_be_bare kind && not (opens c || (closes c || (is_star c || is_question_mark c)))
+    may_be_bare kind && not (opens_flag c || (closes_flag c || (is_star c || is_question_mark c)))
 
 -- whether a flag of this type may be written so: the first `)` closes the parentheses
 abbrev pub is_right_form : FlagKind → WrittenFlag → Bool
-is_right_form kind (enclosed text) = list_all (λ c. not (closes c)) text
+is_right_form kind (enclosed text) = list_all (λ c. not (closes_flag c)) text
 is_right_form kind (bare c) = is_bare_flag kind c
 
 -- the sign behind a flag
@@ -76,8 +76,8 @@ pub record Item : Type 0 where
   pub times : Times
 
 -- the characters that write the item
-abbrev pub written : Item → List ℕ
-written item = written_flag item.flag ++ sign item.times
+abbrev pub written_item : Item → List ℕ
+written_item item = written_flag item.flag ++ sign item.times
 
 -- the step that an item is, if its text is one flag
 abbrev pub step_of : FlagKind → Item → Option PatternStep
@@ -90,7 +90,7 @@ step_of kind item =
 pub record IsWrittenBy (kind : FlagKind) (text : List ℕ) (items : List Item) : Type 0 where
   pub some : 0 < length items
   pub right : AllByRecursion (λ item. is_right_form kind item.flag ≡ true) items
-  pub joined : chars text ≡ flat_map written items
+  pub joined : chars text ≡ flat_map written_item items
 
 -- A text is a rule of these steps: items write it, and each of them is the step at its place.
 pub record ReadsPattern (kind : FlagKind) (text : List ℕ) (steps : List PatternStep) : Type 0 where
@@ -113,13 +113,13 @@ pub record HasBadFlag (kind : FlagKind) (text : List ℕ) : Type 0 where
 -- first `)`, and that one
 abbrev pub enclosed_flag : List ℕ → Option (WrittenFlag × ℕ)
 enclosed_flag behind =
-    option_map (λ place. (enclosed (take place behind), place + 1)) (position closes behind)
+    option_map (λ place. (enclosed (take place behind), place + 1)) (position closes_flag behind)
 
 -- the flag that begins with a character, and how many of the characters behind that one write it
 -- too
 abbrev pub first_flag : FlagKind → ℕ → List ℕ → Option (WrittenFlag × ℕ)
 first_flag kind c behind =
-    if opens c then enclosed_flag behind
+    if opens_flag c then enclosed_flag behind
     else (if is_bare_flag kind c then Some (bare c, 0) else None)
 
 -- how many parts a flag stands for that stands before these characters
@@ -152,8 +152,8 @@ items_behind kind zero (c ∷ text) =
     (first_item kind c text)
 
 -- the items that characters write, from their front to their end
-unfoldable pub items_of : FlagKind → List ℕ → Option (List Item)
-items_of kind text = items_behind kind 0 text
+unfoldable pub pattern_items_of : FlagKind → List ℕ → Option (List Item)
+pattern_items_of kind text = items_behind kind 0 text
 
 -- a step before the others, if there are others
 abbrev pub with_first : PatternStep → Option (List PatternStep) → Option (List PatternStep)
@@ -166,29 +166,30 @@ steps_of kind (item ∷ more) =
     option_and_then (λ step. with_first step (steps_of kind more)) (step_of kind item)
 
 -- the rule that items are, if there are any
-abbrev pub rule_of : FlagKind → Option (List Item) → Result (List PatternStep) PatternFault
-rule_of kind None = Err BadPattern
-rule_of kind (Some []) = Err BadPattern
-rule_of kind (Some (item ∷ more)) = ok_or (steps_of kind (item ∷ more)) BadFlag
+abbrev pub rule_of_items : FlagKind → Option (List Item) → Result (List PatternStep) PatternFault
+rule_of_items kind None = Err BadPattern
+rule_of_items kind (Some []) = Err BadPattern
+rule_of_items kind (Some (item ∷ more)) = ok_or (steps_of kind (item ∷ more)) BadFlag
 
 -- The rule that a text is, or the fault: what no items write goes before a text that is no flag.
 unfoldable pub pattern_of : FlagKind → List ℕ → Result (List PatternStep) PatternFault
-pattern_of kind text = rule_of kind (items_of kind (chars text))
+pattern_of kind text = rule_of_items kind (pattern_items_of kind (chars text))
 
 -- ---- how a reader goes on in a text
 -- no flag begins the text, or this is the own text of one that does, and this is what stands behind
 -- it
-abbrev pub BeginsWith : FlagKind → List ℕ → Option (Bor (List ℕ) × Bor (List ℕ)) → Type 0
-BeginsWith kind text None = items_of kind (chars text) ≡ None
-BeginsWith kind text (Some (own, rest)) =
+abbrev pub BeginsWithFlag : FlagKind → List ℕ → Option (Bor (List ℕ) × Bor (List ℕ)) → Type 0
+BeginsWithFlag kind text None = pattern_items_of kind (chars text) ≡ None
+BeginsWithFlag kind text (Some (own, rest)) =
     (flag : WrittenFlag) × (own.now ≡ encode_utf8_all (flag_text flag))
     × (is_right_form kind flag ≡ true)
     × (chars text ≡ written_flag flag ++ chars rest.now)
 
 -- no item begins the text, or this is the step of one that does, and the others are those of this
 -- rest
-abbrev pub GoesOn : FlagKind → List ℕ → Option (Option PatternStep × Bor (List ℕ)) → Type 0
-GoesOn kind text None = items_of kind (chars text) ≡ None
-GoesOn kind text (Some (step, rest)) =
+abbrev pub PatternTextGoesOn : FlagKind → List ℕ → Option (Option PatternStep × Bor (List ℕ))
+    → Type 0
+PatternTextGoesOn kind text None = pattern_items_of kind (chars text) ≡ None
+PatternTextGoesOn kind text (Some (step, rest)) =
     (item : Item) × (step ≡ step_of kind item)
-    × (items_of kind (chars text) ≡ followed_by item (items_of kind (chars rest.now)))
+    × (pattern_items_of kind (chars text) ≡ followed_by item (pattern_items_of kind (chars rest.now)))

@@ -9,11 +9,12 @@ ghost use Rattle.spell_types.specs.declared.flags.FlagKind.{FlagKind};
 ghost use Rattle.spell_types.specs.declared.patterns.PatternStep.{PatternStep};
 ghost use Rattle.spell_types.specs.Flags.{IsOrdinary};
 ghost use Rattle.compound_pattern.specs.PatternTexts.{Item, IsWrittenBy, ReadsPattern, HasBadFlag};
-ghost use Rattle.compound_pattern.specs.PatternTexts.{BeginsWith, GoesOn, is_bare_flag};
+ghost use Rattle.compound_pattern.specs.PatternTexts.{BeginsWithFlag, PatternTextGoesOn};
+ghost use Rattle.compound_pattern.specs.PatternTexts.{is_bare_flag};
 ghost use Rattle.compound_pattern.specs.PatternTexts.{times_before, sign, pattern_of};
 
 use flag_sets::read_one_flag;
-use lists::{Items, NoMemory};
+use spell_types::lists::{Items, NoMemory};
 use spell_types::{FlagKind, Pattern, PatternStep, Times};
 use std::alloc::Global;
 
@@ -87,7 +88,7 @@ pub fn patterns_are_read()
 /// where no item begins the text.
 fn next_step(kind: FlagKind, text: &str) -> Option<(Option<PatternStep>, &str)>
     requires { 0 < length text.now }
-    ensures goes_on { GoesOn kind text.now result }
+    ensures goes_on { PatternTextGoesOn kind text.now result }
     ensures shorter { IfSome result (λ found. length found.1.now < length text.now) }
     ensures ordinary { IfSome result (λ found. IfSome found.0 (λ step. IsOrdinary step.flag)) }
 {
@@ -100,7 +101,7 @@ fn next_step(kind: FlagKind, text: &str) -> Option<(Option<PatternStep>, &str)>
 /// The own text of the flag that begins a text, and the text behind the flag.
 fn first_flag(kind: FlagKind, text: &str) -> Option<(&str, &str)>
     requires { 0 < length text.now }
-    ensures begins { BeginsWith kind text.now result }
+    ensures begins { BeginsWithFlag kind text.now result }
     ensures shorter { IfSome result (λ found. length found.1.now < length text.now) }
 {
     let (first, behind) = next_character(text)?;

@@ -5,7 +5,7 @@ ghost use Rattle.spell_types.specs.declared.flags.Flag.{Flag};
 ghost use Rattle.spell_types.specs.Patterns.{fits_step, matches};
 ghost use Rattle.compound_pattern.specs.States.{match_from, AreAfter};
 
-use lists::{Copied, NoMemory};
+use spell_types::lists::{Copied, NoMemory};
 use spell_types::{FlagSet, Pattern, PatternStep, patterns_match};
 use std::alloc::Global;
 use std::marker::Model;

@@ -18,13 +18,14 @@ use Rattle.spell_types.specs.declared.patterns.PatternStep.{PatternStep}
 use Rattle.spell_types.specs.Compounds.{Asked, are_joined, stretch, written, all_stand, may_end}
 use Rattle.spell_types.specs.JointLaws.{nat-own, nat-same}
 use Rattle.spell_types.specs.Patterns.{MatchesOneByOne}
-use Rattle.lists.specs.Laws.{each-append, each-front}
+use Rattle.spell_types.specs.lists.Laws.{each-append, each-front}
 use Rattle.compound_words.specs.declared.rests.Behind.{Behind}
 use Rattle.compound_words.specs.declared.rests.FirstPart.{FirstPart}
 use Rattle.compound_words.specs.Counting.{fewest, IsFewest, OneOf}
 use Rattle.compound_words.specs.Rests.{is_enough, stand_from, Way, ByFlags, ByRule, matches_from}
-use Rattle.compound_words.specs.Rests.{holds, AreRest, Leads, Follows, count_of, IsRight, HasPart}
-use Rattle.compound_words.specs.Rests.{IsRow, IsMade, IsAdded, IsAddedOnce, Known, New, Grows}
+use Rattle.compound_words.specs.Rests.{holds, AreRest, Leads, HasPartsBehind, count_of, IsRight}
+use Rattle.compound_words.specs.Rests.{HasPart}
+use Rattle.compound_words.specs.Rests.{IsRow, IsMade, IsRowAdded, IsAddedOnce, Known, New, Grows}
 use Rattle.compound_words.specs.Rests.{HasFirsts, IsFrontOf, Piece, rests_at, may_precede}
 use Rattle.compound_words.specs.Rests.{number_before, number_behind, number_at_end, number_with}
 use Rattle.compound_words.specs.Pieces.{AreParts, EndsBefore, IsGivenAs, is_cut_by, may_begin}
@@ -91,7 +92,7 @@ pub record IsGrown (a : Asked) (rules : List (List PatternStep)) (here : Place) 
 added-grown : MatchesOneByOne → (a : Asked) (rules : List (List PatternStep))
     (here place : Place) (text : List ℕ) (part : Part) (behind : Behind)
     (before now : List FirstPart)
-    → IsBefore a rules here place text part behind → IsAdded a rules place part behind before now
+    → IsBefore a rules here place text part behind → IsRowAdded a rules place part behind before now
     → IsGrown a rules here text part before now
 added-grown law a rules here place text part behind before now is added =
     by added.made added.is added.added
@@ -247,7 +248,7 @@ pub last-before : (a : Asked) (rules : List (List PatternStep)) {text : List ℕ
 last-before a rules {text} {part} behind before given ends end = record {
   stands = λ stands more rest. by stands more (alone a before text part more given rest);
   fewest =
-      λ way. subst (IsFewest (Follows a text (holds a rules Middle way) part)) (sym (number way))
+      λ way. subst (IsFewest (HasPartsBehind a text (holds a rules Middle way) part)) (sym (number way))
       (fewest way);
   bound = λ more rest. few more (alone a before text part more given rest);
 }
@@ -281,13 +282,13 @@ last-before a rules {text} {part} behind before given ends end = record {
           ends = ends;
         }
 
-    fewest : (way : Way) → IsFewest (Follows a text (holds a rules Middle way) part)
+    fewest : (way : Way) → IsFewest (HasPartsBehind a text (holds a rules Middle way) part)
         (number_at_end rules way)
     fewest ByFlags = (record { more = []; rest = rest; so = refl; long = refl }, λ n f. omega arith)
     fewest (ByRule rule step) = one (matches_from rules rule step []) refl
       where
         one : (b : Bool) → matches_from rules rule step [] ≡ b
-            → IsFewest (Follows a text (holds a rules Middle (ByRule rule step)) part)
+            → IsFewest (HasPartsBehind a text (holds a rules Middle (ByRule rule step)) part)
             (cond b (Some 0) None)
         one true is = (record { more = []; rest = rest; so = is; long = refl }, λ n f. omega arith)
         one false is = λ n f. never f.more (alone a before text part f.more given f.rest) f.so
@@ -396,7 +397,7 @@ inner-before {a} {rules} {here} piece {part} {behind} {rests} given first row so
   stands =
       λ stands more rest. by stands more (behind-first a text front part more given.writes rest);
   fewest =
-      λ way. subst (IsFewest (Follows a (front ++ text) (holds a rules Middle way) part))
+      λ way. subst (IsFewest (HasPartsBehind a (front ++ text) (holds a rules Middle way) part))
       (sym (number way)) (fewest-of way);
   bound = λ more rest.
       let long = count-within a more rest.given.1 in
@@ -434,11 +435,12 @@ inner-before {a} {rules} {here} piece {part} {behind} {rests} given first row so
         (fewest (map (λ rest. count_of rest way) (rests_at behind.rests.now)))) end
         ∙ are way
 
-    fewest-of : (way : Way) → IsFewest (Follows a (front ++ text) (holds a rules Middle way) part)
+    fewest-of : (way : Way)
+        → IsFewest (HasPartsBehind a (front ++ text) (holds a rules Middle way) part)
         (fewest (map (λ rest. count_of rest way) (filter (may_precede a part) rests)))
     fewest-of way =
         fewest-same (λ n. OneOf (λ rest. Leads a text (holds a rules Middle way) rest.part n)
-        (filter (may_precede a part) rests)) (Follows a (front ++ text)
+        (filter (may_precede a part) rests)) (HasPartsBehind a (front ++ text)
         (holds a rules Middle way) part)
         there back (fewest (map (λ rest. count_of rest way) (filter (may_precede a part) rests)))
         (fewest-list (λ rest n. Leads a text (holds a rules Middle way) rest.part n)
@@ -449,13 +451,13 @@ inner-before {a} {rules} {here} piece {part} {behind} {rests} given first row so
       where
         there : (n : ℕ) → OneOf (λ rest. Leads a text (holds a rules Middle way) rest.part n)
             (filter (may_precede a part) rests)
-            → Follows a (front ++ text) (holds a rules Middle way) part n
+            → HasPartsBehind a (front ++ text) (holds a rules Middle way) part n
         there n one =
             from (one-passed (λ rest. Leads a text (holds a rules Middle way) rest.part n)
             (may_precede a part) rests one)
           where
             from : Passed (λ rest. Leads a text (holds a rules Middle way) rest.part n)
-                (may_precede a part) → Follows a (front ++ text) (holds a rules Middle way) part n
+                (may_precede a part) → HasPartsBehind a (front ++ text) (holds a rules Middle way) part n
             from found = record {
               more = found.at.part ∷ found.holds.more;
               rest =
@@ -465,7 +467,7 @@ inner-before {a} {rules} {here} piece {part} {behind} {rests} given first row so
               long = found.holds.long;
             }
 
-        back : (n : ℕ) → Follows a (front ++ text) (holds a rules Middle way) part n
+        back : (n : ℕ) → HasPartsBehind a (front ++ text) (holds a rules Middle way) part n
             → OneOf (λ rest. Leads a text (holds a rules Middle way) rest.part n)
             (filter (may_precede a part) rests)
         back n f = of f.more f.rest f.so f.long

@@ -6,33 +6,36 @@ use Rattle.std.specs.Borrow.{Bor}
 use Rattle.std.specs.List.{AllByRecursion}
 use Rattle.std.proofs.lemmas.Bool.Decides.{nat_tests}
 use Rattle.std.proofs.lemmas.List.{take_more, map-append}
-use Rattle.compound_words.specs.Counting.{least, fewest, IsFewest, OneOf}
+use Rattle.compound_words.specs.Counting.{least_of_two, fewest, IsFewest, OneOf}
 use Rattle.compound_words.specs.Rests.{rests_at}
 use Rattle.compound_words.specs.declared.rests.FirstPart.{FirstPart}
 
-pub least-none : (a : Option ℕ) → least a None ≡ a
+pub least-none : (a : Option ℕ) → least_of_two a None ≡ a
 least-none None = refl
 least-none (Some n) = refl
 
-pub least-assoc : (a b c : Option ℕ) → least a (least b c) ≡ least (least a b) c
+pub least-assoc : (a b c : Option ℕ)
+    → least_of_two a (least_of_two b c) ≡ least_of_two (least_of_two a b) c
 least-assoc None b c = refl
 least-assoc (Some n) None c = refl
 least-assoc (Some n) (Some m) None = ap (λ z. z) (least-both n m)
   where
-    least-both : (n m : ℕ) → least (Some n) (Some m) ≡ least (least (Some n) (Some m)) None
-    least-both n m = sym (least-none (least (Some n) (Some m)))
+    least-both : (n m : ℕ)
+        → least_of_two (Some n) (Some m) ≡ least_of_two (least_of_two (Some n) (Some m)) None
+    least-both n m = sym (least-none (least_of_two (Some n) (Some m)))
 least-assoc (Some n) (Some m) (Some k) = grind (arith, nat_tests)
 
-fewest-snoc : (xs : List (Option ℕ)) (x : Option ℕ) → fewest (xs ++ x ∷ []) ≡ least (fewest xs) x
+fewest-snoc : (xs : List (Option ℕ)) (x : Option ℕ)
+    → fewest (xs ++ x ∷ []) ≡ least_of_two (fewest xs) x
 fewest-snoc [] x = least-none x
-fewest-snoc (y ∷ xs) x = ap (least y) (fewest-snoc xs x) ∙ least-assoc y (fewest xs) x
+fewest-snoc (y ∷ xs) x = ap (least_of_two y) (fewest-snoc xs x) ∙ least-assoc y (fewest xs) x
 
 -- one rest more
 pub fewest-turn : (f : FirstPart → Option ℕ) (rests : List (Bor FirstPart)) (place : ℕ)
     (rest : Bor FirstPart) (found : Option ℕ) → place < length rests
     → rest ≡ get_or rests place rest
     → found ≡ fewest (map f (rests_at (take place rests)))
-    → least found (f rest.now) ≡ fewest (map f (rests_at (take (place + 1) rests)))
+    → least_of_two found (f rest.now) ≡ fewest (map f (rests_at (take (place + 1) rests)))
 fewest-turn f rests place rest found within is so_far =
     let before = take place rests in
     let whole : map f (rests_at (take (place + 1) rests)) ≡ map f
@@ -41,7 +44,7 @@ fewest-turn f rests place rest found within is so_far =
     (take_more rests place rest within ∙ ap (λ (l : Bor FirstPart). before ++ l ∷ []) (sym is))
     ∙ ap (map f) (map-append (λ (l : Bor FirstPart). l.now) before (rest ∷ []))
     ∙ map-append f (rests_at before) (rest.now ∷ []) in
-    ap (λ o. least o (f rest.now)) so_far ∙ sym (fewest-snoc (map f (rests_at before)) (f rest.now))
+    ap (λ o. least_of_two o (f rest.now)) so_far ∙ sym (fewest-snoc (map f (rests_at before)) (f rest.now))
     ∙ ap fewest (sym whole)
 
 -- ---- the least number for which something holds
@@ -54,7 +57,7 @@ pub fewest-none : (P : ℕ → Type 0) → ((n : ℕ) → ¬ (P n)) → IsFewest
 fewest-none P none = none
 
 pub fewest-either : (P Q : ℕ → Type 0) (a b : Option ℕ) → IsFewest P a → IsFewest Q b
-    → IsFewest (λ n. P n ⊎ Q n) (least a b)
+    → IsFewest (λ n. P n ⊎ Q n) (least_of_two a b)
 fewest-either P Q None None p q = λ n holds. no n holds
   where
     no : (n : ℕ) → ¬ (P n ⊎ Q n)
@@ -80,7 +83,7 @@ fewest-either P Q (Some m) (Some k) p q = by (nat_le m k) refl
     upper test n (inl is) = let below = p.1 n is in grind (arith, nat_tests)
     upper test n (inr is) = q.1 n is
 
-    by : (b : Bool) → nat_le m k ≡ b → IsFewest (λ n. P n ⊎ Q n) (least (Some m) (Some k))
+    by : (b : Bool) → nat_le m k ≡ b → IsFewest (λ n. P n ⊎ Q n) (least_of_two (Some m) (Some k))
     by true test =
         subst (IsFewest (λ n. P n ⊎ Q n)) (sym (ap (λ c. cond c (Some m) (Some k)) test))
         (inl p.0, lower test)

@@ -13,8 +13,8 @@ use Rattle.std.proofs.lemmas.List.Folds.{Any-from_list_any}
 use Rattle.std.proofs.lemmas.Slice.Eq.{bytes_eq-Decides}
 use Rattle.spell_types.specs.Cases.{is_among, is_same_word}
 use Rattle.std.proofs.Math.Seq.{take-append_seam}
-use Rattle.lists.specs.Laws.{any-contains, contains-head}
-use Rattle.lists.specs.Laws.{contains-tail}
+use Rattle.spell_types.specs.lists.Laws.{any-contains, contains-head}
+use Rattle.spell_types.specs.lists.Laws.{contains-tail}
 use Rattle.spell_types.specs.declared.Lexicon.{Lexicon}
 use Rattle.spell_types.specs.declared.joints.JointPattern.{JointPattern}
 use Rattle.spell_types.specs.declared.parts.Part.{Part}

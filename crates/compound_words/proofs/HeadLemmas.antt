@@ -13,14 +13,14 @@ use Rattle.std.proofs.lemmas.Option.{slice_get-get_or}
 use Rattle.spell_types.specs.declared.parts.Part.{Part}
 use Rattle.spell_types.specs.Compounds.{Asked, are_joined}
 use Rattle.compound_words.specs.declared.rests.FirstPart.{FirstPart}
-use Rattle.compound_words.specs.Counting.{least, fewest, number_at, OneOf}
+use Rattle.compound_words.specs.Counting.{least_of_two, fewest, number_at, OneOf}
 use Rattle.compound_words.specs.Rests.{Way, ByFlags, ByRule, count_of, numbers_at, may_precede}
-use Rattle.compound_words.specs.Rests.{picked, number_before, Covers}
+use Rattle.compound_words.specs.Rests.{picked, number_before, CanStandFor}
 use Rattle.compound_words.proofs.CountLemmas.{least-none, least-assoc}
 use Rattle.compound_words.proofs.StepLemmas.{or-false}
 use Rattle.compound_words.proofs.AddLemmas.{one-left, one-right}
 
-least-swap : (a b : Option ℕ) → least a b ≡ least b a
+least-swap : (a b : Option ℕ) → least_of_two a b ≡ least_of_two b a
 least-swap None b = sym (least-none b)
 least-swap (Some n) None = refl
 least-swap (Some n) (Some m) = grind (arith, nat_tests)
@@ -31,49 +31,50 @@ number_of a part way rest = cond (may_precede a part rest) (count_of rest way) N
 
 number-next : (a : Asked) (part : Part) (way : Way) (rest : FirstPart) (rests : List FirstPart)
     → number_before a part way (rest ∷ rests)
-    ≡ least (number_of a part way rest) (number_before a part way rests)
+    ≡ least_of_two (number_of a part way rest) (number_before a part way rests)
 number-next a part way rest rests = by (may_precede a part rest)
   where
     by : (b : Bool)
         → fewest (map (λ r. count_of r way)
         (cond b (rest ∷ filter (may_precede a part) rests) (filter (may_precede a part) rests)))
-        ≡ least (cond b (count_of rest way) None) (number_before a part way rests)
+        ≡ least_of_two (cond b (count_of rest way) None) (number_before a part way rests)
     by true = refl
     by false = refl
 
 -- one rest more at the end
 number-snoc : (a : Asked) (part : Part) (way : Way) (rests : List FirstPart) (rest : FirstPart)
     → number_before a part way (rests ++ rest ∷ [])
-    ≡ least (number_before a part way rests) (number_of a part way rest)
+    ≡ least_of_two (number_before a part way rests) (number_of a part way rest)
 number-snoc a part way [] rest =
     number-next a part way rest [] ∙ least-none (number_of a part way rest)
 number-snoc a part way (other ∷ rests) rest =
     number-next a part way other (rests ++ rest ∷ [])
-    ∙ ap (least (number_of a part way other)) (number-snoc a part way rests rest)
+    ∙ ap (least_of_two (number_of a part way other)) (number-snoc a part way rests rest)
     ∙ least-assoc (number_of a part way other) (number_before a part way rests)
     (number_of a part way rest)
-    ∙ ap (λ n. least n (number_of a part way rest)) (sym (number-next a part way other rests))
+    ∙ ap (λ n. least_of_two n (number_of a part way rest)) (sym (number-next a part way other rests))
 
-covered-number : (a : Asked) (part : Part) (way : Way) (other rest : FirstPart) → Covers other rest
-    → least (number_of a part way other) (number_of a part way rest) ≡ number_of a part way other
+covered-number : (a : Asked) (part : Part) (way : Way) (other rest : FirstPart)
+    → CanStandFor other rest
+    → least_of_two (number_of a part way other) (number_of a part way rest) ≡ number_of a part way other
 covered-number a part way other rest covers =
-    ap (λ b. least (number_of a part way other) (cond b (count_of rest way) None))
+    ap (λ b. least_of_two (number_of a part way other) (cond b (count_of rest way) None))
     (sym (covers.same a part)) ∙ by (may_precede a part other)
   where
     by : (b : Bool)
-        → least (cond b (count_of other way) None) (cond b (count_of rest way) None)
+        → least_of_two (cond b (count_of other way) None) (cond b (count_of rest way) None)
         ≡ cond b (count_of other way) None
     by true = covers.less way
     by false = refl
 
 -- a rest that one of them covers changes nothing
 number-covered : (a : Asked) (part : Part) (way : Way) (rests : List FirstPart) (rest : FirstPart)
-    → OneOf (λ other. Covers other rest) rests
-    → least (number_before a part way rests) (number_of a part way rest)
+    → OneOf (λ other. CanStandFor other rest) rests
+    → least_of_two (number_before a part way rests) (number_of a part way rest)
     ≡ number_before a part way rests
 number-covered a part way [] rest one = absurd one
 number-covered a part way (other ∷ rests) rest one =
-    ap (λ n. least n (number_of a part way rest)) (number-next a part way other rests)
+    ap (λ n. least_of_two n (number_of a part way rest)) (number-next a part way other rests)
     ∙ by (number-covered a part way rests rest) one ∙ sym (number-next a part way other rests)
   where
     first : Option ℕ
@@ -85,14 +86,14 @@ number-covered a part way (other ∷ rests) rest one =
     new : Option ℕ
     new = number_of a part way rest
 
-    by : (OneOf (λ o. Covers o rest) rests → least more new ≡ more)
-        → Covers other rest ⊎ OneOf (λ o. Covers o rest) rests
-        → least (least first more) new ≡ least first more
+    by : (OneOf (λ o. CanStandFor o rest) rests → least_of_two more new ≡ more)
+        → CanStandFor other rest ⊎ OneOf (λ o. CanStandFor o rest) rests
+        → least_of_two (least_of_two first more) new ≡ least_of_two first more
     by again (inl covers) =
-        sym (least-assoc first more new) ∙ ap (least first) (least-swap more new)
+        sym (least-assoc first more new) ∙ ap (least_of_two first) (least-swap more new)
         ∙ least-assoc first new more
-        ∙ ap (λ n. least n more) (covered-number a part way other rest covers)
-    by again (inr later) = sym (least-assoc first more new) ∙ ap (least first) (again later)
+        ∙ ap (λ n. least_of_two n more) (covered-number a part way other rest covers)
+    by again (inr later) = sym (least-assoc first more new) ∙ ap (least_of_two first) (again later)
 
 -- ---- one rest more is looked at
 picked-append : (rests : List FirstPart) (places more : List ℕ)
@@ -116,11 +117,11 @@ more-taken rests place rest within is =
 
 pub heads-known : (rests : List FirstPart) (places : List ℕ) (place : ℕ) (rest : FirstPart)
     → place < length rests → rest ≡ get_or rests place rest → AreHeadsTo rests places place
-    → OneOf (λ other. Covers other rest) (picked rests places)
+    → OneOf (λ other. CanStandFor other rest) (picked rests places)
     → AreHeadsTo rests places (place + 1)
 heads-known rests places place rest within is so_far one a part way =
     sym (number-covered a part way (picked rests places) rest one)
-    ∙ ap (λ n. least n (number_of a part way rest)) (so_far a part way)
+    ∙ ap (λ n. least_of_two n (number_of a part way rest)) (so_far a part way)
     ∙ sym (number-snoc a part way (take place rests) rest)
     ∙ ap (number_before a part way) (sym (more-taken rests place rest within is))
 
@@ -133,15 +134,15 @@ heads-new rests places place rest within is so_far a part way =
     ∙ ap (λ o. picked rests places ++ (option_to_list o ++ []))
     (slice_get-get_or rests place rest within ∙ ap Some (sym is)))
     ∙ number-snoc a part way (picked rests places) rest
-    ∙ ap (λ n. least n (number_of a part way rest)) (so_far a part way)
+    ∙ ap (λ n. least_of_two n (number_of a part way rest)) (so_far a part way)
     ∙ sym (number-snoc a part way (take place rests) rest)
     ∙ ap (number_before a part way) (sym (more-taken rests place rest within is))
 
 -- ---- what covers a rest
 pub covers-from : (rest other : FirstPart)
     → ((a : Asked) (before : Part) → are_joined a before rest.part ≡ are_joined a before other.part)
-    → least rest.by_flags other.by_flags ≡ rest.by_flags
-    → list_any (list_any is_some) other.by_rules ≡ false → Covers rest other
+    → least_of_two rest.by_flags other.by_flags ≡ rest.by_flags
+    → list_any (list_any is_some) other.by_rules ≡ false → CanStandFor rest other
 covers-from rest other same flags none = record { same = same; less = less }
   where
     no-number : (own : List (Option ℕ)) (step : ℕ) → list_any is_some own ≡ false
@@ -161,10 +162,10 @@ covers-from rest other same flags none = record { same = same; less = less }
         no-numbers numbers rule step
         (or-false (list_any is_some own) (list_any (list_any is_some) numbers) none).1
 
-    less : (way : Way) → least (count_of rest way) (count_of other way) ≡ count_of rest way
+    less : (way : Way) → least_of_two (count_of rest way) (count_of other way) ≡ count_of rest way
     less ByFlags = flags
     less (ByRule rule step) =
-        ap (least (numbers_at rest.by_rules rule step)) (no-numbers other.by_rules rule step none)
+        ap (least_of_two (numbers_at rest.by_rules rule step)) (no-numbers other.by_rules rule step none)
         ∙ least-none (numbers_at rest.by_rules rule step)
 
 -- ---- the rests at places

@@ -17,9 +17,10 @@ use Rattle.spell_types.specs.Parts.{stands_at, stands_in_rule}
 use Rattle.spell_types.specs.Patterns.{matches, fits_step, is_left_out, is_many, steps_after}
 use Rattle.spell_types.specs.Patterns.{MatchesOneByOne}
 use Rattle.compound_words.specs.declared.rests.Behind.{Behind}
-use Rattle.compound_words.specs.Counting.{least, one_more, IsFewest}
+use Rattle.compound_words.specs.Counting.{least_of_two, one_more, IsFewest}
 use Rattle.compound_words.specs.Rests.{stand_from, Way, ByFlags, ByRule, matches_from, holds}
-use Rattle.compound_words.specs.Rests.{AreRest, Leads, Follows, number_behind, number_by_steps}
+use Rattle.compound_words.specs.Rests.{AreRest, Leads, HasPartsBehind, number_behind}
+use Rattle.compound_words.specs.Rests.{number_by_steps}
 use Rattle.compound_words.specs.Rests.{number_with}
 use Rattle.compound_words.proofs.CountLemmas.{fewest-same, fewest-either}
 use Rattle.compound_words.proofs.RestLemmas.{IsBefore, one-more}
@@ -30,10 +31,10 @@ lead : (a : Asked) (text : List ℕ) (part : Part) (stand behind : List Part →
     → ((more : List Part) → AreRest a text (part ∷ more)
     → stand (part ∷ more) ≡ (itself && behind more))
     → ((more : List Part) → AreRest a text (part ∷ more) → length more + 1 ≤ 2 ^ 64 - 1)
-    → IsFewest (Follows a text behind part) number
+    → IsFewest (HasPartsBehind a text behind part) number
     → IsFewest (Leads a text stand part) (cond itself (one_more number) None)
 lead a text part stand behind true number same bound fewest =
-    one-more (Follows a text behind part) (Leads a text stand part) number
+    one-more (HasPartsBehind a text behind part) (Leads a text stand part) number
     (λ n f. omega (arith, f.long, bound f.more f.rest))
     (λ n f. record
     { more = f.more; rest = f.rest; so = same f.more f.rest ∙ f.so; long = omega (arith, f.long) })
@@ -147,7 +148,7 @@ by-steps law a rules here place text part behind before stands rule pattern foun
     ((left ≡ true) × Leads a text
     (in_steps a here more) part n) ⊎ Leads a text second part n) (Leads a text (in_steps a here
     (s ∷ more)) part) there back
-    (least (cond left without None)
+    (least_of_two (cond left without None)
     (cond fits (one_more (number_behind rules behind (ByRule rule next))) None))
     (fewest-either (λ n. (left ≡ true) × Leads a text (in_steps a here more) part n)
     (Leads a text second part) (cond left without None)

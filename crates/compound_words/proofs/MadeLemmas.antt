@@ -19,7 +19,7 @@ use Rattle.spell_types.specs.Parts.{stands_at, stands_in_rule}
 use Rattle.spell_types.specs.Patterns.{matches}
 use Rattle.std.specs.Cmp.{both_ways}
 use Rattle.spell_types.specs.JointLaws.{nat-same}
-use Rattle.lists.specs.Laws.{any-at}
+use Rattle.spell_types.specs.lists.Laws.{any-at}
 use Rattle.compound_words.specs.declared.rests.FirstPart.{FirstPart}
 use Rattle.compound_words.specs.Counting.{number_at, IsFewest}
 use Rattle.compound_words.specs.Rests.{Way, ByFlags, ByRule, is_enough, stand_from, matches_from}

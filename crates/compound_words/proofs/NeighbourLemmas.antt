@@ -9,7 +9,7 @@ use Rattle.std.specs.List.{list_any, starts_with, ends_with}
 use Rattle.std.specs.Option.{option_map_or}
 use Rattle.std.proofs.lemmas.Bool.{and_parts, and_from, or_cases, or_left, or_right, lt-ltb}
 use Rattle.std.proofs.lemmas.Bool.{ltb-true}
-use Rattle.lists.specs.Laws.{any-contains}
+use Rattle.spell_types.specs.lists.Laws.{any-contains}
 use Rattle.spell_types.specs.declared.Lexicon.{Lexicon}
 use Rattle.spell_types.specs.declared.derivations.Derivation.{Derivation}
 use Rattle.spell_types.specs.declared.joints.JointPattern.{JointPattern}
@@ -26,7 +26,8 @@ use Rattle.spell_types.specs.Joints.{is_same_joint, is_simplified, is_triple}
 use Rattle.spell_types.specs.Joints.{is_tripled, plain_joint, replaced_joint, simplified_joint}
 use Rattle.compound_words.specs.declared.rests.FirstPart.{FirstPart}
 use Rattle.compound_words.specs.Pieces.{EndsBefore, Whole, Short, Cut}
-use Rattle.compound_words.specs.Pieces.{IsGivenAs, cuts, end_of, has_put, is_cut_by, may_begin}
+use Rattle.compound_words.specs.Pieces.{IsGivenAs, cuts, end_taken_off, has_put, is_cut_by}
+use Rattle.compound_words.specs.Pieces.{may_begin}
 use Rattle.compound_words.specs.Rests.{AreRest, HasPart}
 use Rattle.compound_words.proofs.PieceLemmas.{ends-from, ends-nothing, ends-split, kept-some}
 
@@ -38,7 +39,7 @@ last-whole a part ends =
 -- what a row that fits two parts says of them
 fits-sides : (lexicon : Lexicon) (x : List ℕ) (d : Derivation) (y : List ℕ) (e : Derivation)
     (row : JointPattern) → fits_joint lexicon x d y e row ≡ true
-    → (ends_with nat_eq x (end_of row) ≡ true) × (starts_with nat_eq y row.begin ≡ true)
+    → (ends_with nat_eq x (end_taken_off row) ≡ true) × (starts_with nat_eq y row.begin ≡ true)
 unfolding fits_joint
 fits-sides lexicon x d y e row fits =
     let halves =

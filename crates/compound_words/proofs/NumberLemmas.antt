@@ -4,7 +4,7 @@ use Rattle.std.proofs.Common.{slice_get, Option, None, Some, is_none, is_some, o
 use Rattle.std.proofs.Common.{true≢false, Bool, ◌∙◌}
 use Rattle.std.specs.List.{list_any}
 use Rattle.std.proofs.lemmas.Bool.{false_from_ne_true}
-use Rattle.lists.specs.Laws.{any-at}
+use Rattle.spell_types.specs.lists.Laws.{any-at}
 use Rattle.spell_types.specs.declared.flags.Flag.{Flag}
 use Rattle.spell_types.specs.declared.patterns.PatternStep.{PatternStep}
 use Rattle.spell_types.specs.Patterns.{fits_step}

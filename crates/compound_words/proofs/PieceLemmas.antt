@@ -14,9 +14,10 @@ use Rattle.std.proofs.lemmas.List.{take-append-drop, take-append-le}
 use Rattle.std.proofs.lemmas.List.Elements.{Contains-append_left, Contains-append_right}
 use Rattle.std.proofs.lemmas.Slice.Eq.{starts_is, ends_is}
 use Rattle.std.proofs.Math.Seq.{drop-append_seam}
-use Rattle.lists.specs.Laws.{contains-filter, contains-flat_map, contains-head}
-use Rattle.lists.specs.Laws.{contains-map, contains-tail, each-append, each-flat_map, each-weaker}
-use Rattle.lists.specs.Laws.{take-joined}
+use Rattle.spell_types.specs.lists.Laws.{contains-filter, contains-flat_map, contains-head}
+use Rattle.spell_types.specs.lists.Laws.{contains-map, contains-tail, each-append, each-flat_map}
+use Rattle.spell_types.specs.lists.Laws.{each-weaker}
+use Rattle.spell_types.specs.lists.Laws.{take-joined}
 use Rattle.affix_strip.specs.Found.{derivations_of}
 use Rattle.spell_types.specs.declared.Lexicon.{Lexicon}
 use Rattle.spell_types.specs.declared.derivations.Derivation.{Derivation}
@@ -35,7 +36,7 @@ use Rattle.spell_types.specs.Parts.{is_long_enough}
 use Rattle.compound_words.specs.declared.rests.FirstPart.{FirstPart}
 use Rattle.compound_words.specs.Counting.{OneOf}
 use Rattle.compound_words.specs.Pieces.{AreFronts, AreParts, EndsBefore, Whole, Short, Cut}
-use Rattle.compound_words.specs.Pieces.{IsGivenAs, cuts, end_of, may_begin}
+use Rattle.compound_words.specs.Pieces.{IsGivenAs, cuts, end_taken_off, may_begin}
 use Rattle.compound_words.specs.Pieces.{parts_kept, parts_of, parts_put, parts_replaced}
 use Rattle.compound_words.specs.Pieces.{parts_short, parts_with}
 
@@ -222,7 +223,7 @@ module _ (a : Asked) (members : Members a) (before : List ℕ) (fronts : List (L
 
 -- what a row takes off the end has the length that its joint says
 end-long : (row : JointPattern) (put : List ℕ)
-    → (replaced_joint row put).off_end ≡ length (end_of row)
+    → (replaced_joint row put).off_end ≡ length (end_taken_off row)
 end-long row put = by row.unmodified
   where
     by : (whole : Bool) → (if whole then 0 else length row.end)
@@ -253,23 +254,23 @@ module _ (a : Asked) (members : Members a) (before : List ℕ) (fronts : List (L
     where
       at : (put : List ℕ) (ends : Bool) → ends_with nat_eq text put ≡ ends
           → AllByRecursion (IsGivenAs a before text)
-          (cond ends (parts_kept a fronts (take (length text - length put) text) (end_of row)
+          (cond ends (parts_kept a fronts (take (length text - length put) text) (end_taken_off row)
           (replaced_joint row put)) [])
       at put false ends = tt
       at put true ends =
           subst
           (λ t. AllByRecursion (IsGivenAs a before t)
-          (parts_kept a fronts (take (length text - length put) text) (end_of row)
+          (parts_kept a fronts (take (length text - length put) text) (end_taken_off row)
           (replaced_joint row put)))
           (sym (ends-split text put ends))
           (kept-given a members before fronts are (take (length text - length put) text)
-          (end_of row)
+          (end_taken_off row)
           (replaced_joint row put) (end-long row put))
 
       by : (replacement : Option (List ℕ))
           → AllByRecursion (IsGivenAs a before text)
           (option_map_or (λ put. if ends_with nat_eq text put
-          then parts_kept a fronts (take (length text - length put) text) (end_of row)
+          then parts_kept a fronts (take (length text - length put) text) (end_taken_off row)
           (replaced_joint row put)
           else []) replacement [])
       by None = tt
@@ -416,22 +417,23 @@ module _ (a : Asked) (members : Members a) (before : List ℕ) (fronts : List (L
   -- what the row puts
   put-among : (row : JointPattern) (put : List ℕ) (part : Part) → IsGivenAs a before text part
       → row.replacement ≡ Some put → part.joint ≡ replaced_joint row put
-      → ends_with nat_eq part.text (end_of row) ≡ true → Contains (parts_put a fronts text row) part
+      → ends_with nat_eq part.text (end_taken_off row) ≡ true
+      → Contains (parts_put a fronts text row) part
   unfolding parts_put
   put-among row put part is some same ends =
       subst
       (λ found. Contains (option_map_or (λ p. if ends_with nat_eq text p
-      then parts_kept a fronts (take (length text - length p) text) (end_of row)
+      then parts_kept a fronts (take (length text - length p) text) (end_taken_off row)
       (replaced_joint row p)
       else []) found []) part) (sym some)
       (subst
-      (λ b. Contains (cond b (parts_kept a fronts own (end_of row) (replaced_joint row put)) [])
+      (λ b. Contains (cond b (parts_kept a fronts own (end_taken_off row) (replaced_joint row put)) [])
       part)
       (sym (ends-from text (kept part) put writes))
-      (subst (λ joint. Contains (parts_kept a fronts own (end_of row) joint) part) same
-      (subst (λ o. Contains (parts_kept a fronts o (end_of row) part.joint) part)
+      (subst (λ joint. Contains (parts_kept a fronts own (end_taken_off row) joint) part) same
+      (subst (λ o. Contains (parts_kept a fronts o (end_taken_off row) part.joint) part)
       (sym (ap (λ t. take (length t - length put) t) writes ∙ take-joined (kept part) put))
-      (kept-among a members before fronts are (end_of row) part is.given
+      (kept-among a members before fronts are (end_taken_off row) part is.given
       (ap (λ joint. joint.off_end) same ∙ end-long row put) ends is.begins))))
     where
       own : List ℕ

@@ -11,7 +11,7 @@ use Rattle.std.proofs.Math.Seq.{take-append_seam}
 use Rattle.std.proofs.lemmas.Bool.{and_parts, cases_lt, cases_order, eqb-true, or_cases, or_left}
 use Rattle.std.proofs.lemmas.Bool.{or_right}
 use Rattle.std.proofs.lemmas.List.{take_all}
-use Rattle.lists.specs.Laws.{any-at, any-contains}
+use Rattle.spell_types.specs.lists.Laws.{any-at, any-contains}
 use Rattle.affix_strip.specs.Inside.{one_fits, has_step, StandsInside, ByFlags, InRule}
 use Rattle.spell_types.specs.declared.Lexicon.{Lexicon}
 use Rattle.spell_types.specs.declared.derivations.Derivation.{Derivation}

@@ -4,7 +4,7 @@ use Rattle.std.proofs.Common.{false, cond, ◌&&◌, ◌||◌, List, [], ◌∷�
 use Rattle.std.proofs.Common.{not-suc-le-zero, le_of_suc-le-suc}
 use Rattle.std.specs.List.{filter, flat_map, list_any, range_with_len}
 use Rattle.std.proofs.lemmas.List.Folds.{list_any_at, list_any-append}
-use Rattle.lists.specs.Laws.{contains-range, range_more}
+use Rattle.spell_types.specs.lists.Laws.{contains-range, range_more}
 use Rattle.spell_types.specs.declared.Lexicon.{Lexicon}
 use Rattle.spell_types.specs.declared.derivations.Derivation.{Derivation}
 use Rattle.spell_types.specs.declared.licences.Case.TheVariants.{Same}

@@ -14,7 +14,8 @@ use Rattle.spell_types.specs.Compounds.{Asked, IsGiven, are_joined, stretch, wri
 use Rattle.spell_types.specs.CompoundLaws.{given-keeps, stretch-some}
 use Rattle.compound_words.specs.declared.rests.Behind.{Behind}
 use Rattle.compound_words.specs.Counting.{one_more, IsFewest}
-use Rattle.compound_words.specs.Rests.{stand_from, Way, holds, AreRest, Follows, number_behind}
+use Rattle.compound_words.specs.Rests.{stand_from, Way, holds, AreRest, HasPartsBehind}
+use Rattle.compound_words.specs.Rests.{number_behind}
 
 -- ---- each part keeps a character
 pub given-some : (a : Asked) (part : Part) → IsGiven a part → 0 < length (stretch part)
@@ -78,7 +79,7 @@ pub record IsBefore (a : Asked) (rules : List (List PatternStep)) (here place : 
   pub stands : (stands : Derivation → Place → Bool) (more : List Part)
       → AreRest a text (part ∷ more) → stand_from stands here (part ∷ more)
       ≡ (stands part.d place && stand_from stands Middle more)
-  pub fewest : (way : Way) → IsFewest (Follows a text (holds a rules Middle way) part)
+  pub fewest : (way : Way) → IsFewest (HasPartsBehind a text (holds a rules Middle way) part)
       (number_behind rules behind way)
   pub bound : (more : List Part) → AreRest a text (part ∷ more) → length more + 1 ≤ 2 ^ 64 - 1
 

@@ -21,7 +21,7 @@ use Rattle.spell_types.specs.Parts.{stands_at, stands_in_rule}
 use Rattle.spell_types.specs.Patterns.{matches, fits_step, is_left_out, is_many, steps_after}
 use Rattle.spell_types.specs.Patterns.{MatchesOneByOne}
 use Rattle.compound_words.specs.declared.rests.FirstPart.{FirstPart}
-use Rattle.compound_words.specs.declared.rests.Row.{Row}
+use Rattle.compound_words.specs.declared.rests.RestsRow.{RestsRow}
 use Rattle.compound_words.specs.Counting.{OneOf}
 use Rattle.compound_words.specs.Rests.{Way, ByFlags, ByRule, matches_from, is_enough, stand_from}
 use Rattle.compound_words.specs.Rests.{holds, AreRest, IsRight, HasPart, IsRow, IsRowAt, AreRows}
@@ -29,7 +29,7 @@ use Rattle.compound_words.specs.Rests.{AreHeads, Grows, HasFirsts, HasInner, Pie
 use Rattle.compound_words.specs.Reach.{AreReached, IsStartAt, is_reached}
 use Rattle.compound_words.specs.Pieces.{EndsBefore, Whole, may_begin}
 use Rattle.compound_words.proofs.NeighbourLemmas.{joined-begins, joined-ends, last-whole}
-use Rattle.lists.specs.Laws.{each-append, each-weaker}
+use Rattle.spell_types.specs.lists.Laws.{each-append, each-weaker}
 use Rattle.compound_words.proofs.LeadLemmas.{matches-nothing, drop-one}
 use Rattle.compound_words.proofs.AddLemmas.{one-left, one-right, one-cases, grows-twice}
 use Rattle.compound_words.proofs.RestLemmas.{given-some, count-within, rest-joint, rest-tail}
@@ -180,15 +180,15 @@ stands-behind law a rules here (ByRule rule step) part next more so =
         }
 
 -- ---- a row more
-rows-weaker : (a : Asked) (rules : List (List PatternStep)) (word : List ℕ) (from : ℕ) (row : Row)
+rows-weaker : (a : Asked) (rules : List (List PatternStep)) (word : List ℕ) (from : ℕ) (row : RestsRow)
     → IsRowAt a rules word from row → IsRowAt a rules word (from - 1) row
 rows-weaker a rules word from row is =
     record { after = omega (arith, is.after); inside = is.inside; is = is.is; enough = is.enough }
 
 -- what is known of the places behind one is known behind the one before it, if it is known there
 rows-all-more : {a : Asked} {rules : List (List PatternStep)} {reached : List Bool}
-    {word : List ℕ} {rows : List Row} (from : ℕ) → AreRows a rules reached word from rows
-    → (before : List Row) → ((place : ℕ) → OneOf (λ row. row.place ≡ place) rows
+    {word : List ℕ} {rows : List RestsRow} (from : ℕ) → AreRows a rules reached word from rows
+    → (before : List RestsRow) → ((place : ℕ) → OneOf (λ row. row.place ≡ place) rows
     → OneOf (λ row. row.place ≡ place) before)
     → ((part : Part) (more : List Part) (way : Way) → is_reached reached from ≡ true
     → may_begin a.lexicon (take from word) part ≡ true → AreRest a (drop from word) (part ∷ more)
@@ -211,7 +211,7 @@ rows-all-more {a} {rules} {reached} {word} {rows} from are before wider here pla
 
 -- a place that may not be reached needs no row
 pub rows-skip : (a : Asked) (rules : List (List PatternStep)) (reached : List Bool)
-    (word : List ℕ) (from : ℕ) (rows : List Row) → AreRows a rules reached word from rows
+    (word : List ℕ) (from : ℕ) (rows : List RestsRow) → AreRows a rules reached word from rows
     → is_reached reached from ≡ false → AreRows a rules reached word (from - 1) rows
 rows-skip a rules reached word from rows are out = record {
   right =
@@ -224,7 +224,7 @@ rows-skip a rules reached word from rows are out = record {
 
 -- there is no rest from a place
 pub rows-none : (a : Asked) (rules : List (List PatternStep)) (reached : List Bool)
-    (word : List ℕ) (from : ℕ) (rows : List Row) (rests : List FirstPart)
+    (word : List ℕ) (from : ℕ) (rows : List RestsRow) (rests : List FirstPart)
     → AreRows a rules reached word from rows
     → IsRow a rules (take from word) (drop from word) rests → rests ≡ []
     → AreRows a rules reached word (from - 1) rows
@@ -240,7 +240,7 @@ rows-none a rules reached word from rows rests are is none = record {
 
 -- there are some
 pub rows-more : {a : Asked} {rules : List (List PatternStep)} {reached : List Bool}
-    {word : List ℕ} {from : ℕ} {rows : List Row} (row : Row) → row.place ≡ from
+    {word : List ℕ} {from : ℕ} {rows : List RestsRow} (row : RestsRow) → row.place ≡ from
     → AreRows a rules reached word from rows → 0 < from → from < length word
     → IsRow a rules (take from word) (drop from word) row.rests
     → AreHeads row.rests row.heads → AreRows a rules reached word (from - 1) (rows ++ row ∷ [])
@@ -268,7 +268,7 @@ rows-more {a} {rules} {reached} {word} {from} {rows} row at are some inside is e
 
 -- ---- a row that is gone over
 pub row-at : (a : Asked) (rules : List (List PatternStep)) (word : List ℕ) (from : ℕ)
-    (rows : List Row) (place : ℕ) (d : Row) → place < length rows
+    (rows : List RestsRow) (place : ℕ) (d : RestsRow) → place < length rows
     → AllByRecursion (IsRowAt a rules word from) rows
     → IsRowAt a rules word from (get_or rows place d)
 row-at a rules word from [] place d within each = absurd (omega (arith, within))
@@ -278,7 +278,7 @@ row-at a rules word from (row ∷ rows) (suc place) d within each =
 
 -- the rests are there whose second part begins at the place of one of the first rows
 pub record AreSoFar (a : Asked) (rules : List (List PatternStep)) (here : Place) (word : List ℕ)
-    (from : ℕ) (rows : List Row) (index : ℕ) (before now : List FirstPart) : Type 0 where
+    (from : ℕ) (rows : List RestsRow) (index : ℕ) (before now : List FirstPart) : Type 0 where
   pub grows : Grows a rules here (drop from word) before now
   pub has : (part next : Part) (more : List Part) (way : Way)
       → may_begin a.lexicon (take from word) part ≡ true
@@ -287,7 +287,7 @@ pub record AreSoFar (a : Asked) (rules : List (List PatternStep)) (here : Place)
       → OneOf (λ row. row.place ≡ from + length (stretch part)) (take index rows) → HasPart part now
 
 -- the piece between a place and that of a row
-abbrev pub piece_to : List ℕ → ℕ → Row → Piece
+abbrev pub piece_to : List ℕ → ℕ → RestsRow → Piece
 piece_to word from row = record {
   before = take from word;
   front = take (row.place - from) (drop from word);
@@ -342,7 +342,7 @@ next-at law {a} {rules} {here} {way} {word} {from} {part} {next} {more} within a
 
 -- the places of rows so far, and one more
 pub rows-one-more : MatchesOneByOne → {a : Asked} {rules : List (List PatternStep)} {here : Place}
-    {word : List ℕ} {from : ℕ} {rows : List Row} {index : ℕ} {item : Row}
+    {word : List ℕ} {from : ℕ} {rows : List RestsRow} {index : ℕ} {item : RestsRow}
     {before middle now : List FirstPart}
     → from ≤ length word → index < length rows → item ≡ get_or rows index item
     → AllByRecursion (IsRowAt a rules word from) rows
@@ -408,7 +408,7 @@ rows-one-more law {a} {rules} {here} {word} {from} {rows} {index} {item} {before
 
 -- all rows are gone over
 pub rows-all : MatchesOneByOne → {a : Asked} {rules : List (List PatternStep)} {here : Place}
-    {reached : List Bool} {word : List ℕ} {from : ℕ} {rows : List Row} {index : ℕ}
+    {reached : List Bool} {word : List ℕ} {from : ℕ} {rows : List RestsRow} {index : ℕ}
     {before now : List FirstPart}
     → from ≤ length word → length rows ≤ index → AreReached a rules word reached
     → (from < length word → is_reached reached from ≡ true) → IsStartAt here from

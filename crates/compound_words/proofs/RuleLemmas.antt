@@ -25,13 +25,13 @@ use Rattle.spell_types.specs.Parts.{has_right_entry, is_not_forbidden_at, are_af
 use Rattle.spell_types.specs.Parts.{are_suffixes_few_at, stands_at, stands_in_rule}
 use Rattle.spell_types.specs.Patterns.{matches, fits_step, is_left_out, steps_after}
 use Rattle.spell_types.specs.Patterns.{MatchesOneByOne}
-use Rattle.compound_words.specs.Prepared.{HasFlagsOf, has_step_in, has_first_sign}
+use Rattle.compound_words.specs.Prepared.{HasFlagsOfEntries, has_step_in, has_first_sign}
 use Rattle.compound_words.specs.Rests.{AreRulesOf}
 use Rattle.compound_words.proofs.LeadLemmas.{matches-nothing}
 use Rattle.compound_words.proofs.StepLemmas.{or-false}
 
 -- ---- a step fits the flags of an entry only where the set has its flag
-entry-flags : (set : List Flag) (entries : List Entry) (place : ℕ) → HasFlagsOf set entries
+entry-flags : (set : List Flag) (entries : List Entry) (place : ℕ) → HasFlagsOfEntries set entries
     → (flag : Flag)
     → has (option_map_or (λ entry. entry.flags) (slice_get entries place) []) (Some flag) ≡ true
     → has set (Some flag) ≡ true
@@ -103,7 +103,7 @@ any-of-kept keep test (x ∷ xs) any = by (keep x) any (any-of-kept keep test xs
     by false any rest = or_right (test x) (list_any test xs) (rest any)
 
 pub kept-rules : MatchesOneByOne → (lexicon : Lexicon) (set : List Flag)
-    (rules : List (List PatternStep)) → HasFlagsOf set lexicon.entries
+    (rules : List (List PatternStep)) → HasFlagsOfEntries set lexicon.entries
     → rules ≡ filter (has_step_in set) lexicon.affixes.patterns
     → (a : Asked) → a.lexicon ≡ lexicon → AreRulesOf a rules
 kept-rules law lexicon set rules all are a is = record {
@@ -127,7 +127,7 @@ kept-rules law lexicon set rules all are a is = record {
             → has set (Some flag) ≡ true
         flags =
             entry-flags set a.lexicon.entries part.d.entry
-            (subst (λ l. HasFlagsOf set l.entries) (sym is) all)
+            (subst (λ l. HasFlagsOfEntries set l.entries) (sym is) all)
 
         none : (pattern : List PatternStep) → has_step_in set pattern ≡ false
             → follows_rule a First (part ∷ more) pattern ≡ false

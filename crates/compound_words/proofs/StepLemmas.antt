@@ -14,7 +14,7 @@ use Rattle.spell_types.specs.declared.patterns.Times.{Times}
 use Rattle.spell_types.specs.declared.patterns.Times.TheVariants.{Once, Maybe, Many}
 use Rattle.spell_types.specs.Patterns.{fits_step, is_left_out, is_many, may_be, matches}
 use Rattle.spell_types.specs.Patterns.{MatchesOneByOne}
-use Rattle.compound_words.specs.Counting.{least, number_at, one_more}
+use Rattle.compound_words.specs.Counting.{least_of_two, number_at, one_more}
 use Rattle.compound_words.specs.Rests.{number_by_steps, matches_from}
 
 -- ---- where no step fits there is no number
@@ -32,13 +32,13 @@ no-step : (flags : List Flag) (behind : ℕ → Option ℕ) (steps : List Patter
 no-step flags behind [] place none = refl
 no-step flags behind (step ∷ more) place none =
     let parts = or-false (fits_step step flags) (list_any (λ s. fits_step s flags) more) none in
-    ap (λ n. least (cond (is_left_out step) n None)
+    ap (λ n. least_of_two (cond (is_left_out step) n None)
     (cond (fits_step step flags)
     (one_more (behind (cond (is_many step.times) place (place + 1))))
     None)) (no-step flags behind more (place + 1) parts.1)
-    ∙ ap (λ b. least (cond (is_left_out step) None None)
+    ∙ ap (λ b. least_of_two (cond (is_left_out step) None None)
     (cond b (one_more (behind (cond (is_many step.times) place (place + 1)))) None)) parts.0
-    ∙ ap (λ n. least n None) (if-none (is_left_out step))
+    ∙ ap (λ n. least_of_two n None) (if-none (is_left_out step))
 
 drop-none : {X : Type 0} (test : X → Bool) (xs : List X) (count : ℕ) → list_any test xs ≡ false
     → list_any test (drop count xs) ≡ false
@@ -95,7 +95,7 @@ pub numbers-turn : (numbers : List (Option ℕ)) (flags : List Flag) (behind : �
     → length numbers ≡ length steps → place < length steps → step ≡ get_or steps place d
     → ((later : ℕ) → place + 1 ≤ later
     → number_at numbers later ≡ number_by_steps flags behind (drop later steps) later)
-    → number ≡ least (cond (is_left_out step) (number_at numbers (place + 1)) None)
+    → number ≡ least_of_two (cond (is_left_out step) (number_at numbers (place + 1)) None)
     (cond (fits_step step flags)
     (one_more (behind (cond (is_many step.times) place (place + 1)))) None)
     → (at : ℕ) → place ≤ at → number_at (set numbers place number) at
@@ -129,7 +129,7 @@ numbers-turn numbers flags behind steps place step d number long within is later
         (omega (arith, within, long)))
         ∙ get_or-set_same numbers place number None (omega (arith, within, long))
         ∙ made
-        ∙ ap (λ n. least (cond (is_left_out step) n None)
+        ∙ ap (λ n. least_of_two (cond (is_left_out step) n None)
         (cond (fits_step step flags)
         (one_more (behind (cond (is_many step.times) place (place + 1))))
         None)) (later (place + 1) (omega arith))

@@ -3,15 +3,15 @@ use Rattle.std.specs.Prelude.{ℕ, ◌+◌, ◌≤◌, ◌^◌, ◌-◌, ◌⊎�
 use Rattle.std.specs.Prelude.{Option, None, Some, option_and_then, if◌then◌else◌}
 use Rattle.std.specs.Option.{option_map}
 
-abbrev pub least : Option ℕ → Option ℕ → Option ℕ
-least None other = other
-least (Some number) None = Some number
-least (Some number) (Some other) = if nat_le number other then Some number else Some other
+abbrev pub least_of_two : Option ℕ → Option ℕ → Option ℕ
+least_of_two None other = other
+least_of_two (Some number) None = Some number
+least_of_two (Some number) (Some other) = if nat_le number other then Some number else Some other
 
 -- the least of those that are there
 abbrev pub fewest : List (Option ℕ) → Option ℕ
 fewest [] = None
-fewest (number ∷ more) = least number (fewest more)
+fewest (number ∷ more) = least_of_two number (fewest more)
 
 -- one more, as far as numbers go
 abbrev pub one_more : Option ℕ → Option ℕ

@@ -52,8 +52,8 @@ with_front before row fronts =
 
 -- ---- what follows a part
 -- what the row takes off the end of a part
-abbrev pub end_of : JointPattern → List ℕ
-end_of row = if row.unmodified then [] else row.end
+abbrev pub end_taken_off : JointPattern → List ℕ
+end_taken_off row = if row.unmodified then [] else row.end
 
 -- whether the row takes off the front of the first part of a rest what it names there
 abbrev pub cuts : JointPattern → FirstPart → Bool
@@ -70,7 +70,7 @@ pub data EndsBefore (lexicon : Lexicon) (following : List ℕ) (rests : List Fir
       → EndsBefore lexicon following rests part
   Cut : (row : JointPattern) (put : List ℕ) → Contains lexicon.affixes.joints row
       → row.replacement ≡ Some put
-      → part.joint ≡ replaced_joint row put → ends_with nat_eq part.text (end_of row) ≡ true
+      → part.joint ≡ replaced_joint row put → ends_with nat_eq part.text (end_taken_off row) ≡ true
       → list_any (cuts row) rests ≡ true → EndsBefore lexicon following rests part
 
 -- ---- the parts that write a piece
@@ -98,7 +98,7 @@ parts_short a fronts text (c ∷ more) =
 unfoldable pub parts_put : Asked → List (List ℕ) → List ℕ → JointPattern → List Part
 parts_put a fronts text row =
     option_map_or (λ put. if ends_with nat_eq text put
-    then parts_kept a fronts (take (length text - length put) text) (end_of row)
+    then parts_kept a fronts (take (length text - length put) text) (end_taken_off row)
     (replaced_joint row put)
     else []) row.replacement []
 

@@ -12,8 +12,8 @@ use Rattle.compound_words.specs.declared.Compounds.{Compounds}
 use Rattle.compound_words.specs.Rests.{AreRulesOf}
 
 -- the set has all flags that the entries have
-abbrev pub HasFlagsOf : List Flag → List Entry → Type 0
-HasFlagsOf set entries =
+abbrev pub HasFlagsOfEntries : List Flag → List Entry → Type 0
+HasFlagsOfEntries set entries =
     (place : ℕ) (entry : Entry) (flag : Flag) → slice_get entries place ≡ Some entry
     → has entry.flags (Some flag) ≡ true → has set (Some flag) ≡ true
 

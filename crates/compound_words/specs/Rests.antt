@@ -1,6 +1,7 @@
 -- Lists of parts that make up the rest of a word, and how few parts they may have.
 use Rattle.std.specs.Prelude.{◌≡◌, ℕ, ◌+◌, ◌<◌, Bool, true, false, nat_lt, ◌&&◌, ◌||◌, List, []}
-use Rattle.std.specs.Prelude.{◌∷◌, ◌++◌, length, map, take, drop, get_or, slice_get, Option, None, Some}
+use Rattle.std.specs.Prelude.{◌∷◌, ◌++◌, length, map, take, drop, get_or, slice_get, Option, None}
+use Rattle.std.specs.Prelude.{Some}
 use Rattle.std.specs.Prelude.{option_and_then, if◌then◌else◌}
 use Rattle.std.specs.Borrow.{Bor}
 use Rattle.std.specs.List.{AllByRecursion, filter, flat_map, list_any}
@@ -19,9 +20,10 @@ use Rattle.spell_types.specs.Parts.{stands_at, stands_in_rule}
 use Rattle.spell_types.specs.Patterns.{matches, fits_step, is_left_out, is_many}
 use Rattle.compound_words.specs.declared.rests.Behind.{Behind}
 use Rattle.compound_words.specs.declared.rests.FirstPart.{FirstPart}
-use Rattle.compound_words.specs.declared.rests.Row.{Row}
+use Rattle.compound_words.specs.declared.rests.RestsRow.{RestsRow}
 use Rattle.compound_words.specs.declared.search.Search.{Search}
-use Rattle.compound_words.specs.Counting.{fewest, least, one_more, number_at, IsFewest, OneOf}
+use Rattle.compound_words.specs.Counting.{fewest, least_of_two, one_more, number_at, IsFewest}
+use Rattle.compound_words.specs.Counting.{OneOf}
 use Rattle.compound_words.specs.Pieces.{may_begin, EndsBefore}
 
 -- of what compounds are asked in a search
@@ -83,7 +85,7 @@ pub record Leads (a : Asked) (text : List ℕ) (stand : List Part → Bool) (par
   pub long : length (part ∷ more) ≡ count
 
 -- so many parts behind this one write the text with it and stand so
-pub record Follows (a : Asked) (text : List ℕ) (stand : List Part → Bool) (part : Part)
+pub record HasPartsBehind (a : Asked) (text : List ℕ) (stand : List Part → Bool) (part : Part)
     (count : ℕ) : Type 0 where
   pub more : List Part
   pub rest : AreRest a text (part ∷ more)
@@ -135,13 +137,13 @@ pub record AreHeads (rests : List FirstPart) (places : List ℕ) : Type 0 where
       → number_before a part way (picked rests places) ≡ number_before a part way rests
 
 -- the rest may follow wherever the other may, with no more parts
-pub record Covers (rest other : FirstPart) : Type 0 where
+pub record CanStandFor (rest other : FirstPart) : Type 0 where
   pub same : (a : Asked) (part : Part) → may_precede a part rest ≡ may_precede a part other
-  pub less : (way : Way) → least (count_of rest way) (count_of other way) ≡ count_of rest way
+  pub less : (way : Way) → least_of_two (count_of rest way) (count_of other way) ≡ count_of rest way
 
 -- a row of places behind this one
 pub record IsRowAt (a : Asked) (rules : List (List PatternStep)) (word : List ℕ) (from : ℕ)
-    (row : Row) : Type 0 where
+    (row : RestsRow) : Type 0 where
   pub after : from < row.place
   pub inside : row.place < length word
   pub is : IsRow a rules (take row.place word) (drop row.place word) row.rests
@@ -150,7 +152,7 @@ pub record IsRowAt (a : Asked) (rules : List (List PatternStep)) (word : List �
 -- there is a row for each place behind this one that may be reached and from which parts write the
 -- rest of the word
 pub record AreRows (a : Asked) (rules : List (List PatternStep)) (reached : List Bool)
-    (word : List ℕ) (from : ℕ) (rows : List Row) : Type 0 where
+    (word : List ℕ) (from : ℕ) (rows : List RestsRow) : Type 0 where
   pub right : AllByRecursion (IsRowAt a rules word from) rows
   pub all : (place : ℕ) (part : Part) (more : List Part) (way : Way) → from < place
       → place < length word → get_or reached place false ≡ true
@@ -179,7 +181,7 @@ number_behind rules behind way =
 abbrev pub number_by_steps : List Flag → (ℕ → Option ℕ) → List PatternStep → ℕ → Option ℕ
 number_by_steps flags behind [] place = None
 number_by_steps flags behind (step ∷ more) place =
-    least (if is_left_out step then number_by_steps flags behind more (place + 1) else None)
+    least_of_two (if is_left_out step then number_by_steps flags behind more (place + 1) else None)
     (if fits_step step flags then one_more
     (behind (if is_many step.times then place else place + 1)) else None)
 
@@ -215,7 +217,7 @@ IsMade a rules place part behind None = HasNone a rules place part behind
 IsMade a rules place part behind (Some rest) = HasNumbers a rules place part behind rest
 
 -- the row after the rest was added that was made, if one was
-pub record IsAdded (a : Asked) (rules : List (List PatternStep)) (place : Place) (part : Part)
+pub record IsRowAdded (a : Asked) (rules : List (List PatternStep)) (place : Place) (part : Part)
     (behind : Behind) (before now : List FirstPart) : Type 0 where
   pub made : Option FirstPart
   pub is : IsMade a rules place part behind made
@@ -225,7 +227,7 @@ pub record IsAdded (a : Asked) (rules : List (List PatternStep)) (place : Place)
 pub data IsAddedOnce (a : Asked) (rules : List (List PatternStep)) (place : Place) (part : Part)
     (behind : Behind) (before now : List FirstPart) : Type 0 where
   Known : HasPart part before → now ≡ before → IsAddedOnce a rules place part behind before now
-  New : IsAdded a rules place part behind before now
+  New : IsRowAdded a rules place part behind before now
       → IsAddedOnce a rules place part behind before now
 
 -- a row to which rests of a text were added: it has what it had, and if that was right, all is

@@ -1,11 +1,11 @@
 //! The least of numbers, where they are there.
 
 ghost use Rattle.std.specs.Prelude.{◌≡◌, true};
-ghost use Rattle.compound_words.specs.Counting.{least, one_more, number_at};
+ghost use Rattle.compound_words.specs.Counting.{least_of_two, one_more, number_at};
 
 /// The lesser of two numbers, or the one that is there.
 pub(crate) fn least(number: Option<usize>, other: Option<usize>) -> Option<usize>
-    ensures { result ≡ least number other }
+    ensures { result ≡ least_of_two number other }
 {
     match (number, other) {
         (Some(a), Some(b)) => { if a <= b { Some(a) } else { Some(b) } }
@@ -16,7 +16,7 @@ pub(crate) fn least(number: Option<usize>, other: Option<usize>) -> Option<usize
 
 /// Whether a number is no more than the other, where that is there.
 pub(crate) fn is_at_most(number: Option<usize>, other: Option<usize>) -> bool
-    ensures { result ≡ true → least number other ≡ number }
+    ensures { result ≡ true → least_of_two number other ≡ number }
 {
     match (number, other) {
         (_, None) => true,

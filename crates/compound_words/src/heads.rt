@@ -9,12 +9,12 @@ ghost use Rattle.std.specs.Option.{option_map};
 ghost use Rattle.spell_types.specs.declared.parts.Part.{Part};
 ghost use Rattle.spell_types.specs.Compounds.{Asked, are_joined};
 ghost use Rattle.compound_words.specs.Counting.{OneOf};
-ghost use Rattle.compound_words.specs.Rests.{AreHeads, Covers, picked};
+ghost use Rattle.compound_words.specs.Rests.{AreHeads, CanStandFor, picked};
 
 use crate::counting::is_at_most;
 use crate::rests::{FirstPart, has_number};
-use lists::{Items, NoMemory};
 use spell_types::Part;
+use spell_types::lists::{Items, NoMemory};
 use std::alloc::Global;
 
 /// The places of rests that are enough to be looked at: each of the others is covered by one of
@@ -33,7 +33,7 @@ pub(crate) fn heads_of(alloc: Global, rests: &[FirstPart]) -> Result<Items<usize
 
 /// Whether one of the rests at these places covers a rest.
 fn is_covered(rests: &[FirstPart], heads: &[usize], rest: &FirstPart) -> bool
-    ensures { result ≡ true → OneOf (λ other. Covers other rest.now) (picked rests.now heads.now) }
+    ensures { result ≡ true → OneOf (λ other. CanStandFor other rest.now) (picked rests.now heads.now) }
 {
     for place in heads {
         if let Some(other) = rest_at(rests, *place) {
@@ -55,7 +55,7 @@ pub(crate) fn rest_at(rests: &[FirstPart], place: usize) -> Option<&FirstPart>
 /// Whether a rest may follow wherever another one may, with no more parts. One that compound rules
 /// match is not looked at.
 fn covers(rest: &FirstPart, other: &FirstPart) -> bool
-    ensures { result ≡ true → Covers rest.now other.now }
+    ensures { result ≡ true → CanStandFor rest.now other.now }
 {
     if !is_same_head(&rest.part, &other.part) || has_number(&other.by_rules) {
         return false;

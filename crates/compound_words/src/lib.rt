@@ -17,11 +17,11 @@ mod rules;
 mod search;
 
 use affix_strip::Stems;
-use lists::{Items, NoMemory};
 use replacements::has_rep_fault;
 use rows::is_made_up;
 use rules::rules_with;
 use search::Search;
+use spell_types::lists::{Items, NoMemory};
 use spell_types::{Lexicon, Pattern, Signs, compounds_have_parts, patterns_match};
 use std::alloc::Global;
 

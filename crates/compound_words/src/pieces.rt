@@ -13,7 +13,7 @@ use crate::rests::FirstPart;
 use crate::search::Search;
 use affix_strip::derivations_are;
 use joint_checks::{bare_joint, end_of, is_long_enough, replaced_joint};
-use lists::{Copied, Items, NoMemory};
+use spell_types::lists::{Copied, Items, NoMemory};
 use spell_types::{Chars, JointPattern, Lexicon, Part, WrittenJoint};
 use std::alloc::Global;
 
@@ -80,7 +80,7 @@ fn is_among(texts: &[Chars], text: &[char]) -> bool
 
 /// A piece of a word, with the place where it begins and what follows.
 #[derive(Clone, Copy)]
-pub(crate) struct Piece<'a> {
+pub(crate) struct WordPiece<'a> {
     pub(crate) start: &'a Start<'a>,
     pub(crate) text: &'a [char],
     pub(crate) following: &'a [char],
@@ -99,7 +99,11 @@ struct Ending<'a> {
 }
 
 /// All parts that write a piece of a word, where they may stand in it.
-pub(crate) fn parts_of(alloc: Global, search: &Search, piece: &Piece) -> Result<Vec<Part>, NoMemory>
+pub(crate) fn parts_of(
+    alloc: Global,
+    search: &Search,
+    piece: &WordPiece,
+) -> Result<Vec<Part>, NoMemory>
     requires { AreFronts search.now.stems.now piece.now.start.now.before.now
         piece.now.start.now.fronts.items }
     ensures { IfOk result
@@ -111,7 +115,7 @@ pub(crate) fn parts_of(alloc: Global, search: &Search, piece: &Piece) -> Result<
 }
 
 #[tactic(auto, unfolding(crate::specs::Pieces::parts_of))]
-fn find_parts(alloc: Global, search: &Search, piece: &Piece) -> Result<Vec<Part>, NoMemory>
+fn find_parts(alloc: Global, search: &Search, piece: &WordPiece) -> Result<Vec<Part>, NoMemory>
     ensures { IfOk result (λ found. found.items
         ≡ parts_of (asked_by search.now) piece.now.start.now.fronts.items piece.now.text.now
         piece.now.following.now piece.now.rests.now) }
@@ -127,7 +131,7 @@ fn find_parts(alloc: Global, search: &Search, piece: &Piece) -> Result<Vec<Part>
 fn add_plain(
     alloc: Global,
     search: &Search,
-    piece: &Piece,
+    piece: &WordPiece,
     found: &mut Vec<Part>,
 ) -> Result<(), NoMemory>
     ensures { OnOk result (found.new.items ≡ found.old.items
@@ -148,7 +152,7 @@ fn add_plain(
 fn add_short(
     alloc: Global,
     search: &Search,
-    piece: &Piece,
+    piece: &WordPiece,
     found: &mut Vec<Part>,
 ) -> Result<(), NoMemory>
     ensures { OnOk result (found.new.items ≡ found.old.items
@@ -175,7 +179,7 @@ fn add_short(
 fn add_replaced(
     alloc: Global,
     search: &Search,
-    piece: &Piece,
+    piece: &WordPiece,
     found: &mut Vec<Part>,
 ) -> Result<(), NoMemory>
     ensures { OnOk result (found.new.items ≡ found.old.items
@@ -211,7 +215,7 @@ fn cuts(row: &JointPattern, rest: &FirstPart) -> bool
 fn add_put(
     alloc: Global,
     search: &Search,
-    piece: &Piece,
+    piece: &WordPiece,
     row: &JointPattern,
     found: &mut Vec<Part>,
 ) -> Result<(), NoMemory>

@@ -7,7 +7,7 @@ ghost use Rattle.compound_words.specs.Reach.{is_reached, piece_between, puts_tex
 ghost use Rattle.compound_words.specs.Rests.{asked_by, patterns_of, AreRulesOf};
 
 use crate::search::Search;
-use lists::NoMemory;
+use spell_types::lists::NoMemory;
 use spell_types::{JointPattern, Lexicon, Place, patterns_match};
 use std::alloc::Global;
 

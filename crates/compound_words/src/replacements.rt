@@ -8,7 +8,7 @@ ghost use Rattle.spell_types.specs.Replacements.{has_rep_fault};
 
 use affix_strip::Stems;
 use conversions::{stands_anchored, variant_at};
-use lists::NoMemory;
+use spell_types::lists::NoMemory;
 use spell_types::{Case, Rep};
 use std::alloc::Global;
 

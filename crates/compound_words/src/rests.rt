@@ -5,7 +5,7 @@ ghost use Rattle.std.specs.Prelude.{slice_get, is_some, IfOk, map, if◌then◌e
 ghost use Rattle.std.specs.List.{list_any};
 ghost use Rattle.spell_types.specs.Patterns.{fits_step, is_left_out, is_many};
 ghost use Rattle.spell_types.specs.declared.patterns.PatternStep.{PatternStep};
-ghost use Rattle.compound_words.specs.Counting.{fewest, least, number_at, one_more};
+ghost use Rattle.compound_words.specs.Counting.{fewest, least_of_two, number_at, one_more};
 ghost use Rattle.compound_words.specs.Rests.{asked_by, patterns_of, Way, count_of, numbers_at};
 ghost use Rattle.compound_words.specs.Rests.{rests_at, matches_from, number_behind, number_with};
 ghost use Rattle.compound_words.specs.Rests.{number_by_rule, IsMade};
@@ -13,12 +13,12 @@ ghost use Rattle.compound_words.specs.Rests.{number_by_rule, IsMade};
 use crate::counting::{least, number_at, one_more};
 use crate::search::Search;
 use joint_checks::{stands_at, stands_in_rule};
-use lists::{Items, NoMemory};
+use spell_types::lists::{Items, NoMemory};
 use spell_types::{FlagSet, Part, Pattern, PatternStep, Place, entry_flags, patterns_match};
 use std::alloc::Global;
 
 /// How few parts the steps of a rule match, from each step on.
-pub(crate) type Numbers = Items<Option<usize>>;
+pub(crate) type StepCounts = Items<Option<usize>>;
 
 /// How few parts write the rest of a word, of which this is the first.
 #[derive(Drop)]
@@ -28,12 +28,12 @@ pub(crate) struct FirstPart {
     pub(crate) by_flags: Option<usize>,
     /// Where the steps of a rule match them, for each rule and from each of its steps on. Where
     /// there is no number none do.
-    pub(crate) by_rules: Items<Numbers>,
+    pub(crate) by_rules: Items<StepCounts>,
 }
 
 /// The rests that begin at a place of a word.
 #[derive(Drop)]
-pub(crate) struct Row {
+pub(crate) struct RestsRow {
     pub(crate) place: usize,
     pub(crate) rests: Items<FirstPart>,
     /// The places of the rests that are enough to be looked at: each other one has the first part
@@ -149,7 +149,7 @@ fn numbers_by_rules(
     place: Place,
     part: &Part,
     behind: &Behind,
-) -> Result<Items<Numbers>, NoMemory>
+) -> Result<Items<StepCounts>, NoMemory>
     ensures { IfOk result (λ numbers. (rule step : ℕ) → numbers_at numbers rule step
         ≡ number_with (asked_by search.now) (patterns_of search.now) place part.now behind.now
         (Way.ByRule rule step)) }
@@ -171,7 +171,7 @@ fn numbers_by_flags(
     flags: &FlagSet,
     rules: &[Pattern],
     behind: &Behind,
-) -> Result<Items<Numbers>, NoMemory>
+) -> Result<Items<StepCounts>, NoMemory>
     ensures { IfOk result
         (λ numbers. (rule step : ℕ)
         → numbers_at numbers rule step ≡ number_by_rule flags.now rules.now behind.now rule step) }
@@ -195,7 +195,7 @@ fn numbers_by_steps(
     rule: usize,
     steps: &[PatternStep],
     behind: &Behind,
-) -> Result<Numbers, NoMemory>
+) -> Result<StepCounts, NoMemory>
     ensures { (rules : List (List PatternStep)) → slice_get rules rule ≡ Some steps.now
         → IfOk result
         (λ numbers. (step : ℕ)
@@ -258,7 +258,7 @@ fn number_from(
     without: Option<usize>,
     behind: Option<usize>,
 ) -> Option<usize>
-    ensures { result ≡ least (if is_left_out step.now then without else None)
+    ensures { result ≡ least_of_two (if is_left_out step.now then without else None)
         (if fits_step step.now flags.now then one_more behind else None) }
 {
     let left_out = if step.is_left_out() { without } else { None };
@@ -279,7 +279,7 @@ fn step_after(step: &PatternStep, place: usize) -> usize
 }
 
 /// Whether there is a number for a rule.
-pub(crate) fn has_number(numbers: &[Numbers]) -> bool
+pub(crate) fn has_number(numbers: &[StepCounts]) -> bool
     ensures { result ≡ list_any (list_any is_some) numbers.now }
 {
     numbers.iter().any(|own| has_some(own))

@@ -9,17 +9,17 @@ ghost use Rattle.compound_words.specs.Counting.{number_at};
 ghost use Rattle.compound_words.specs.Pieces.{AreFronts};
 ghost use Rattle.compound_words.specs.Reach.{AreReached, IsStartAt, is_reached};
 ghost use Rattle.compound_words.specs.Rests.{asked_by, patterns_of, rests_at, may_precede, picked};
-ghost use Rattle.compound_words.specs.Rests.{AreHeads, is_few, has_few, IsAdded, IsAddedOnce};
+ghost use Rattle.compound_words.specs.Rests.{AreHeads, is_few, has_few, IsRowAdded, IsAddedOnce};
 ghost use Rattle.compound_words.specs.Rests.{Grows, HasFirsts, HasPart, HasInner, IsFrontOf, IsRow};
 ghost use Rattle.compound_words.specs.Rests.{AreRows, AreRulesOf};
 
 use crate::counting::number_at;
 use crate::heads::{heads_of, rest_at};
-use crate::pieces::{Piece, Start, parts_of};
+use crate::pieces::{Start, WordPiece, parts_of};
 use crate::reach::places_reached;
-use crate::rests::{Behind, FirstPart, Numbers, Row, rest_with};
+use crate::rests::{Behind, FirstPart, RestsRow, StepCounts, rest_with};
 use crate::search::Search;
-use lists::{Items, NoMemory};
+use spell_types::lists::{Items, NoMemory};
 use spell_types::{Part, Place, compounds_have_parts, patterns_match};
 use std::alloc::Global;
 
@@ -57,7 +57,7 @@ fn rows_of(
     search: &Search,
     reached: &[bool],
     word: &[char],
-) -> Result<Vec<Row>, NoMemory>
+) -> Result<Vec<RestsRow>, NoMemory>
     requires { AreReached (asked_by search.now) (patterns_of search.now) word.now reached.now }
     ensures rows { IfOk result
         (λ rows. AreRows (asked_by search.now) (patterns_of search.now) reached.now word.now 0
@@ -92,7 +92,7 @@ fn add_row(
     reached: &[bool],
     word: &[char],
     from: usize,
-    rows: &mut Vec<Row>,
+    rows: &mut Vec<RestsRow>,
 ) -> Result<(), NoMemory>
     requires reached { AreReached (asked_by search.now) (patterns_of search.now) word.now
         reached.now }
@@ -109,7 +109,7 @@ fn add_row(
     let rests = rests_from(alloc, search, reached, word, from, rows)?;
     if !rests.is_empty() {
         let heads = heads_of(alloc, &rests)?;
-        rows.push(Row {
+        rows.push(RestsRow {
             place: from,
             rests,
             heads,
@@ -125,7 +125,7 @@ fn rests_from(
     reached: &[bool],
     word: &[char],
     from: usize,
-    rows: &[Row],
+    rows: &[RestsRow],
 ) -> Result<Items<FirstPart>, NoMemory>
     requires reached { AreReached (asked_by search.now) (patterns_of search.now) word.now
         reached.now }
@@ -166,7 +166,7 @@ fn add_before_rows<'a>(
     reached: &[bool],
     word: &'a [char],
     from: usize,
-    rows: &'a [Row],
+    rows: &'a [RestsRow],
     row: &mut Items<FirstPart>,
 ) -> Result<(), NoMemory>
     requires reached { AreReached (asked_by search.now) (patterns_of search.now) word.now
@@ -189,7 +189,7 @@ fn add_before_rows<'a>(
 {
     patterns_match();
     for behind in rows {
-        let piece = Piece {
+        let piece = WordPiece {
             start,
             text: &word[from..behind.place],
             following: &word[behind.place..],
@@ -223,7 +223,7 @@ fn add_last<'a>(
         is_end: true,
         rests: &[],
     };
-    let piece = Piece {
+    let piece = WordPiece {
         start,
         text,
         following: &[],
@@ -245,7 +245,7 @@ fn add_before(
     alloc: Global,
     search: &Search,
     here: Place,
-    piece: &Piece,
+    piece: &WordPiece,
     row: &mut Items<FirstPart>,
 ) -> Result<(), NoMemory>
     requires row { IsRow (asked_by search.now) (patterns_of search.now)
@@ -343,7 +343,7 @@ fn add_new(
     row: &mut Items<FirstPart>,
 ) -> Result<(), NoMemory>
     ensures { OnOk result
-        (IsAdded (asked_by search.now) (patterns_of search.now) place part behind.now row.old
+        (IsRowAdded (asked_by search.now) (patterns_of search.now) place part behind.now row.old
         row.new) }
 {
     if let Some(rest) = rest_with(alloc, search, place, part, behind)? {
@@ -357,7 +357,7 @@ fn followers<'a>(
     alloc: Global,
     search: &Search,
     part: &Part,
-    piece: &Piece<'a>,
+    piece: &WordPiece<'a>,
 ) -> Result<Vec<&'a FirstPart>, NoMemory>
     ensures { IfOk result (λ found. rests_at found.items
         ≡ filter (may_precede (asked_by search.now) part.now)
@@ -389,7 +389,7 @@ fn has_few(search: &Search, rest: &FirstPart) -> bool
 }
 
 /// Whether a rule matches few enough parts, from its first step on.
-fn rule_has_few(search: &Search, numbers: &[Numbers]) -> bool
+fn rule_has_few(search: &Search, numbers: &[StepCounts]) -> bool
     ensures { result ≡ list_any (λ own. is_few (asked_by search.now) (number_at own 0))
         numbers.now }
 {

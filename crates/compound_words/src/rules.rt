@@ -3,7 +3,7 @@
 ghost use Rattle.std.specs.Prelude.{◌≡◌, filter, IfOk};
 ghost use Rattle.compound_words.specs.Prepared.{has_step_in};
 
-use lists::{Copied, Items, NoMemory};
+use spell_types::lists::{Copied, Items, NoMemory};
 use spell_types::{FlagSet, Pattern, PatternStep, has};
 use std::alloc::Global;
 

@@ -1,6 +1,7 @@
 //! Of what compounds are asked, and the parts that there are.
 
-ghost use Rattle.std.specs.Prelude.{◌≡◌, ◌<◌, ◌+◌, ◌++◌, ℕ, List, Some, true, false, nat_lt, length, IfOk};
+ghost use Rattle.std.specs.Prelude.{◌≡◌, ◌<◌, ◌+◌, ◌++◌, ℕ, List, Some, true, false, nat_lt};
+ghost use Rattle.std.specs.Prelude.{length, IfOk};
 ghost use Rattle.std.specs.Prelude.{OnOk, filter, map};
 ghost use Rattle.spell_types.specs.declared.derivations.Derivation.{Derivation};
 ghost use Rattle.spell_types.specs.Derivations.{form_of};
@@ -13,7 +14,7 @@ ghost use Rattle.compound_words.specs.Rests.{asked_by};
 
 use affix_strip::Stems;
 use joint_checks::{is_long_enough, is_plain, is_written_joint};
-use lists::{Copied, Items, NoMemory};
+use spell_types::lists::{Copied, Items, NoMemory};
 use spell_types::{Derivation, Lexicon, Part, Pattern, Place, WrittenJoint, has_entry_with, sound};
 use std::alloc::Global;
 

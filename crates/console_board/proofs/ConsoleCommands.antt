@@ -18,7 +18,7 @@ use Rattle.std.proofs.lemmas.Option.{cond_some, gets, none-some, option_and_then
 use Rattle.std.proofs.lemmas.Option.{slice_get-get_or, slice_get-map, slice_get_past}
 use Rattle.std.proofs.lemmas.Option.{slice_get_within}
 use Rattle.std.proofs.lemmas.Str.{IsCharBoundary-start}
-use Rattle.lists.specs.Laws.{map-insert, map-remove}
+use Rattle.outside.specs.lists.Laws.{map-insert, map-remove}
 use Rattle.console_lang.specs.declared.command.Command.{Command}
 use Rattle.console_lang.specs.declared.command.Command.TheVariants.{Ins, Put, Sub, Del, Stop, Ask}
 use Rattle.console_lang.specs.declared.command.Command.TheVariants.{Load, Own, Show, Settle}
@@ -27,14 +27,15 @@ use Rattle.console_lang.specs.declared.reply.Reply.{Reply}
 use Rattle.console_lang.specs.declared.reply.Reply.TheVariants.{Done, NoPlace, NoBadSpan, NoTooLong}
 use Rattle.console_lang.specs.declared.reply.Reply.TheVariants.{NoFull, NoFinished, NoParked}
 use Rattle.console_lang.specs.declared.reply.Reply.TheVariants.{NoNotParked}
-use Rattle.paragraph_text.specs.Paragraphs.{Paragraph, HasNoBreak}
-use Rattle.paragraph_text.specs.Edits.{Applies, BeginsWith, break_in, first_refusal as edit_refusal}
-use Rattle.paragraph_text.specs.Edits.{gone_before, is_span, spliced, unless as unless_edit}
-use Rattle.paragraph_text.specs.Edits.{with_id}
-use Rattle.paragraph_text.specs.declared.edits.Edit.{Edit}
-use Rattle.paragraph_text.specs.declared.edits.Edit.TheVariants.{Insert, Remove, Replace}
-use Rattle.paragraph_text.specs.declared.edits.EditRefusal.{EditRefusal}
-use Rattle.paragraph_text.specs.declared.edits.EditRefusal.TheVariants as edits
+use Rattle.edit_core.specs.paragraph_text.Paragraphs.{Paragraph, HasNoBreak}
+use Rattle.edit_core.specs.paragraph_text.Edits.{Applies, BeginsWith, break_in, edit_refusal}
+use Rattle.edit_core.specs.paragraph_text.Edits.{gone_before, is_span, spliced}
+use Rattle.edit_core.specs.paragraph_text.Edits.{unless as unless_edit}
+use Rattle.edit_core.specs.paragraph_text.Edits.{with_id}
+use Rattle.edit_core.specs.paragraph_text.declared.edits.Edit.{Edit}
+use Rattle.edit_core.specs.paragraph_text.declared.edits.Edit.TheVariants.{Insert, Remove, Replace}
+use Rattle.edit_core.specs.paragraph_text.declared.edits.EditRefusal.{EditRefusal}
+use Rattle.edit_core.specs.paragraph_text.declared.edits.EditRefusal.TheVariants as edits
 use Rattle.edit_core.specs.Events.{SeenEvent, AnEdit, AFinish, APark, AnAsk}
 use Rattle.edit_core.specs.Runs.{furthest_point, is_held, is_waiting}
 use Rattle.edit_core.specs.Seen.{Seen, IsValidBoard}
@@ -46,17 +47,18 @@ use Rattle.edit_core.specs.declared.refusal.Refusal.TheVariants.{Gone, Spent}
 use Rattle.edit_core.specs.declared.state.Standing.{Standing}
 use Rattle.edit_core.specs.declared.state.Standing.TheVariants as standing
 use Rattle.edit_core.specs.Laws.{find-beside}
-use Rattle.paragraph_text.specs.Laws.{split-at}
-use Rattle.console_board.specs.BoardAnswers.{HasReply, IsAnswered, IsAsked, IsWholeAt, PutsWhole}
+use Rattle.edit_core.specs.paragraph_text.Laws.{split-at}
+use Rattle.console_board.specs.BoardAnswers.{HasReply, IsEventAnswered, IsAsked, IsWholeAt}
+use Rattle.console_board.specs.BoardAnswers.{PutsWhole}
 use Rattle.console_board.specs.BoardAnswers.{event_for, gap_at, names_place, paragraph_at}
 use Rattle.console_board.specs.BoardAnswers.{reply_for}
 use Rattle.console_board.specs.Boards.{console_of, state_of}
 use Rattle.console_board.specs.Consoles.{Console, Outcome, TextState, Waiting, asked_from, at_place}
 use Rattle.console_board.specs.Consoles.{index_of, inserted, remove_at, replace_at, splice_at}
-use Rattle.console_board.specs.Consoles.{state_at, stopped_from, text_at}
+use Rattle.console_board.specs.Consoles.{state_at, stopped_from, console_text_at}
 use Rattle.console_board.specs.Transcripts.{IsReplyTo, HasWholeText, HasOutcome}
 use Rattle.edit_core.specs.declared.limits.TheConstants.{MOST_MOVED}
-use Rattle.paragraph_text.specs.declared.limits.TheConstants.{MOST_BYTES, MOST_PARAGRAPHS}
+use Rattle.edit_core.specs.paragraph_text.declared.limits.TheConstants.{MOST_BYTES, MOST_PARAGRAPHS}
 
 -- what follows of a value, if there is one
 pub if-ok : {T E : Type 0} (result : Result T E) {P Q : T → Type 0} → ((x : T) → P x → Q x)
@@ -172,7 +174,7 @@ module _ (by : ℕ) (board after : Seen) (reply : Reply) where
 
   -- an event with this refusal, if it has one, is answered so
   abbrev Told : SeenEvent → Option Refusal → Type 0
-  Told event first = IsAnswered board event first reply after
+  Told event first = IsEventAnswered board event first reply after
 
   -- an event is answered so while the history goes on
   abbrev Answered : SeenEvent → Type 0
@@ -262,7 +264,7 @@ module _ (by : ℕ) (board after : Seen) (reply : Reply) where
         (map-remove (λ p. p.text) board.paragraphs index)
         (rw here.at.place_is (map-remove state_of board.standings index))
 
-    text-here : text_at console index ≡ paragraph.text
+    text-here : console_text_at console index ≡ paragraph.text
     text-here =
         rw (slice_get-map (λ (p : Paragraph). p.text) board.paragraphs index, here.at.paragraph_is)
 
@@ -603,12 +605,12 @@ board-below board room =
 -- an event that a board takes is answered so, and has no refusal
 pub answered-taken : {board after : Seen} {event : SeenEvent} {reply : Reply}
     → IsDecided board event → Step board event after → reply ≡ Done after.text_version
-    → IsAnswered board event (first_refusal board event) reply after
+    → IsEventAnswered board event (first_refusal board event) reply after
 answered-taken {board} {after} {event} {reply} decided step is =
     by decided (first_refusal board event) refl
   where
     by : IsDecided board event → (first : Option Refusal) → first_refusal board event ≡ first
-        → IsAnswered board event first reply after
+        → IsEventAnswered board event first reply after
     by (inl (only, free)) None told =
         let back = sym (only.only after step) in
         record { step = step; only = λ other made. only.only other made ∙ back; reply_is = is }
@@ -710,4 +712,4 @@ pub event-refused : (by : ℕ) (board : Seen) (command : Command) (event : SeenE
     → IsReplyTo (console_of board) command reply (console_of board)
 event-refused by board command event refusal reply ids valid whole is first told =
     event-does by board board reply ids valid command event whole is
-    (subst (λ first. IsAnswered board event first reply board) (sym first) (told, refl))
+    (subst (λ first. IsEventAnswered board event first reply board) (sym first) (told, refl))

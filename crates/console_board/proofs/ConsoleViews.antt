@@ -6,7 +6,7 @@ use Rattle.std.specs.Str.{chars}
 use Rattle.std.proofs.lemmas.List.{length-map, take_all}
 use Rattle.std.proofs.lemmas.Option.{slice_get-map}
 use Rattle.console_lang.specs.declared.reply.ShownPara.TheVariants.{Finished as Checked}
-use Rattle.paragraph_text.specs.Paragraphs.{Paragraph}
+use Rattle.edit_core.specs.paragraph_text.Paragraphs.{Paragraph}
 use Rattle.edit_core.specs.Seen.{Seen, IsValidBoard}
 use Rattle.edit_core.specs.Views.{ShownMarks, marks_numbered, view_of}
 use Rattle.edit_core.specs.Views.{shown_as as board_shows, shown_from as board_shows_from}
@@ -14,7 +14,7 @@ use Rattle.edit_core.specs.declared.state.Standing.{Standing}
 use Rattle.edit_core.specs.declared.state.Standing.TheVariants.{Waiting, Held, Parked, Finished}
 use Rattle.console_board.specs.BoardAnswers.{look_reply, shown_para}
 use Rattle.console_board.specs.Boards.{console_of, state_of}
-use Rattle.console_board.specs.Consoles.{shown, shown_as, shown_from}
+use Rattle.console_board.specs.Consoles.{shown, shown_text_as, shown_texts_from}
 
 -- ---- one text after another
 
@@ -53,7 +53,7 @@ texts-are (paragraph ∷ paragraphs) =
     ap (λ texts. chars paragraph.text ∷ texts) (texts-are paragraphs)
 
 as-is : (board : Seen) (number : ℕ) (stands : Standing)
-    → shown_as (console_of board) number (state_of stands)
+    → shown_text_as (console_of board) number (state_of stands)
     ≡ shown_para (board_shows board number stands)
 as-is board number Waiting = refl
 as-is board number (Held worker) = refl
@@ -62,7 +62,7 @@ as-is board number Finished =
     ap (λ texts. Checked (marks_numbered board.lexicon texts number)) (texts-are board.paragraphs)
 
 from-is : (board : Seen) (number : ℕ) (standings : List Standing)
-    → shown_from (console_of board) number (map state_of standings)
+    → shown_texts_from (console_of board) number (map state_of standings)
     ≡ map shown_para (board_shows_from board number standings)
 from-is board number [] = refl
 from-is board number (stands ∷ standings) =

@@ -4,7 +4,7 @@ use Rattle.std.proofs.Common.{◌≤◌, Bool, true, false, List, [], ◌∷◌,
 use Rattle.std.proofs.Common.{length, codes, Option, Some, None, Result, Ok, Err, if◌then◌else◌}
 use Rattle.std.proofs.Common.{arith}
 use Rattle.std.specs.Str.{is_utf8}
-use Rattle.paragraph_text.specs.Paragraphs.{HasNoBreak}
+use Rattle.edit_core.specs.paragraph_text.Paragraphs.{HasNoBreak}
 use Rattle.console_lang.specs.CommandLines.{IsTail, IsPlacedText, IsLineOf}
 use Rattle.console_lang.specs.Commands.{command_of, or_bad}
 use Rattle.console_lang.specs.Words.{is_blank_line}

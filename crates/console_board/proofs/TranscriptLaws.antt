@@ -4,15 +4,17 @@ use Rattle.std.proofs.Common.{List, [], ◌∷◌, Option, Some, None, refl, ari
 use Rattle.std.proofs.lemmas.List.Sums.{sum_by-cons}
 use Rattle.dictionary_swap.specs.Loads.{found_in, lexicon_due}
 use Rattle.outside.specs.Files.{Folder}
-use Rattle.spell_types.specs.declared.Lexicon.{Lexicon}
+use Rattle.mark_types.specs.spell_types.declared.Lexicon.{Lexicon}
 use Rattle.console_lang.specs.declared.command.Command.{Command}
 use Rattle.console_lang.specs.declared.command.Command.TheVariants.{Load, Own, Quit}
 use Rattle.console_lang.specs.declared.reply.Reply.{Reply}
 use Rattle.personal_words.specs.declared.items.OwnItem.{OwnItem}
 use Rattle.console_board.specs.Consoles.{Console}
 use Rattle.console_board.specs.OwnConsoles.{OwnConsole, load_outcome, own_opened}
-use Rattle.console_board.specs.Transcripts.{HasOwnOutcome, Loads, IsReplyTo, IsOwnReplyTo, Answers}
-use Rattle.console_board.specs.Transcripts.{IsReplyToAsked, IsTranscript, asked_by, is_no_files}
+use Rattle.console_board.specs.Transcripts.{HasOwnOutcome, LoadsFiles, IsReplyTo, IsOwnReplyTo}
+use Rattle.console_board.specs.Transcripts.{Answers}
+use Rattle.console_board.specs.Transcripts.{IsReplyToAsked, IsTranscript, commands_asked_by}
+use Rattle.console_board.specs.Transcripts.{is_no_files}
 use Rattle.console_board.specs.Transcripts.{failures_in}
 
 -- where no files failed, none did at the first reply
@@ -40,7 +42,7 @@ beside-once before _ is also = (is.0 ∙ sym also.0, is.1 ∙ sym also.1)
 module _ (folder : Folder) where
   -- of a load that is not told to have failed the outcome is that of the folder's files
   loads-are : {before after : OwnConsole} {aff dic : List ℕ} {reply : Reply}
-      → Loads (Some folder) before aff dic reply after → is_no_files reply ≡ false
+      → LoadsFiles (Some folder) before aff dic reply after → is_no_files reply ≡ false
       → HasOwnOutcome (load_outcome before (lexicon_due (found_in folder aff dic))) reply after
   loads-are {before} {after} {reply = reply} (inl loaded) told =
       subst (λ there. HasOwnOutcome (load_outcome before (lexicon_due there)) reply after) loaded.1
@@ -94,5 +96,5 @@ module _ (folder : Folder) where
       → IsTranscript 0 (Some folder) base own lines others
       → failures_in replies ≡ 0 → failures_in others ≡ 0 → replies ≡ others
   transcript-once base own lines replies others is also =
-      answers-once (own_opened base own) (asked_by lines) replies others is.last also.last is.answers
+      answers-once (own_opened base own) (commands_asked_by lines) replies others is.last also.last is.answers
       also.answers

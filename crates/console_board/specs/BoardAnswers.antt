@@ -11,9 +11,9 @@ use Rattle.console_lang.specs.declared.reply.Reply.TheVariants.{NoBadSpan, NoToo
 use Rattle.console_lang.specs.declared.reply.Reply.TheVariants.{NoFinished, NoParked, NoNotParked}
 use Rattle.console_lang.specs.declared.reply.ShownPara.{ShownPara}
 use Rattle.console_lang.specs.declared.reply.ShownPara.TheVariants.{Pending, Finished as Checked}
-use Rattle.paragraph_text.specs.Paragraphs.{Paragraph, HasNoBreak}
-use Rattle.paragraph_text.specs.Edits.{is_span}
-use Rattle.paragraph_text.specs.declared.edits.Edit.TheVariants.{Insert, Remove, Replace}
+use Rattle.edit_core.specs.paragraph_text.Paragraphs.{Paragraph, HasNoBreak}
+use Rattle.edit_core.specs.paragraph_text.Edits.{is_span}
+use Rattle.edit_core.specs.paragraph_text.declared.edits.Edit.TheVariants.{Insert, Remove, Replace}
 use Rattle.edit_core.specs.Events.{SeenEvent, AnEdit, APark, AnAsk}
 use Rattle.edit_core.specs.Seen.{Seen}
 use Rattle.edit_core.specs.Steps.{Step}
@@ -38,7 +38,7 @@ gap_at board place =
     (index_of place (length board.paragraphs + 1))
 
 -- what events say of the paragraph at a place, and how many bytes it has
-pub record IsNamed (board : Seen) (place id rev size : ℕ) : Type 0 where
+pub record NamesParagraph (board : Seen) (place id rev size : ℕ) : Type 0 where
   pub paragraph : Paragraph
   pub at : paragraph_at board place ≡ Some paragraph
   pub id_is : id ≡ paragraph.id
@@ -116,16 +116,16 @@ abbrev pub HasReply : Option Refusal → Type 0
 HasReply first = option_map_or (λ refusal. is_some (reply_for refusal)) first true ≡ true
 
 -- an event makes this board and no other, and the reply tells the text's version
-pub record IsTaken (before : Seen) (event : SeenEvent) (reply : Reply) (after : Seen) : Type 0 where
+pub record IsEventTaken (before : Seen) (event : SeenEvent) (reply : Reply) (after : Seen) : Type 0 where
   pub step : Step before event after
   pub only : (other : Seen) → Step before event other → other ≡ after
   pub reply_is : reply ≡ Done after.text_version
 
 -- an event is taken where no refusal is first; otherwise that one is replied to, and the board
 -- stays
-abbrev pub IsAnswered : Seen → SeenEvent → Option Refusal → Reply → Seen → Type 0
-IsAnswered before event None reply after = IsTaken before event reply after
-IsAnswered before event (Some refusal) reply after =
+abbrev pub IsEventAnswered : Seen → SeenEvent → Option Refusal → Reply → Seen → Type 0
+IsEventAnswered before event None reply after = IsEventTaken before event reply after
+IsEventAnswered before event (Some refusal) reply after =
     (reply_for refusal ≡ Some reply) × (after ≡ before)
 
 -- what a look shows of a paragraph: its marks, or that there are none yet

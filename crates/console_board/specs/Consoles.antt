@@ -10,11 +10,11 @@ use Rattle.console_lang.specs.declared.reply.Reply.TheVariants.{NoBadSpan, NoToo
 use Rattle.console_lang.specs.declared.reply.Reply.TheVariants.{NoFinished, NoParked, NoNotParked}
 use Rattle.console_lang.specs.declared.reply.ShownPara.{ShownPara}
 use Rattle.console_lang.specs.declared.reply.ShownPara.TheVariants.{Pending, Finished as Marked}
-use Rattle.lists.specs.Changes.{Change, SetAt, InsertAt, RemoveAt, changed}
+use Rattle.outside.specs.lists.Changes.{Change, SetAt, InsertAt, RemoveAt, changed}
 use Rattle.edit_core.specs.Views.{marks_numbered}
-use Rattle.paragraph_text.specs.Edits.{is_span, spliced}
-use Rattle.spell_types.specs.declared.Lexicon.{Lexicon}
-use Rattle.paragraph_text.specs.declared.limits.TheConstants.{MOST_BYTES, MOST_PARAGRAPHS}
+use Rattle.edit_core.specs.paragraph_text.Edits.{is_span, spliced}
+use Rattle.mark_types.specs.spell_types.declared.Lexicon.{Lexicon}
+use Rattle.edit_core.specs.paragraph_text.declared.limits.TheConstants.{MOST_BYTES, MOST_PARAGRAPHS}
 
 -- how a text stands: it is to be checked, it is checked, or it is not to be checked before somebody
 -- asks for it
@@ -33,8 +33,8 @@ pub record Console : Type 0 where
   pub states : List TextState
 
 -- a console opens without a text
-abbrev pub opened : Lexicon → Console
-opened lexicon =
+abbrev pub opened_console : Lexicon → Console
+opened_console lexicon =
     record { text_version = 0; dict_version = 0; lexicon = lexicon; texts = []; states = [] }
 
 -- a reply, and the console behind it
@@ -62,8 +62,8 @@ at_place console place does =
     option_map_or does (index_of place (length console.texts))
     (refused console (NoPlace (length console.texts)))
 
-abbrev pub text_at : Console → ℕ → List ℕ
-text_at console index = unwrap_or (slice_get console.texts index) []
+abbrev pub console_text_at : Console → ℕ → List ℕ
+console_text_at console index = unwrap_or (slice_get console.texts index) []
 
 abbrev pub state_at : Console → ℕ → TextState
 state_at console index = unwrap_or (slice_get console.states index) Waiting
@@ -96,9 +96,9 @@ replace_at console put index =
 -- bytes of a text, from one up to another, become others
 abbrev pub splice_at : Console → ℕ → ℕ → List ℕ → ℕ → Outcome
 splice_at console from to put index =
-    if is_span (text_at console index) from to
-    then replace_at console (spliced (text_at console index) from to put) index
-    else refused console (NoBadSpan (length (text_at console index)))
+    if is_span (console_text_at console index) from to
+    then replace_at console (spliced (console_text_at console index) from to put) index
+    else refused console (NoBadSpan (length (console_text_at console index)))
 
 -- a text is taken out
 abbrev pub remove_at : Console → ℕ → Outcome
@@ -111,8 +111,8 @@ inserted console place put =
     (refused console (NoPlace (length console.texts)))
 
 -- `put P TEXT`
-abbrev pub replaced : Console → ℕ → List ℕ → Outcome
-replaced console place put = at_place console place (replace_at console put)
+abbrev pub console_after_put : Console → ℕ → List ℕ → Outcome
+console_after_put console place put = at_place console place (replace_at console put)
 
 -- `sub P FROM TO TEXT`
 abbrev pub substituted : Console → ℕ → ℕ → ℕ → List ℕ → Outcome
@@ -156,30 +156,30 @@ settled_state Finished = Finished
 settled_state Parked = Parked
 
 -- `settle`
-abbrev pub settled : Console → Outcome
-settled console = done (record console { states = map settled_state console.states })
+abbrev pub console_after_settle : Console → Outcome
+console_after_settle console = done (record console { states = map settled_state console.states })
 
 -- ---- what is shown
 
 -- a finished text shows the marks that it has among those of all texts together, and every other
 -- text that there are none yet
-abbrev pub shown_as : Console → ℕ → TextState → ShownPara
-shown_as console number Waiting = Pending
-shown_as console number Finished =
+abbrev pub shown_text_as : Console → ℕ → TextState → ShownPara
+shown_text_as console number Waiting = Pending
+shown_text_as console number Finished =
     Marked (marks_numbered console.lexicon (map chars console.texts) number)
-shown_as console number Parked = Pending
+shown_text_as console number Parked = Pending
 
 -- what is shown of texts that stand so, of which the first has this number
-abbrev pub shown_from : Console → ℕ → List TextState → List ShownPara
-shown_from console number [] = []
-shown_from console number (stand ∷ stands) =
-    shown_as console number stand ∷ shown_from console (number + 1) stands
+abbrev pub shown_texts_from : Console → ℕ → List TextState → List ShownPara
+shown_texts_from console number [] = []
+shown_texts_from console number (stand ∷ stands) =
+    shown_text_as console number stand ∷ shown_texts_from console (number + 1) stands
 
 -- `show`
 abbrev pub shown : Console → Outcome
 shown console =
     refused console
-    (Shown console.text_version console.dict_version (shown_from console 1 console.states))
+    (Shown console.text_version console.dict_version (shown_texts_from console 1 console.states))
 
 -- ---- dictionaries
 
@@ -190,8 +190,8 @@ state_reloaded Finished = Waiting
 state_reloaded Parked = Parked
 
 -- a dictionary comes into force; the reply tells its version
-abbrev pub loaded : Console → Lexicon → Outcome
-loaded console lexicon = record {
+abbrev pub console_after_load : Console → Lexicon → Outcome
+console_after_load console lexicon = record {
   reply = Dict (console.dict_version + 1);
   after = record console {
     dict_version = console.dict_version + 1;

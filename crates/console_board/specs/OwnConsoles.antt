@@ -11,8 +11,8 @@ use Rattle.personal_words.specs.declared.items.OwnItem.{OwnItem}
 use Rattle.personal_words.specs.declared.faults.OwnLineWhy.{OwnLineWhy}
 use Rattle.personal_words.specs.Extended.{extended}
 use Rattle.personal_words.specs.Lists.{added}
-use Rattle.spell_types.specs.declared.Lexicon.{Lexicon}
-use Rattle.console_board.specs.Consoles.{Console, loaded, opened}
+use Rattle.mark_types.specs.spell_types.declared.Lexicon.{Lexicon}
+use Rattle.console_board.specs.Consoles.{Console, console_after_load, opened_console}
 
 pub record OwnConsole : Type 0 where
   pub console : Console
@@ -22,7 +22,7 @@ pub record OwnConsole : Type 0 where
 -- a console opens by a base and a list, without a text
 abbrev pub own_opened : Lexicon → List OwnItem → OwnConsole
 own_opened base own =
-    record { console = opened (extended base own); base = base; own = own }
+    record { console = opened_console (extended base own); base = base; own = own }
 
 -- a reply, and the console behind it
 pub record OwnOutcome : Type 0 where
@@ -36,7 +36,7 @@ own_stays before reply = record { reply = reply; after = before }
 -- a base extended by a list comes into force; the reply tells the dictionary's version
 abbrev pub put_in_force : OwnConsole → Lexicon → List OwnItem → OwnOutcome
 put_in_force before base own =
-    let outcome = loaded before.console (extended base own) in record {
+    let outcome = console_after_load before.console (extended base own) in record {
       reply = outcome.reply;
       after = record { console = outcome.after; base = base; own = own };
     }

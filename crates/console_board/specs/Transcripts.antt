@@ -16,11 +16,12 @@ use Rattle.console_lang.specs.declared.reply.Reply.TheVariants.{NoCommand, NoFil
 use Rattle.dictionary_swap.specs.Loads.{DictionaryFiles, lexicon_due, found_in}
 use Rattle.outside.specs.Files.{Folder}
 use Rattle.personal_words.specs.declared.items.OwnItem.{OwnItem}
-use Rattle.paragraph_text.specs.Paragraphs.{HasNoBreak}
-use Rattle.spell_types.specs.declared.Lexicon.{Lexicon}
+use Rattle.edit_core.specs.paragraph_text.Paragraphs.{HasNoBreak}
+use Rattle.mark_types.specs.spell_types.declared.Lexicon.{Lexicon}
 use Rattle.console_board.specs.Consoles.{Console, Outcome, TextState, Waiting, Finished, Parked}
-use Rattle.console_board.specs.Consoles.{inserted, replaced, substituted, removed, stopped, asked}
-use Rattle.console_board.specs.Consoles.{settled, shown}
+use Rattle.console_board.specs.Consoles.{inserted, console_after_put, substituted, removed, stopped}
+use Rattle.console_board.specs.Consoles.{asked}
+use Rattle.console_board.specs.Consoles.{console_after_settle, shown}
 use Rattle.console_board.specs.OwnConsoles.{OwnConsole, OwnOutcome, load_outcome, own_opened, owned}
 
 -- ---- what lines ask for
@@ -39,8 +40,8 @@ abbrev pub is_quit : List ℕ → Bool
 is_quit line = quits (line_says line)
 
 -- the lines before the first that is `quit`
-abbrev pub before_quit : List (List ℕ) → List (List ℕ)
-before_quit lines = take_while (λ line. not (is_quit line)) lines
+abbrev pub lines_before_quit : List (List ℕ) → List (List ℕ)
+lines_before_quit lines = take_while (λ line. not (is_quit line)) lines
 
 -- what a line asks for: nothing where it is blank, a command, or, where it is no command, that this
 -- is said
@@ -57,8 +58,8 @@ HasWholeText (Sub place from to text) = HasNoBreak text
 HasWholeText _ = Unit {0}
 
 -- what lines ask for, one after another
-unfoldable pub asked_by : List (List ℕ) → List (Option Command)
-asked_by lines = filter_map (λ line. asked_for (line_says line)) lines
+unfoldable pub commands_asked_by : List (List ℕ) → List (Option Command)
+commands_asked_by lines = filter_map (λ line. asked_for (line_says line)) lines
 
 -- ---- what is done
 
@@ -76,7 +77,7 @@ HasOutcome outcome reply after = (reply ≡ outcome.reply) × (after ≡ outcome
 -- `quit` is not replied to
 unfoldable pub IsReplyTo : Console → Command → Reply → Console → Type 0
 IsReplyTo before (Ins place text) reply after = HasOutcome (inserted before place text) reply after
-IsReplyTo before (Put place text) reply after = HasOutcome (replaced before place text) reply after
+IsReplyTo before (Put place text) reply after = HasOutcome (console_after_put before place text) reply after
 IsReplyTo before (Sub place from to text) reply after =
     HasOutcome (substituted before place from to text) reply after
 IsReplyTo before (Del place) reply after = HasOutcome (removed before place) reply after
@@ -85,7 +86,7 @@ IsReplyTo before (Own text) reply after = ⊥
 IsReplyTo before (Stop place) reply after = HasOutcome (stopped before place) reply after
 IsReplyTo before (Ask place) reply after = HasOutcome (asked before place) reply after
 IsReplyTo before Show reply after = HasOutcome (shown before) reply after
-IsReplyTo before Settle reply after = HasOutcome (settled before) reply after
+IsReplyTo before Settle reply after = HasOutcome (console_after_settle before) reply after
 IsReplyTo before Quit reply after = ⊥
 
 -- a command that is of a base or of a list of personal words has this outcome
@@ -93,8 +94,8 @@ abbrev pub HasOwnOutcome : OwnOutcome → Reply → OwnConsole → Type 0
 HasOwnOutcome outcome reply after = (reply ≡ outcome.reply) × (after ≡ outcome.after)
 
 -- a load has the outcome that its files say, or it is told that the files failed
-abbrev pub Loads : Option Folder → OwnConsole → List ℕ → List ℕ → Reply → OwnConsole → Type 0
-Loads told before aff dic reply after =
+abbrev pub LoadsFiles : Option Folder → OwnConsole → List ℕ → List ℕ → Reply → OwnConsole → Type 0
+LoadsFiles told before aff dic reply after =
     ((there : DictionaryFiles) × IsThere told aff dic there
     × HasOwnOutcome (load_outcome before (lexicon_due there)) reply after)
     ⊎ ((reply ≡ NoFiles) × (after ≡ before))
@@ -107,7 +108,7 @@ RepliesBeside before command reply after =
 
 -- what is replied to a command, and what the console with its base and its list has then come to
 unfoldable pub IsOwnReplyTo : Option Folder → OwnConsole → Command → Reply → OwnConsole → Type 0
-IsOwnReplyTo told before (Load aff dic) reply after = Loads told before aff dic reply after
+IsOwnReplyTo told before (Load aff dic) reply after = LoadsFiles told before aff dic reply after
 IsOwnReplyTo told before (Own text) reply after = HasOwnOutcome (owned before text) reply after
 IsOwnReplyTo told before command reply after = RepliesBeside before command reply after
 
@@ -121,17 +122,17 @@ IsReplyToAsked told before (Some command) reply after =
 -- ---- what is checked meanwhile
 
 -- what waits may become finished; all else stays
-abbrev pub MayFinish : TextState → TextState → Type 0
-MayFinish Waiting after = (after ≡ Waiting) ⊎ (after ≡ Finished)
-MayFinish Finished after = after ≡ Finished
-MayFinish Parked after = after ≡ Parked
+abbrev pub MayChangeTo : TextState → TextState → Type 0
+MayChangeTo Waiting after = (after ≡ Waiting) ⊎ (after ≡ Finished)
+MayChangeTo Finished after = after ≡ Finished
+MayChangeTo Parked after = after ≡ Parked
 
 -- some of what waits, none or all of it, is finished
 pub record IsChecked (before after : OwnConsole) : Type 0 where
   pub states : List TextState
   pub after_is : after
       ≡ record before { console = record before.console { states = states } }
-  pub each : AllZip MayFinish before.console.states states
+  pub each : AllZip MayChangeTo before.console.states states
 
 -- between two commands so many workers check: where there is none, nothing changes
 abbrev pub IsMeanwhile : ℕ → OwnConsole → OwnConsole → Type 0
@@ -155,7 +156,7 @@ Answers workers told before (command ∷ commands) (reply ∷ replies) after =
 pub record IsTranscript (workers : ℕ) (told : Option Folder) (base : Lexicon) (own : List OwnItem)
     (lines : List (List ℕ)) (replies : List Reply) : Type 0 where
   pub last : OwnConsole
-  pub answers : Answers workers told (own_opened base own) (asked_by lines) replies last
+  pub answers : Answers workers told (own_opened base own) (commands_asked_by lines) replies last
 
 -- what is written of replies
 abbrev pub written_of : List Reply → List ℕ

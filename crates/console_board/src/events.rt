@@ -2,28 +2,28 @@
 
 ghost use Rattle.std.specs.Prelude.{◌≡◌, ◌≤◌, length, IfNone, IfSome, None};
 ghost use Rattle.std.specs.Option.{option_map};
-ghost use Rattle.paragraph_text.specs.declared.edits.Edit.TheVariants.{Replace};
+ghost use Rattle.edit_core.specs.paragraph_text.declared.edits.Edit.TheVariants.{Replace};
 ghost use Rattle.edit_core.specs.Events.{AnEdit, event_of};
 ghost use Rattle.edit_core.specs.Seen.{IsValidBoard};
-ghost use Rattle.console_board.specs.BoardAnswers.{IsNamed, IsWholeAt, PutsWhole, event_for};
+ghost use Rattle.console_board.specs.BoardAnswers.{NamesParagraph, IsWholeAt, PutsWhole, event_for};
 ghost use Rattle.console_board.specs.BoardAnswers.{gap_at, paragraph_at};
-ghost use Rattle.paragraph_text.specs.declared.limits.TheConstants.{MOST_PARAGRAPHS};
+ghost use Rattle.edit_core.specs.paragraph_text.declared.limits.TheConstants.{MOST_PARAGRAPHS};
 
 use console_lang::Command;
+use edit_core::paragraph_text::Edit;
 use edit_core::{Board, Event};
 use mark_types::Judge;
-use paragraph_text::Edit;
-use text_lines::Text;
+use mark_types::text_lines::Text;
 
 /// What an event says of the paragraph that it names, and how many bytes the paragraph has.
 #[derive(Clone, Copy, Debug)]
-struct Named {
+struct NamedByEvent {
     id: u64,
     rev: u64,
     size: u32,
 }
 
-impl Named {
+impl NamedByEvent {
     /// The edit that puts a text in place of bytes of the paragraph.
     fn replaced(self, from: u32, to: u32, text: Text) -> Edit
         ensures { result ≡ Replace self.id self.rev from to text }
@@ -75,15 +75,15 @@ pub fn event_for<J: Judge + Drop>(
         },
         Command::Del { place } => match named_at(board, place) {
             None => None,
-            Some(Named { id, rev, .. }) => Some(edited(session, Edit::Remove { id, rev })),
+            Some(NamedByEvent { id, rev, .. }) => Some(edited(session, Edit::Remove { id, rev })),
         },
         Command::Stop { place } => match named_at(board, place) {
             None => None,
-            Some(Named { id, .. }) => Some(Event::Park { session, id }),
+            Some(NamedByEvent { id, .. }) => Some(Event::Park { session, id }),
         },
         Command::Ask { place } => match named_at(board, place) {
             None => None,
-            Some(Named { id, .. }) => Some(Event::Ask { session, id }),
+            Some(NamedByEvent { id, .. }) => Some(Event::Ask { session, id }),
         },
         Command::Load { .. }
         | Command::Own { .. }
@@ -94,10 +94,10 @@ pub fn event_for<J: Judge + Drop>(
 }
 
 /// The paragraph at a place, from 1.
-fn named_at<J: Judge + Drop>(board: &Board<J>, place: u32) -> Option<Named>
+fn named_at<J: Judge + Drop>(board: &Board<J>, place: u32) -> Option<NamedByEvent>
     ensures none { IfNone result (paragraph_at board.now place ≡ None) }
     ensures some { IfSome result
-        (λ named. IsNamed board.now place named.id named.rev named.size) }
+        (λ named. NamesParagraph board.now place named.id named.rev named.size) }
     ensures whole { IsWholeAt board.now place }
 {
     board_is_valid(board);
@@ -105,7 +105,7 @@ fn named_at<J: Judge + Drop>(board: &Board<J>, place: u32) -> Option<Named>
         None => None,
         Some(index) => match board.para(index as usize) {
             None => None,
-            Some(view) => Some(Named {
+            Some(view) => Some(NamedByEvent {
                 id: view.id,
                 rev: view.rev,
                 size: view.text.as_str().len() as u32,

@@ -3,8 +3,8 @@
 ghost use Rattle.std.specs.Prelude.{◌≡◌, ◌≤◌, ◌<◌, ◌^◌, ℕ, List, None, Ok, Some, length, true};
 ghost use Rattle.outside.specs.Files.{Folder};
 ghost use Rattle.personal_words.specs.declared.items.OwnItem.{OwnItem};
-ghost use Rattle.spell_types.specs.declared.Lexicon.{Lexicon};
-ghost use Rattle.paragraph_text.specs.Paragraphs.{HasNoBreak};
+ghost use Rattle.mark_types.specs.spell_types.declared.Lexicon.{Lexicon};
+ghost use Rattle.edit_core.specs.paragraph_text.Paragraphs.{HasNoBreak};
 ghost use Rattle.edit_core.specs.Events.{ALoad, SeenEvent};
 ghost use Rattle.edit_core.specs.Seen.{IsValidBoard, Seen};
 ghost use Rattle.edit_core.specs.Steps.{Step, first_refusal};
@@ -15,7 +15,7 @@ ghost use Rattle.console_lang.specs.declared.reply.Reply.TheVariants.{Dict, Done
 ghost use Rattle.console_board.specs.BoardAnswers.{HasReply, IsAsked, PutsWhole, event_for};
 ghost use Rattle.console_board.specs.BoardAnswers.{look_reply, names_place, reply_for};
 ghost use Rattle.console_board.specs.Boards.{console_of};
-ghost use Rattle.console_board.specs.Consoles.{loaded, shown};
+ghost use Rattle.console_board.specs.Consoles.{console_after_load, shown};
 ghost use Rattle.console_board.specs.Transcripts.{HasOutcome, HasWholeText, IsReplyTo};
 ghost use Rattle.console_board.specs.Transcripts.{IsTranscript, failures_in, is_quit, line_says};
 ghost use Rattle.input_lines.specs.declared.limits.TheConstants.{LINE_LIMIT};
@@ -74,7 +74,7 @@ pub fn commands_are_their_events()
         → IsReplyTo (console_of board) command (NoPlace (length board.paragraphs))
         (console_of board) }
     ensures loaded { (before after : Seen) (lexicon : Lexicon) → Step before (ALoad lexicon) after
-        → HasOutcome (loaded (console_of before) lexicon) (Dict after.dict_version)
+        → HasOutcome (console_after_load (console_of before) lexicon) (Dict after.dict_version)
         (console_of after) }
     ensures shown { (board : Seen) → look_reply board ≡ (shown (console_of board)).reply }
 {

@@ -8,7 +8,7 @@ ghost use Rattle.console_board.specs.Transcripts.{is_no_files};
 use console_lang::Reply;
 use dictionary_swap::LoadFault;
 use edit_core::Refusal;
-use lists::NoMemory;
+use outside::lists::NoMemory;
 
 /// The reply to a refusal that has one. That the history is at its last point, that memory is
 /// wanting, a text with a line feed, and the refusals of workers have none.

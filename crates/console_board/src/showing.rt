@@ -7,8 +7,8 @@ ghost use Rattle.console_board.specs.BoardAnswers.{look_reply, shown_para};
 use crate::events::board_is_valid;
 use console_lang::{Reply, ShownPara};
 use edit_core::{Board, Shown};
-use lists::{Copied, Items, NoMemory};
 use mark_types::Judge;
+use outside::lists::{Copied, Items, NoMemory};
 use std::alloc::Global;
 
 /// What `show` replies of a board: the versions, and for each text its marks, or that it is not

@@ -4,11 +4,12 @@ use Rattle.std.proofs.Common.{length, not, false, append_assoc, append-nil, leng
 use Rattle.std.proofs.Common.{arith}
 use Rattle.std.specs.Prelude.{if◌then◌else◌}
 use Rattle.std.proofs.lemmas.Bool.{true≢false}
-use Rattle.edit_core.specs.Events.{SeenEvent, AnEdit, ALoad, AClaim, AFinish, APark, AnAsk, kind_of}
-use Rattle.edit_core.specs.Runs.{AreSteps, Entry, asked_of, is_quiet, last_board}
-use Rattle.edit_core.specs.Seen.{Seen}
-use Rattle.edit_core.specs.declared.event.EventKind.{EventKind}
-use Rattle.edit_core.specs.declared.event.EventKind.TheVariants as kind
+use Rattle.board_share.specs.edit_core.Events.{SeenEvent, AnEdit, ALoad, AClaim, AFinish, APark}
+use Rattle.board_share.specs.edit_core.Events.{AnAsk, kind_of}
+use Rattle.board_share.specs.edit_core.Runs.{AreSteps, Entry, asked_of, is_quiet, last_board}
+use Rattle.board_share.specs.edit_core.Seen.{Seen}
+use Rattle.board_share.specs.edit_core.declared.event.EventKind.{EventKind}
+use Rattle.board_share.specs.edit_core.declared.event.EventKind.TheVariants as kind
 use Rattle.board_share.specs.Eyes.{EyeSeen, IsLater, counted, entries_in, events_in, last_of}
 use Rattle.board_share.specs.declared.counts.Counts.{Counts}
 use Rattle.board_share.specs.declared.told.Told.{Told as ToldOf}

@@ -11,10 +11,11 @@ use Rattle.std.proofs.lemmas.List.Sorted.{All-permutation, IsPermutation-sym}
 use Rattle.std.proofs.lemmas.List.Sums.{sum_by-cons}
 use Rattle.spell_types.specs.JointLaws.{nat-own}
 use Rattle.personal_words.specs.Dictionaries.{OwnSeen, in_force}
-use Rattle.edit_core.specs.Runs.{AreSteps, Entry, Run, asked_by, asked_of, entries_through}
-use Rattle.edit_core.specs.Runs.{IsRun, is_quiet, last_board}
-use Rattle.edit_core.specs.declared.limits.TheConstants.{MOST_MOVED}
-use Rattle.edit_core.specs.Seen.{IsValidBoard, Seen, opening_of}
+use Rattle.board_share.specs.edit_core.Runs.{AreSteps, Entry, Run, events_asked_by, asked_of}
+use Rattle.board_share.specs.edit_core.Runs.{entries_through}
+use Rattle.board_share.specs.edit_core.Runs.{IsRun, is_quiet, last_board}
+use Rattle.board_share.specs.edit_core.declared.limits.TheConstants.{MOST_MOVED}
+use Rattle.board_share.specs.edit_core.Seen.{IsValidBoard, Seen, opening_of}
 use Rattle.board_share.specs.Endings.{HasEventsOf, IsTheirs}
 use Rattle.board_share.specs.Eyes.{EyeSeen, IsLater, entries_in, events_in, fresh_eye}
 use Rattle.board_share.specs.Eyes.{last_of}
@@ -61,24 +62,24 @@ head-same false false false is none = absurd (false≢true is)
 -- where no number below a bound asks but one, all that is asked comes through that one
 asked-through : (bound by : ℕ) (entries : List Entry)
     → AllByRecursion (λ entry. entry.by < bound) entries
-    → ((k : ℕ) → k < bound → (k == by) ≡ false → asked_by k entries ≡ 0)
-    → asked_of entries ≡ asked_by by entries
+    → ((k : ℕ) → k < bound → (k == by) ≡ false → events_asked_by k entries ≡ 0)
+    → asked_of entries ≡ events_asked_by by entries
 asked-through bound by [] below none = refl
 asked-through bound by (entry ∷ entries) below none =
     let test : ℕ → Entry → ℕ = λ k (e : Entry).
     cond {A = ℕ} (not (is_quiet e.event) && (e.by == k)) 1 0 in
-    let here : (k : ℕ) → asked_by k (entry ∷ entries) ≡ test k entry + asked_by k entries =
+    let here : (k : ℕ) → events_asked_by k (entry ∷ entries) ≡ test k entry + events_asked_by k entries =
     λ k. sum_by-cons (test k) entry entries in
     both-same (cond {A = ℕ} (not (is_quiet entry.event)) 1 0) (test by entry) (asked_of entries)
-    (asked_by by entries) (asked_of (entry ∷ entries)) (asked_by by (entry ∷ entries))
+    (events_asked_by by entries) (asked_of (entry ∷ entries)) (events_asked_by by (entry ∷ entries))
     (sum_by-cons (λ (e : Entry). cond {A = ℕ} (not (is_quiet e.event)) 1 0) entry entries)
     (here by)
     (head-same (is_quiet entry.event) (entry.by == by) (entry.by == entry.by)
     (nat-own entry.by)
-    (λ other. left-none (test entry.by entry) (asked_by entry.by entries)
-    (asked_by entry.by (entry ∷ entries)) (here entry.by) (none entry.by below.0 other)))
+    (λ other. left-none (test entry.by entry) (events_asked_by entry.by entries)
+    (events_asked_by entry.by (entry ∷ entries)) (here entry.by) (none entry.by below.0 other)))
     (asked-through bound by entries below.1 (λ k less other.
-    right-none (test k entry) (asked_by k entries) (asked_by k (entry ∷ entries)) (here k)
+    right-none (test k entry) (events_asked_by k entries) (events_asked_by k (entry ∷ entries)) (here k)
     (none k less other)))
 
 -- what holds of the number of each eye holds of all numbers
@@ -111,12 +112,12 @@ lone-number (one ∷ other ∷ eyes) eye long numbers has = absurd (omega (arith
 -- an eye asks for nothing, or it is the console's
 asks-nothing : (by : ℕ) (history : Run) (eye : EyeSeen) → HasEventsOf history eye
     → (eye.number ≡ by) ⊎ (events_in eye.counts ≡ 0)
-    → (asked_by eye.number history.entries ≡ 0) ⊎ (eye.number ≡ by)
+    → (events_asked_by eye.number history.entries ≡ 0) ⊎ (eye.number ≡ by)
 asks-nothing by history eye has (inl own) = inr own
 asks-nothing by history eye has (inr none) = inl (has.events ∙ none)
 
-none-through : (by k : ℕ) (history : Run) → (asked_by k history.entries ≡ 0) ⊎ (k ≡ by)
-    → (k == by) ≡ false → asked_by k history.entries ≡ 0
+none-through : (by k : ℕ) (history : Run) → (events_asked_by k history.entries ≡ 0) ⊎ (k ≡ by)
+    → (k == by) ≡ false → events_asked_by k history.entries ≡ 0
 none-through by k history (inl none) other = none
 none-through by k history (inr same) other = other-number k by other same
 
@@ -156,14 +157,14 @@ module _ {given : Given} {eyes : List EyeSeen} {eye : EyeSeen} {history : Run}
       let by = given.by in
       let has : All (HasEventsOf history) eyes =
       All-from_recursion (HasEventsOf history) eyes closed.theirs.each in
-      let asks : All (λ (other : EyeSeen). (asked_by other.number history.entries ≡ 0)
+      let asks : All (λ (other : EyeSeen). (events_asked_by other.number history.entries ≡ 0)
       ⊎ (other.number ≡ by)) eyes =
       λ k d less. asks-nothing by history _ (has k d less) (closed.alone k d less) in
       asked-through (length eyes) by history.entries closed.theirs.others
       (λ k less other. none-through by k history
-      (each-number (λ n. (asked_by n history.entries ≡ 0) ⊎ (n ≡ by)) (length eyes) eyes
+      (each-number (λ n. (events_asked_by n history.entries ≡ 0) ⊎ (n ≡ by)) (length eyes) eyes
       closed.numbers asks k less) other)
-      ∙ ap (λ n. asked_by n history.entries) (sym closed.number) ∙ its-events.events
+      ∙ ap (λ n. events_asked_by n history.entries) (sym closed.number) ∙ its-events.events
 
   length-all : ThroughAll → given.workers ≡ 0 → length history.entries ≡ entries_in eye.counts
   length-all through none =

@@ -10,9 +10,9 @@ use Rattle.personal_words.specs.Lists.{added}
 use Rattle.personal_words.specs.Dictionaries.{OwnSeen, in_force}
 use Rattle.dictionary_swap.specs.Loads.{lexicon_due}
 use Rattle.dictionary_swap.specs.declared.fault.LoadFault.{LoadFault}
-use Rattle.edit_core.specs.Events.{ALoad}
-use Rattle.edit_core.specs.Runs.{AreQuiet, Entry, last_board}
-use Rattle.edit_core.specs.Seen.{Seen}
+use Rattle.board_share.specs.edit_core.Events.{ALoad}
+use Rattle.board_share.specs.edit_core.Runs.{AreQuiet, Entry, last_board}
+use Rattle.board_share.specs.edit_core.Seen.{Seen}
 use Rattle.board_share.specs.Eyes.{EyeSeen, last_of}
 use Rattle.board_share.specs.Settled.{AreClosedIn}
 use Rattle.console_lang.specs.declared.command.Command.{Command}
@@ -22,7 +22,8 @@ use Rattle.console_lang.specs.declared.reply.Reply.{Reply}
 use Rattle.console_lang.specs.declared.reply.Reply.TheVariants.{Done, Dict}
 use Rattle.console_board.specs.BoardAnswers.{look_reply}
 use Rattle.console_history.specs.Followed.{AreBetween, Follows, Given, IsBaseFollowed, IsFollowed}
-use Rattle.console_history.specs.Followed.{IsFollowedOne, IsItemFollowed, IsReload, IsSettledIn}
+use Rattle.console_history.specs.Followed.{IsFollowedOne, IsItemFollowed, IsReload}
+use Rattle.console_history.specs.Followed.{IsConsoleSettledIn}
 use Rattle.console_history.specs.Followed.{Due, FilesFailed}
 use Rattle.console_history.specs.Told.{Due as WasDue, FilesFailed as DidFail, IsBaseTold}
 use Rattle.console_history.specs.Told.{IsItemTold, IsReloadTold, IsToldOne, IsToldTo}
@@ -192,7 +193,7 @@ module _ (laws : CoreLaws) where
     -- ---- what is settled
     settled : (old new : EyeSeen) (reply : Reply) → Settles old new → HasCounted old
         → HasNoMore given.workers new → reply ≡ Done (last_of new.run).text_version
-        → StretchOf old new (λ part. IsSettledIn (last_of old.run) part reply)
+        → StretchOf old new (λ part. IsConsoleSettledIn (last_of old.run) part reply)
     settled old new reply settles least most replied =
         let is = settles.settled in
         let part = is.skipped ++ is.behind in

@@ -9,8 +9,8 @@ use Rattle.personal_words.specs.Lists.{added}
 use Rattle.personal_words.specs.Dictionaries.{in_force}
 use Rattle.dictionary_swap.specs.Loads.{lexicon_due}
 use Rattle.dictionary_swap.specs.declared.fault.LoadFault.{LoadFault}
-use Rattle.edit_core.specs.Events.{SeenEvent, ALoad}
-use Rattle.edit_core.specs.Runs.{asked_of, is_quiet}
+use Rattle.board_share.specs.edit_core.Events.{SeenEvent, ALoad}
+use Rattle.board_share.specs.edit_core.Runs.{asked_of, is_quiet}
 use Rattle.board_share.specs.Eyes.{EyeSeen, IsLater, entries_in, events_in, last_of}
 use Rattle.board_share.specs.declared.told.Told.{Told as ToldOf}
 use Rattle.board_share.specs.Eyes.{CountsChecks}

@@ -3,13 +3,14 @@ use Rattle.std.proofs.Common.{◌≡◌, ◌∙◌, refl, sym, ap, subst, ℕ, f
 use Rattle.std.proofs.Common.{length, Option, None, Some, append_assoc}
 use Rattle.std.specs.Option.{option_map}
 use Rattle.std.proofs.lemmas.Option.{same_Some}
-use Rattle.paragraph_text.specs.Paragraphs.{Paragraph}
-use Rattle.paragraph_text.specs.declared.edits.Edit.TheVariants.{Insert, Remove, Replace}
-use Rattle.edit_core.specs.Events.{SeenEvent, AnEdit, APark, AnAsk}
-use Rattle.edit_core.specs.Runs.{AreSteps, Entry, is_quiet, last_board}
-use Rattle.edit_core.specs.Seen.{Seen}
-use Rattle.edit_core.specs.Steps.{first_refusal}
-use Rattle.edit_core.specs.declared.refusal.Refusal.{Refusal}
+use Rattle.board_share.specs.paragraph_text.Paragraphs.{Paragraph}
+use Rattle.board_share.specs.paragraph_text.declared.edits.Edit.TheVariants.{Insert, Remove}
+use Rattle.board_share.specs.paragraph_text.declared.edits.Edit.TheVariants.{Replace}
+use Rattle.board_share.specs.edit_core.Events.{SeenEvent, AnEdit, APark, AnAsk}
+use Rattle.board_share.specs.edit_core.Runs.{AreSteps, Entry, is_quiet, last_board}
+use Rattle.board_share.specs.edit_core.Seen.{Seen}
+use Rattle.board_share.specs.edit_core.Steps.{first_refusal}
+use Rattle.board_share.specs.edit_core.declared.refusal.Refusal.{Refusal}
 use Rattle.board_share.specs.Eyes.{EyeSeen, last_of}
 use Rattle.board_share.specs.declared.told.Told.{Told as ToldOf}
 use Rattle.console_lang.specs.declared.command.Command.{Command}

@@ -3,19 +3,20 @@ use Rattle.std.proofs.Common.{refl, sym, ap, inl, inr, subst, ℕ, zero, suc, Li
 use Rattle.std.proofs.Common.{map}
 use Rattle.std.specs.List.{AllZip}
 use Rattle.std.proofs.lemmas.Bool.{false≢true}
-use Rattle.paragraph_text.specs.Paragraphs.{Paragraph}
+use Rattle.board_share.specs.paragraph_text.Paragraphs.{Paragraph}
 use Rattle.personal_words.specs.Dictionaries.{OwnSeen}
-use Rattle.edit_core.specs.Runs.{AreQuiet, AreSteps, Entry, IsQuiet, MayBecome, last_board}
-use Rattle.edit_core.specs.Seen.{Seen}
-use Rattle.edit_core.specs.declared.state.Standing.{Standing}
-use Rattle.edit_core.specs.declared.state.Standing.TheVariants as standing
+use Rattle.board_share.specs.edit_core.Runs.{AreQuiet, AreSteps, Entry, IsQuiet, MayBecome}
+use Rattle.board_share.specs.edit_core.Runs.{last_board}
+use Rattle.board_share.specs.edit_core.Seen.{Seen}
+use Rattle.board_share.specs.edit_core.declared.state.Standing.{Standing}
+use Rattle.board_share.specs.edit_core.declared.state.Standing.TheVariants as standing
 use Rattle.console_lang.specs.declared.command.Command.{Command}
 use Rattle.console_lang.specs.declared.command.Command.TheVariants.{Put}
 use Rattle.console_board.specs.BoardAnswers.{IsWholeAt, PutsWhole}
 use Rattle.console_board.specs.Boards.{own_console_of, state_of}
 use Rattle.console_board.specs.Consoles.{TextState, Waiting, Finished, Parked}
 use Rattle.console_board.specs.OwnConsoles.{OwnConsole}
-use Rattle.console_board.specs.Transcripts.{IsChecked, IsMeanwhile, MayFinish}
+use Rattle.console_board.specs.Transcripts.{IsChecked, IsMeanwhile, MayChangeTo}
 use Rattle.console_history.specs.Followed.{AreBetween}
 
 -- what is said of every history
@@ -27,7 +28,7 @@ WorkersKeepTexts = (board : Seen) (entries : List Entry) → AreSteps board entr
 
 -- what a worker may do to a paragraph finishes a text that waits, or does nothing
 may-finish : (before after : Standing) → MayBecome before after
-    → MayFinish (state_of before) (state_of after)
+    → MayChangeTo (state_of before) (state_of after)
 may-finish standing.Parked standing.Parked may = refl
 may-finish standing.Parked _ may = absurd (false≢true may.parked)
 may-finish standing.Finished standing.Finished may = refl
@@ -42,19 +43,19 @@ may-finish (standing.Held worker) standing.Finished may = inr refl
 may-finish (standing.Held worker) standing.Parked may = absurd (false≢true (sym may.parked))
 
 all-may-finish : (before after : List Standing) → AllZip MayBecome before after
-    → AllZip MayFinish (map state_of before) (map state_of after)
+    → AllZip MayChangeTo (map state_of before) (map state_of after)
 all-may-finish [] [] may = tt
 all-may-finish [] (later ∷ after) may = absurd may
 all-may-finish (stands ∷ before) [] may = absurd may
 all-may-finish (stands ∷ before) (later ∷ after) may =
     (may-finish stands later may.0, all-may-finish before after may.1)
 
-stays : (state : TextState) → MayFinish state state
+stays : (state : TextState) → MayChangeTo state state
 stays Waiting = inl refl
 stays Finished = refl
 stays Parked = refl
 
-all-stay : (states : List TextState) → AllZip MayFinish states states
+all-stay : (states : List TextState) → AllZip MayChangeTo states states
 all-stay [] = tt
 all-stay (state ∷ states) = (stays state, all-stay states)
 

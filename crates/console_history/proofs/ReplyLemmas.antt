@@ -9,11 +9,11 @@ use Rattle.personal_words.specs.Lists.{added}
 use Rattle.personal_words.specs.Dictionaries.{OwnSeen, in_force}
 use Rattle.dictionary_swap.specs.Loads.{lexicon_due}
 use Rattle.dictionary_swap.specs.declared.fault.LoadFault.{LoadFault}
-use Rattle.edit_core.specs.Events.{SeenEvent, ALoad}
-use Rattle.edit_core.specs.Runs.{AreQuiet, AreSteps, Entry, last_board}
-use Rattle.edit_core.specs.Seen.{IsValidBoard, Seen}
-use Rattle.edit_core.specs.Steps.{Step, first_refusal}
-use Rattle.edit_core.specs.declared.refusal.Refusal.{Refusal}
+use Rattle.board_share.specs.edit_core.Events.{SeenEvent, ALoad}
+use Rattle.board_share.specs.edit_core.Runs.{AreQuiet, AreSteps, Entry, last_board}
+use Rattle.board_share.specs.edit_core.Seen.{IsValidBoard, Seen}
+use Rattle.board_share.specs.edit_core.Steps.{Step, first_refusal}
+use Rattle.board_share.specs.edit_core.declared.refusal.Refusal.{Refusal}
 use Rattle.console_lang.specs.declared.command.Command.{Command}
 use Rattle.console_lang.specs.declared.command.Command.TheVariants.{Ins, Put, Sub, Del, Load, Stop}
 use Rattle.console_lang.specs.declared.command.Command.TheVariants.{Ask, Own, Show, Settle, Quit}
@@ -22,14 +22,15 @@ use Rattle.console_lang.specs.declared.reply.Reply.TheVariants.{Dict, Done, NoPl
 use Rattle.console_board.specs.BoardAnswers.{PutsWhole, event_for, look_reply, names_place}
 use Rattle.console_board.specs.BoardAnswers.{reply_for}
 use Rattle.console_board.specs.Boards.{console_of, own_console_of}
-use Rattle.console_board.specs.Consoles.{loaded, shown}
+use Rattle.console_board.specs.Consoles.{console_after_load, shown}
 use Rattle.console_board.specs.OwnConsoles.{OwnConsole, load_outcome, own_outcome}
 use Rattle.console_board.specs.OwnConsoles.{put_in_force}
 use Rattle.console_board.specs.Transcripts.{Answers, HasOutcome, HasOwnOutcome, IsMeanwhile}
-use Rattle.console_board.specs.Transcripts.{IsOwnReplyTo, IsReplyTo, IsReplyToAsked, Loads}
+use Rattle.console_board.specs.Transcripts.{IsOwnReplyTo, IsReplyTo, IsReplyToAsked, LoadsFiles}
 use Rattle.console_history.specs.Followed.{AreBetween, Follows, Given, IsBaseFollowed, IsFollowed}
 use Rattle.console_history.specs.Followed.{IsFollowedOne, IsItemFollowed, IsLoadFollowed}
-use Rattle.console_history.specs.Followed.{IsOwnEvent, IsPlaceFollowed, IsReload, IsSettledIn}
+use Rattle.console_history.specs.Followed.{IsOwnEvent, IsPlaceFollowed, IsReload}
+use Rattle.console_history.specs.Followed.{IsConsoleSettledIn}
 use Rattle.console_history.specs.Followed.{Due, FilesFailed, Taken, NoSuchPlace, TurnedDown}
 use Rattle.console_history.proofs.QuietLemmas.{WorkersKeepTexts, meanwhile, nothing-meanwhile}
 use Rattle.console_history.proofs.SettleLemmas.{IdsArePlaces, RunsAreApart, RunsAreValid}
@@ -56,7 +57,7 @@ pub record Known : Type 0 where
       → event_for by board command ≡ None
       → IsReplyTo (console_of board) command (NoPlace (length board.paragraphs)) (console_of board)
   pub loaded_is : (before after : Seen) (lexicon : Lexicon) → Step before (ALoad lexicon) after
-      → HasOutcome (loaded (console_of before) lexicon) (Dict after.dict_version)
+      → HasOutcome (console_after_load (console_of before) lexicon) (Dict after.dict_version)
       (console_of after)
   pub shown_is : (board : Seen) → look_reply board ≡ (shown (console_of board)).reply
 
@@ -202,12 +203,12 @@ module _ (known : Known) (given : Given) (board : Seen) (part : List Entry)
   load-replies : (before after : OwnSeen) (aff dic : List ℕ) (reply : Reply)
       → IsLoadFollowed given aff dic before board part after reply
       → Replies given.workers before board
-      (λ ready. Loads given.folder ready aff dic reply (own_console_of after last))
+      (λ ready. LoadsFiles given.folder ready aff dic reply (own_console_of after last))
   load-replies before after aff dic reply (Due there is_there is) =
       does-so (λ ready outcome. inl (there, is_there, outcome))
       (base-replies before after (lexicon_due there) reply is)
   load-replies before after aff dic reply (FilesFailed are same is) =
-      stays (λ one next. Loads given.folder one aff dic reply next) before after are same
+      stays (λ one next. LoadsFiles given.folder one aff dic reply next) before after are same
       (inr (is, refl))
 
   item-replies : (before after : OwnSeen) (due : Result (Option OwnItem) OwnLineWhy)
@@ -237,7 +238,7 @@ module _ (known : Known) (given : Given) (board : Seen) (part : List Entry)
       same ((is ∙ known.shown_is last, refl), refl)
 
   settle-replies : (before after : OwnSeen) (reply : Reply) → after ≡ before
-      → IsSettledIn board part reply
+      → IsConsoleSettledIn board part reply
       → Replies given.workers before board
       (λ ready. IsOwnReplyTo given.folder ready Settle reply (own_console_of after last))
   unfolding IsOwnReplyTo IsReplyTo

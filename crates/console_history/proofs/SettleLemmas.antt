@@ -6,16 +6,16 @@ use Rattle.std.specs.List.{AllZip}
 use Rattle.std.specs.Option.{option_map_or}
 use Rattle.std.proofs.lemmas.Bool.{eq-eqb, false≢true}
 use Rattle.std.proofs.lemmas.Option.{cond_some, slice_get-get_or, slice_get_within}
-use Rattle.paragraph_text.specs.Paragraphs.{Paragraph}
-use Rattle.edit_core.specs.Laws.{find-beside}
-use Rattle.edit_core.specs.Runs.{AreQuiet, AreSteps, Entry, MayBecome, last_board}
-use Rattle.edit_core.specs.Seen.{IsValidBoard, Seen}
-use Rattle.edit_core.specs.Steps.{found, is_open, place_of}
-use Rattle.edit_core.specs.declared.state.Standing.{Standing}
-use Rattle.edit_core.specs.declared.state.Standing.TheVariants as standing
+use Rattle.board_share.specs.paragraph_text.Paragraphs.{Paragraph}
+use Rattle.board_share.specs.edit_core.Laws.{find-beside}
+use Rattle.board_share.specs.edit_core.Runs.{AreQuiet, AreSteps, Entry, MayBecome, last_board}
+use Rattle.board_share.specs.edit_core.Seen.{IsValidBoard, Seen}
+use Rattle.board_share.specs.edit_core.Steps.{found, is_open, place_of}
+use Rattle.board_share.specs.edit_core.declared.state.Standing.{Standing}
+use Rattle.board_share.specs.edit_core.declared.state.Standing.TheVariants as standing
 use Rattle.board_share.specs.Settled.{AreClosedIn, IsClosedIn, is_open_for}
 use Rattle.console_board.specs.Boards.{console_of, state_of}
-use Rattle.console_board.specs.Consoles.{settled, settled_state}
+use Rattle.console_board.specs.Consoles.{console_after_settle, settled_state}
 use Rattle.console_history.proofs.QuietLemmas.{WorkersKeepTexts, quiet-parts}
 
 -- ---- how a paragraph stands
@@ -165,19 +165,19 @@ module _ (keeps : WorkersKeepTexts) (apart : RunsAreApart) (ends : RunsHaveLast)
       → AreSteps board behind → AreQuiet behind → AreClosedIn board behind → (place : ℕ)
       (stands : Standing) → slice_get (last_board board behind).standings place ≡ Some stands
       → ¬ (is_open stands ≡ true)
-  closed-last board behind valid steps quiet settled place stands stood free =
+  closed-last board behind valid steps quiet console_after_settle place stands stood free =
       let whole = keeps board behind steps quiet in
       let was = beside board.standings (last_board board behind).standings place stands
       whole.standings stood in
       let there = paragraph-beside board place was.0 valid was.1 in
       closed-once board behind place there.0 stands valid steps quiet there.1 stood
-      (settled place there.0 was.0 there.1 was.1 (was-open was.0 stands was.2 free)) free
+      (console_after_settle place there.0 was.0 there.1 was.1 (was-open was.0 stands was.2 free)) free
 
   -- and the console has then settled all that was not parked
   pub settled-last : (board : Seen) (skipped behind : List Entry) → IsValidBoard board
       → AreSteps board (skipped ++ behind) → AreQuiet (skipped ++ behind)
       → AreClosedIn (last_board board skipped) behind
-      → console_of (last_board board (skipped ++ behind)) ≡ (settled (console_of board)).after
+      → console_of (last_board board (skipped ++ behind)) ≡ (console_after_settle (console_of board)).after
   settled-last board skipped behind valid steps quiet closed =
       let last = last_board board (skipped ++ behind) in
       let now = last_board board skipped in

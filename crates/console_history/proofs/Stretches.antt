@@ -3,8 +3,9 @@ use Rattle.std.proofs.Common.{◌≡◌, refl, ℕ, zero, suc, ◌+◌, List, []
 use Rattle.std.proofs.Common.{length-append, arith}
 use Rattle.std.specs.Prelude.{if◌then◌else◌}
 use Rattle.std.proofs.lemmas.List.{nil_from_length}
-use Rattle.edit_core.specs.Runs.{AreQuiet, AreSteps, Entry, IsQuiet, asked_of, is_quiet, last_board}
-use Rattle.edit_core.specs.Seen.{Seen}
+use Rattle.board_share.specs.edit_core.Runs.{AreQuiet, AreSteps, Entry, IsQuiet, asked_of, is_quiet}
+use Rattle.board_share.specs.edit_core.Runs.{last_board}
+use Rattle.board_share.specs.edit_core.Seen.{Seen}
 use Rattle.console_history.specs.Followed.{AreBetween}
 
 -- laws of the core

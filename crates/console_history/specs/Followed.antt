@@ -10,11 +10,11 @@ use Rattle.personal_words.specs.Lists.{added}
 use Rattle.personal_words.specs.Dictionaries.{OwnSeen, in_force}
 use Rattle.dictionary_swap.specs.Loads.{DictionaryFiles, lexicon_due}
 use Rattle.dictionary_swap.specs.declared.fault.LoadFault.{LoadFault}
-use Rattle.edit_core.specs.Events.{SeenEvent, ALoad}
-use Rattle.edit_core.specs.Runs.{AreQuiet, Entry, IsRun, Run, last_board}
-use Rattle.edit_core.specs.Seen.{Seen, opening_of}
-use Rattle.edit_core.specs.Steps.{first_refusal}
-use Rattle.edit_core.specs.declared.refusal.Refusal.{Refusal}
+use Rattle.board_share.specs.edit_core.Events.{SeenEvent, ALoad}
+use Rattle.board_share.specs.edit_core.Runs.{AreQuiet, Entry, IsRun, Run, last_board}
+use Rattle.board_share.specs.edit_core.Seen.{Seen, opening_of}
+use Rattle.board_share.specs.edit_core.Steps.{first_refusal}
+use Rattle.board_share.specs.edit_core.declared.refusal.Refusal.{Refusal}
 use Rattle.board_share.specs.Settled.{AreClosedIn}
 use Rattle.console_lang.specs.declared.command.Command.{Command}
 use Rattle.console_lang.specs.declared.command.Command.TheVariants.{Load, Own, Show, Settle, Quit}
@@ -49,7 +49,7 @@ pub record IsOwnEvent (given : Given) (part : List Entry) : Type 0 where
 
 -- a stretch is the event that a command is over the board before it, and the reply tells the text's
 -- version of the board behind it
-pub record IsTaken (given : Given) (command : Command) (board : Seen) (part : List Entry)
+pub record IsConsoleEventTaken (given : Given) (command : Command) (board : Seen) (part : List Entry)
     (reply : Reply) : Type 0 where
   pub is_own : IsOwnEvent given part
   pub event_is : event_for given.session (last_board board is_own.between) command
@@ -58,7 +58,7 @@ pub record IsTaken (given : Given) (command : Command) (board : Seen) (part : Li
 
 -- a stretch has no event of the console; on its last board the command names no place, which is
 -- told with the number of paragraphs
-pub record IsNoPlace (given : Given) (command : Command) (board : Seen) (part : List Entry)
+pub record HasNoPlaceInConsole (given : Given) (command : Command) (board : Seen) (part : List Entry)
     (reply : Reply) : Type 0 where
   pub are_between : AreBetween given.workers part
   pub none : event_for given.session (last_board board part) command ≡ None
@@ -67,7 +67,7 @@ pub record IsNoPlace (given : Given) (command : Command) (board : Seen) (part : 
 -- a stretch has no event of the console; its last board refuses the event that the command is over
 -- it, and the refusal is replied. A text that the command replaces whole has whole characters, as
 -- each text in memory has, so none is refused as a bad span.
-pub record IsTurnedDown (given : Given) (command : Command) (board : Seen) (part : List Entry)
+pub record IsConsoleTurnedDown (given : Given) (command : Command) (board : Seen) (part : List Entry)
     (reply : Reply) : Type 0 where
   pub are_between : AreBetween given.workers part
   pub whole : PutsWhole (last_board board part) command
@@ -80,11 +80,11 @@ pub record IsTurnedDown (given : Given) (command : Command) (board : Seen) (part
 -- how a command that names a place is followed
 pub data IsPlaceFollowed (given : Given) (command : Command) (board : Seen) (part : List Entry)
     (reply : Reply) : Type 0 where
-  Taken : IsTaken given command board part reply
+  Taken : IsConsoleEventTaken given command board part reply
       → IsPlaceFollowed given command board part reply
-  NoSuchPlace : IsNoPlace given command board part reply
+  NoSuchPlace : HasNoPlaceInConsole given command board part reply
       → IsPlaceFollowed given command board part reply
-  TurnedDown : IsTurnedDown given command board part reply
+  TurnedDown : IsConsoleTurnedDown given command board part reply
       → IsPlaceFollowed given command board part reply
 
 -- ---- dictionaries
@@ -129,7 +129,7 @@ IsItemFollowed given before (Err why) board part after reply =
 
 -- A stretch has no event of the console but finished checks. Each paragraph that was open on some
 -- board of it is settled behind that one, and the reply tells the text's version of the last.
-pub record IsSettledIn (board : Seen) (part : List Entry) (reply : Reply) : Type 0 where
+pub record IsConsoleSettledIn (board : Seen) (part : List Entry) (reply : Reply) : Type 0 where
   pub quiet : AreQuiet part
   pub skipped : List Entry
   pub behind : List Entry
@@ -149,7 +149,7 @@ IsFollowed given before Show board part after reply =
     AreBetween given.workers part
     × ((after ≡ before) × (reply ≡ look_reply (last_board board part)))
 IsFollowed given before Settle board part after reply =
-    (after ≡ before) × IsSettledIn board part reply
+    (after ≡ before) × IsConsoleSettledIn board part reply
 IsFollowed given before Quit board part after reply = ⊥
 IsFollowed given before command board part after reply =
     (after ≡ before) × IsPlaceFollowed given command board part reply

@@ -10,10 +10,10 @@ use Rattle.personal_words.specs.Lists.{added}
 use Rattle.personal_words.specs.Dictionaries.{OwnSeen, in_force}
 use Rattle.dictionary_swap.specs.Loads.{DictionaryFiles, lexicon_due}
 use Rattle.dictionary_swap.specs.declared.fault.LoadFault.{LoadFault}
-use Rattle.edit_core.specs.Events.{SeenEvent, ALoad}
-use Rattle.edit_core.specs.Runs.{asked_of}
-use Rattle.edit_core.specs.Steps.{first_refusal}
-use Rattle.edit_core.specs.declared.refusal.Refusal.{Refusal}
+use Rattle.board_share.specs.edit_core.Events.{SeenEvent, ALoad}
+use Rattle.board_share.specs.edit_core.Runs.{asked_of}
+use Rattle.board_share.specs.edit_core.Steps.{first_refusal}
+use Rattle.board_share.specs.edit_core.declared.refusal.Refusal.{Refusal}
 use Rattle.board_share.specs.Events.{IsPublished}
 use Rattle.board_share.specs.Eyes.{EyeSeen, IsLater, CountsOne, CountsNothing, events_in}
 use Rattle.board_share.specs.Eyes.{last_of}
@@ -60,7 +60,7 @@ pub record Publishes (event : SeenEvent) (old new : EyeSeen) (told : ToldOf) : T
   pub published : IsPublished event old new told
 
 -- an event is refused by the last board that it then knows, and the refusal is replied
-pub record IsTurnedDown (event : SeenEvent) (old new : EyeSeen) (reply : Reply) : Type 0 where
+pub record IsEventTurnedDown (event : SeenEvent) (old new : EyeSeen) (reply : Reply) : Type 0 where
   pub looks : Looks old new
   pub refusal : Refusal
   pub first : first_refusal (last_of new.run) event ≡ Some refusal
@@ -78,7 +78,7 @@ pub record Settles (old new : EyeSeen) : Type 0 where
 pub data IsEventTold (event : SeenEvent) (old new : EyeSeen) (reply : Reply) : Type 0 where
   Taken : (told : ToldOf) → Publishes event old new told → reply ≡ Done told.text
       → IsEventTold event old new reply
-  TurnedDown : IsTurnedDown event old new reply → IsEventTold event old new reply
+  TurnedDown : IsEventTurnedDown event old new reply → IsEventTold event old new reply
 
 -- a board has no such place, which is told with its number of paragraphs; or the command is this
 -- event

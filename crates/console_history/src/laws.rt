@@ -5,8 +5,8 @@ ghost use Rattle.std.specs.Prelude.{map, false, All, Contains, IsPermutation, Op
 ghost use Rattle.std.specs.List.{range_with_len};
 ghost use Rattle.outside.specs.Files.{Folder};
 ghost use Rattle.personal_words.specs.Dictionaries.{OwnSeen, in_force};
-ghost use Rattle.edit_core.specs.Runs.{AreSteps, Entry, IsRun, Run, asked_of, is_quiet};
-ghost use Rattle.edit_core.specs.Seen.{IsValidBoard, Seen, opening_of};
+ghost use Rattle.board_share.specs.edit_core.Runs.{AreSteps, Entry, IsRun, Run, asked_of, is_quiet};
+ghost use Rattle.board_share.specs.edit_core.Seen.{IsValidBoard, Seen, opening_of};
 ghost use Rattle.board_share.specs.Endings.{IsTheirs};
 ghost use Rattle.board_share.specs.Eyes.{EyeSeen, IsLater, entries_in, events_in, fresh_eye};
 ghost use Rattle.board_share.specs.Eyes.{last_of};
@@ -20,13 +20,13 @@ ghost use Rattle.console_history.specs.Told.{GoesOneOn, IsToldOne, IsToldTo, Loo
 ghost use Rattle.console_history.specs.Told.{Seat, Told};
 ghost use Rattle.board_share.specs.declared.told.Told.{Told as ToldOf};
 ghost use Rattle.board_share.specs.Eyes.{CountsChecks};
-ghost use Rattle.edit_core.specs.Events.{SeenEvent};
+ghost use Rattle.board_share.specs.edit_core.Events.{SeenEvent};
 
-use console_board::commands_are_their_events;
-use edit_core::{
+use board_share::edit_core::{
     fronts_are_runs, ids_name_paragraphs, numbers_add_up, runs_are_short, runs_go_on,
     workers_keep_texts,
 };
+use console_board::commands_are_their_events;
 
 /// Where all that the eye of a told console knows has no more events that are not of workers than
 /// the eye counts, and without workers no more events at all, the console's commands are followed

@@ -15,15 +15,16 @@ use Rattle.std.proofs.lemmas.List.Elements.{All-from_recursion}
 use Rattle.std.proofs.lemmas.List.Splits.{slice_split_at, slice_split_none}
 use Rattle.std.proofs.lemmas.List.Splits.{join_with_byte-slice_split}
 use Rattle.std.proofs.lemmas.Slice.Eq.{bytes_eq-Decides}
-use Rattle.text_lines.specs.Fields.{has_bytes, is_decimal}
+use Rattle.mark_types.specs.text_lines.Fields.{has_bytes, is_decimal}
 use Rattle.std.proofs.lemmas.Option.{same_Some}
 use Rattle.console_lang.specs.declared.command.Command.{Command}
 use Rattle.console_lang.specs.declared.command.Command.TheVariants.{Ins, Put, Sub, Del, Load, Stop}
 use Rattle.console_lang.specs.declared.command.Command.TheVariants.{Ask, Own, Show, Settle, Quit}
-use Rattle.console_lang.specs.Words.{is_space, is_blank_line, words_of, text_of, number_of}
+use Rattle.console_lang.specs.Words.{is_space, is_blank_line, words_between_spaces, text_of_words}
+use Rattle.console_lang.specs.Words.{number_of}
 use Rattle.console_lang.specs.Commands.{placed_text, of_numbers, placed_span, lone_place, two_names}
 use Rattle.console_lang.specs.Commands.{alone, command_named, command_in, command_of}
-use Rattle.console_lang.specs.CommandLines.{Writes, IsTail, IsName, IsPlaced, IsPlacedText}
+use Rattle.console_lang.specs.CommandLines.{Writes, IsTail, IsName, IsNameAndPlace, IsPlacedText}
 use Rattle.console_lang.specs.CommandLines.{IsPlacedSpan, IsLineOf}
 use Rattle.console_lang.proofs.WordLemmas.{digits_of, value_of}
 
@@ -65,16 +66,16 @@ first_lacks b words true is lack = (tt, lack)
 first_lacks b words false is lack = onto b words is lack
 
 -- no word of a text holds a space
-words_lack : (bs : List ℕ) → AllLackSpace (words_of bs)
+words_lack : (bs : List ℕ) → AllLackSpace (words_between_spaces bs)
 words_lack [] = (tt, tt)
-words_lack (b ∷ bs) = first_lacks b (words_of bs) (is_space b) refl (words_lack bs)
+words_lack (b ∷ bs) = first_lacks b (words_between_spaces bs) (is_space b) refl (words_lack bs)
 
 -- ---- from a line of a command to the command
-behind : (word rest : List ℕ) → LacksSpace word → words_of (word ++ 32 ∷ rest) ≡ word
-    ∷ words_of rest
+behind : (word rest : List ℕ) → LacksSpace word → words_between_spaces (word ++ 32 ∷ rest) ≡ word
+    ∷ words_between_spaces rest
 behind word rest lacks = slice_split_at is_space word 32 rest (All-from_recursion _ word lacks) refl
 
-only : (word : List ℕ) → LacksSpace word → words_of word ≡ word ∷ []
+only : (word : List ℕ) → LacksSpace word → words_between_spaces word ≡ word ∷ []
 only word lacks = slice_split_none is_space word (All-from_recursion _ word lacks)
 
 chosen : (decimal short : Bool) (n : ℕ) → decimal ≡ true → short ≡ true
@@ -95,32 +96,32 @@ written_lacks digits number writes = digits_lack digits (digits_of digits writes
 
 -- the words of a text behind a number
 pub tail_words : (digits text tail : List ℕ) → LacksSpace digits → IsTail text tail
-    → (words : List (List ℕ)) × (words_of (digits ++ tail) ≡ digits ∷ words)
-    × (text_of words ≡ text)
+    → (words : List (List ℕ)) × (words_between_spaces (digits ++ tail) ≡ digits ∷ words)
+    × (text_of_words words ≡ text)
 tail_words digits text tail lacks (inl spaced) = (
-  words_of text,
-  ap (λ t. words_of (digits ++ t)) spaced ∙ behind digits text lacks,
+  words_between_spaces text,
+  ap (λ t. words_between_spaces (digits ++ t)) spaced ∙ behind digits text lacks,
   join_with_byte-slice_split 32 text,
 )
 tail_words digits text tail lacks (inr none) = (
   [],
-  ap (λ t. words_of (digits ++ t)) none.1 ∙ ap words_of (append-nil digits)
+  ap (λ t. words_between_spaces (digits ++ t)) none.1 ∙ ap words_between_spaces (append-nil digits)
       ∙ only digits lacks,
   sym none.0,
 )
 
 text_is : (digits text tail : List ℕ) (place : ℕ) → Writes digits place → IsTail text tail
-    → placed_text (words_of (digits ++ tail)) ≡ Some (place, text)
+    → placed_text (words_between_spaces (digits ++ tail)) ≡ Some (place, text)
 text_is digits text tail place writes ends =
     let found = tail_words digits text tail (written_lacks digits place writes) ends in
     ap placed_text found.1
-    ∙ ap (option_map (λ number. (number, text_of found.0))) (number_is digits place writes)
+    ∙ ap (option_map (λ number. (number, text_of_words found.0))) (number_is digits place writes)
     ∙ ap (λ t. Some (place, t)) found.2
 
 span_is : (line : List ℕ) (place from to : ℕ) (text : List ℕ)
     (is : IsPlacedSpan (codes "sub") place from to text line)
     → placed_span
-    (words_of (is.place_digits ++ 32 ∷ (is.from_digits ++ 32 ∷ (is.to_digits ++ is.tail))))
+    (words_between_spaces (is.place_digits ++ 32 ∷ (is.from_digits ++ 32 ∷ (is.to_digits ++ is.tail))))
     ≡ Some (place, from, to, text)
 span_is line place from to text is =
     let found =
@@ -135,7 +136,7 @@ span_is line place from to text is =
     (found.2 i))
 
 place_is : (digits : List ℕ) (place : ℕ) → Writes digits place
-    → lone_place (words_of digits) ≡ Some place
+    → lone_place (words_between_spaces digits) ≡ Some place
 place_is digits place writes =
     ap lone_place (only digits (written_lacks digits place writes)) ∙ number_is digits place writes
 
@@ -145,7 +146,8 @@ named_both true true names is was = refl
 named_both false other names is was = absurd (cc)
 named_both true false names is was = absurd (cc)
 
-names_are : (aff dic : List ℕ) → IsName aff → IsName dic → two_names (words_of (aff ++ 32 ∷ dic))
+names_are : (aff dic : List ℕ) → IsName aff → IsName dic
+    → two_names (words_between_spaces (aff ++ 32 ∷ dic))
     ≡ Some (aff, dic)
 names_are aff dic is was =
     ap two_names
@@ -195,13 +197,14 @@ writes_of digits number is =
 -- what stands behind a number for these words
 abbrev pub tail_of : List (List ℕ) → List ℕ
 tail_of [] = []
-tail_of (word ∷ words) = 32 ∷ text_of (word ∷ words)
+tail_of (word ∷ words) = 32 ∷ text_of_words (word ∷ words)
 
-pub tail_ends : (words : List (List ℕ)) → IsTail (text_of words) (tail_of words)
+pub tail_ends : (words : List (List ℕ)) → IsTail (text_of_words words) (tail_of words)
 tail_ends [] = inr (refl, refl)
 tail_ends (word ∷ words) = inl refl
 
-pub tail_behind : (digits : List ℕ) (words : List (List ℕ)) → text_of (digits ∷ words) ≡ digits
+pub tail_behind : (digits : List ℕ) (words : List (List ℕ))
+    → text_of_words (digits ∷ words) ≡ digits
     ++ tail_of words
 tail_behind digits [] = sym (append-nil digits)
 tail_behind digits (word ∷ words) = refl
@@ -211,18 +214,18 @@ placed_line : (name : List ℕ) (make : ℕ → List ℕ → Command) (words : L
     → ((place : ℕ) (text line : List ℕ) → IsPlacedText name place text line
     → IsLineOf (make place text) line)
     → option_map (λ (said : ℕ × List ℕ). make said.0 said.1) (placed_text words) ≡ Some command
-    → IsLineOf command (text_of (name ∷ words))
+    → IsLineOf command (text_of_words (name ∷ words))
 placed_line name make [] command line_of is = absurd (cc)
 placed_line name make (digits ∷ text) command line_of is = by (number_of digits) refl is
   where
     by : (number : Option ℕ) → number_of digits ≡ number
         → option_map (λ (said : ℕ × List ℕ). make said.0 said.1)
-        (option_map (λ n. (n, text_of text)) number) ≡ Some command
-        → IsLineOf command (text_of (name ∷ digits ∷ text))
+        (option_map (λ n. (n, text_of_words text)) number) ≡ Some command
+        → IsLineOf command (text_of_words (name ∷ digits ∷ text))
     by None at found = absurd (cc)
     by (Some place) at found =
-        subst (λ k. IsLineOf k (text_of (name ∷ digits ∷ text))) (same_Some _ _ found)
-        (line_of place (text_of text) _
+        subst (λ k. IsLineOf k (text_of_words (name ∷ digits ∷ text))) (same_Some _ _ found)
+        (line_of place (text_of_words text) _
         (record {
           digits = digits;
           tail = tail_of text;
@@ -233,7 +236,7 @@ placed_line name make (digits ∷ text) command line_of is = by (number_of digit
 
 span_line : (words : List (List ℕ)) (command : Command)
     → option_map (λ (said : ℕ × ℕ × ℕ × List ℕ). Sub said.0 said.1 said.2 said.3)
-    (placed_span words) ≡ Some command → IsLineOf command (text_of (codes "sub" ∷ words))
+    (placed_span words) ≡ Some command → IsLineOf command (text_of_words (codes "sub" ∷ words))
 span_line [] command is = absurd (cc)
 span_line (a ∷ []) command is = absurd (cc)
 span_line (a ∷ b ∷ []) command is = absurd (cc)
@@ -241,11 +244,11 @@ span_line (a ∷ b ∷ c ∷ text) command is =
     by (number_of a) (number_of b) (number_of c) refl refl refl is
   where
     whole : List ℕ
-    whole = text_of (codes "sub" ∷ a ∷ b ∷ c ∷ text)
+    whole = text_of_words (codes "sub" ∷ a ∷ b ∷ c ∷ text)
 
     by : (place from to : Option ℕ) → number_of a ≡ place → number_of b ≡ from → number_of c ≡ to
         → option_map (λ (said : ℕ × ℕ × ℕ × List ℕ). Sub said.0 said.1 said.2 said.3)
-        (of_numbers place from to (text_of text)) ≡ Some command → IsLineOf command whole
+        (of_numbers place from to (text_of_words text)) ≡ Some command → IsLineOf command whole
     by None from to at at' at'' found = absurd (cc)
     by (Some place) None to at at' at'' found = absurd (cc)
     by (Some place) (Some from) None at at' at'' found = absurd (cc)
@@ -263,23 +266,24 @@ span_line (a ∷ b ∷ c ∷ text) command is =
         })
 
 place_line : (name : List ℕ) (make : ℕ → Command) (words : List (List ℕ)) (command : Command)
-    → ((place : ℕ) (line : List ℕ) → IsPlaced name place line → IsLineOf (make place) line)
-    → option_map make (lone_place words) ≡ Some command → IsLineOf command (text_of (name ∷ words))
+    → ((place : ℕ) (line : List ℕ) → IsNameAndPlace name place line → IsLineOf (make place) line)
+    → option_map make (lone_place words) ≡ Some command
+    → IsLineOf command (text_of_words (name ∷ words))
 place_line name make [] command line_of is = absurd (cc)
 place_line name make (digits ∷ next ∷ more) command line_of is = absurd (cc)
 place_line name make (digits ∷ []) command line_of is = by (number_of digits) refl is
   where
     by : (number : Option ℕ) → number_of digits ≡ number → option_map make number ≡ Some command
-        → IsLineOf command (text_of (name ∷ digits ∷ []))
+        → IsLineOf command (text_of_words (name ∷ digits ∷ []))
     by None at found = absurd (cc)
     by (Some place) at found =
-        subst (λ k. IsLineOf k (text_of (name ∷ digits ∷ []))) (same_Some _ _ found)
+        subst (λ k. IsLineOf k (text_of_words (name ∷ digits ∷ []))) (same_Some _ _ found)
         (line_of place _
         (record { digits = digits; writes = writes_of digits place at; line_is = refl }))
 
 pair_line : (words : List (List ℕ)) (command : Command) → AllLackSpace words
     → option_map (λ (said : List ℕ × List ℕ). Load said.0 said.1) (two_names words) ≡ Some command
-    → IsLineOf command (text_of (codes "load" ∷ words))
+    → IsLineOf command (text_of_words (codes "load" ∷ words))
 pair_line [] command lack is = absurd (cc)
 pair_line (aff ∷ []) command lack is = absurd (cc)
 pair_line (aff ∷ dic ∷ next ∷ more) command lack is = absurd (cc)
@@ -288,9 +292,9 @@ pair_line (aff ∷ dic ∷ []) command lack is = by (has_bytes aff) (has_bytes d
     by : (first other : Bool) → has_bytes aff ≡ first → has_bytes dic ≡ other
         → option_map (λ (said : List ℕ × List ℕ). Load said.0 said.1)
         (if first && other then Some (aff, dic) else None) ≡ Some command
-        → IsLineOf command (text_of (codes "load" ∷ aff ∷ dic ∷ []))
+        → IsLineOf command (text_of_words (codes "load" ∷ aff ∷ dic ∷ []))
     by true true some some' found =
-        subst (λ k. IsLineOf k (text_of (codes "load" ∷ aff ∷ dic ∷ []))) (same_Some _ _ found)
+        subst (λ k. IsLineOf k (text_of_words (codes "load" ∷ aff ∷ dic ∷ []))) (same_Some _ _ found)
         (record {
           aff_name = record { some = some; whole = lacks_name aff lack.0 };
           dic_name = record { some = some'; whole = lacks_name dic lack.1.0 };
@@ -300,9 +304,10 @@ pair_line (aff ∷ dic ∷ []) command lack is = by (has_bytes aff) (has_bytes d
     by true false some some' found = absurd (cc)
 
 text_line : (words : List (List ℕ)) (command : Command)
-    → Some (Own (text_of words)) ≡ Some command → IsLineOf command (text_of (codes "own" ∷ words))
+    → Some (Own (text_of_words words)) ≡ Some command
+    → IsLineOf command (text_of_words (codes "own" ∷ words))
 text_line words command is =
-    subst (λ k. IsLineOf k (text_of (codes "own" ∷ words))) (same_Some _ _ is)
+    subst (λ k. IsLineOf k (text_of_words (codes "own" ∷ words))) (same_Some _ _ is)
     (record {
       tail = tail_of words;
       ends = tail_ends words;
@@ -311,7 +316,7 @@ text_line words command is =
 
 alone_line : (name : List ℕ) (made : Command) (words : List (List ℕ)) (command : Command)
     → IsLineOf made name
-    → alone made words ≡ Some command → IsLineOf command (text_of (name ∷ words))
+    → alone made words ≡ Some command → IsLineOf command (text_of_words (name ∷ words))
 alone_line name made [] command line_of is = subst (λ k. IsLineOf k name) (same_Some _ _ is) line_of
 alone_line name made (word ∷ words) command line_of is = absurd (cc)
 
@@ -331,9 +336,10 @@ either name wanted then_is else_is command is = by (bytes_eq name wanted) refl i
     by false at found = inr found
 
 renamed : (name wanted : List ℕ) (words : List (List ℕ)) (command : Command) → name ≡ wanted
-    → IsLineOf command (text_of (wanted ∷ words)) → IsLineOf command (text_of (name ∷ words))
+    → IsLineOf command (text_of_words (wanted ∷ words))
+    → IsLineOf command (text_of_words (name ∷ words))
 renamed name wanted words command is line_of =
-    subst (λ n. IsLineOf command (text_of (n ∷ words))) (sym is) line_of
+    subst (λ n. IsLineOf command (text_of_words (n ∷ words))) (sym is) line_of
 
 -- the commands that are asked for behind others
 abbrev from_quit : List ℕ → List (List ℕ) → Option Command
@@ -357,7 +363,7 @@ from_stop name words =
 
 abbrev from_own : List ℕ → List (List ℕ) → Option Command
 from_own name words =
-    if bytes_eq name (codes "own") then Some (Own (text_of words)) else from_stop name words
+    if bytes_eq name (codes "own") then Some (Own (text_of_words words)) else from_stop name words
 
 abbrev from_load : List ℕ → List (List ℕ) → Option Command
 from_load name words =
@@ -380,12 +386,12 @@ from_put name words =
     (placed_text words) else from_sub name words
 
 named_line : (name : List ℕ) (words : List (List ℕ)) (command : Command) → AllLackSpace words
-    → command_named name words ≡ Some command → IsLineOf command (text_of (name ∷ words))
+    → command_named name words ≡ Some command → IsLineOf command (text_of_words (name ∷ words))
 unfolding command_named
 named_line name words command lack is = ins (either name (codes "ins") _ _ command is)
   where
     Named : Type 0
-    Named = IsLineOf command (text_of (name ∷ words))
+    Named = IsLineOf command (text_of_words (name ∷ words))
 
     quit : Either name (codes "quit") (alone Quit words) None command → Named
     quit (inl k) =
@@ -417,7 +423,7 @@ named_line name words command lack is = ins (either name (codes "ins") _ _ comma
         (place_line (codes "stop") Stop words command (λ place line h. h) k.1)
     stop (inr k) = ask (either name (codes "ask") _ _ command k)
 
-    own : Either name (codes "own") (Some (Own (text_of words))) (from_stop name words) command
+    own : Either name (codes "own") (Some (Own (text_of_words words))) (from_stop name words) command
         → Named
     own (inl k) = renamed name _ words command k.0 (text_line words command k.1)
     own (inr k) = stop (either name (codes "stop") _ _ command k)
@@ -458,7 +464,7 @@ named_line name words command lack is = ins (either name (codes "ins") _ _ comma
     ins (inr k) = put (either name (codes "put") _ _ command k)
 
 in_line : (words : List (List ℕ)) (command : Command) → AllLackSpace words
-    → command_in words ≡ Some command → IsLineOf command (text_of words)
+    → command_in words ≡ Some command → IsLineOf command (text_of_words words)
 in_line [] command lack is = absurd (cc)
 in_line (name ∷ words) command lack is = named_line name words command lack.1 is
 
@@ -467,7 +473,7 @@ pub line_is : (command : Command) (line : List ℕ) → command_of line ≡ Some
 unfolding command_of
 line_is command line is =
     subst (IsLineOf command) (join_with_byte-slice_split 32 line)
-    (in_line (words_of line) command (words_lack line) is)
+    (in_line (words_between_spaces line) command (words_lack line) is)
 
 -- ---- different commands
 pub commands_differ : (command other : Command) (line : List ℕ) → IsLineOf command line

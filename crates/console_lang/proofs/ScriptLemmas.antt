@@ -11,10 +11,11 @@ use Rattle.std.proofs.lemmas.Bool.{le-leb, leb-true, and_parts}
 use Rattle.std.proofs.lemmas.Bool.Decides.{nat_tests}
 use Rattle.std.proofs.lemmas.List.Splits.{join_with_byte-slice_split}
 use Rattle.std.proofs.lemmas.Option.{same_Some}
-use Rattle.text_lines.specs.Fields.{is_blank, has_bytes}
-use Rattle.console_lang.specs.Words.{is_blank_line, words_of, text_of, number_of}
+use Rattle.mark_types.specs.text_lines.Fields.{is_blank, has_bytes}
+use Rattle.console_lang.specs.Words.{is_blank_line, words_between_spaces, text_of_words, number_of}
 use Rattle.console_lang.specs.CommandLines.{Writes, IsTail}
-use Rattle.console_lang.specs.Scripts.{if_session, session_of, session_text, Said, Nothing}
+use Rattle.console_lang.specs.Scripts.{if_session, session_of, session_text, ScriptLineSaid}
+use Rattle.console_lang.specs.Scripts.{Nothing}
 use Rattle.console_lang.specs.Scripts.{ToSession, or_unreadable, script_of, IsFor}
 use Rattle.console_lang.proofs.WordLemmas.{digits_of}
 use Rattle.console_lang.proofs.CommandLemmas.{written_lacks, number_is, writes_of, tail_words}
@@ -62,13 +63,13 @@ not_blank session text line is =
     (digits_of is.digits is.writes.decimal)
 
 text_is : (session : ℕ) (text line : List ℕ) → IsFor session text line
-    → session_text (words_of line) ≡ Some (session, text)
+    → session_text (words_between_spaces line) ≡ Some (session, text)
 text_is session text line is =
     let found =
     tail_words is.digits text is.tail (written_lacks is.digits session is.writes) is.ends in
-    ap (λ l. session_text (words_of l)) is.line_is
+    ap (λ l. session_text (words_between_spaces l)) is.line_is
     ∙ ap session_text found.1
-    ∙ ap (option_map (λ n. (n, text_of found.0))) (session_is session text line is)
+    ∙ ap (option_map (λ n. (n, text_of_words found.0))) (session_is session text line is)
     ∙ ap (λ t. Some (session, t)) found.2
 
 pub for_session : (session : ℕ) (text line : List ℕ) → IsFor session text line
@@ -116,17 +117,17 @@ named digits session is = by (nat_le (length digits) 2) (number_of digits) refl 
 
 words_for : (words : List (List ℕ)) (session : ℕ) (text : List ℕ)
     → or_unreadable (session_text words) ≡ ToSession session text
-    → IsFor session text (text_of words)
+    → IsFor session text (text_of_words words)
 words_for [] session text is = absurd (cc)
 words_for (digits ∷ words) session text is = by (session_of digits) refl is
   where
     by : (found : Option ℕ) → session_of digits ≡ found
-        → or_unreadable (option_map (λ n. (n, text_of words)) found) ≡ ToSession session text
-        → IsFor session text (text_of (digits ∷ words))
+        → or_unreadable (option_map (λ n. (n, text_of_words words)) found) ≡ ToSession session text
+        → IsFor session text (text_of_words (digits ∷ words))
     by None at said = absurd (cc)
     by (Some other) at said =
         let same : other ≡ session = cc in
-        let texts : text_of words ≡ text = cc in
+        let texts : text_of_words words ≡ text = cc in
         let parts = named digits session (at ∙ ap Some same) in
         record {
           digits = digits;
@@ -139,10 +140,10 @@ words_for (digits ∷ words) session text is = by (session_of digits) refl is
           line_is = tail_behind digits words;
         }
 
-unless_blank : (blank : Bool) (line : List ℕ) (said : Said)
-    → (if blank then Nothing else or_unreadable (session_text (words_of line))) ≡ said
+unless_blank : (blank : Bool) (line : List ℕ) (said : ScriptLineSaid)
+    → (if blank then Nothing else or_unreadable (session_text (words_between_spaces line))) ≡ said
     → (blank ≡ true) × (said ≡ Nothing)
-    ⊎ (or_unreadable (session_text (words_of line)) ≡ said)
+    ⊎ (or_unreadable (session_text (words_between_spaces line)) ≡ said)
 unless_blank true line said is = inl (refl, sym is)
 unless_blank false line said is = inr is
 
@@ -152,12 +153,12 @@ unfolding script_of
 is_for session text line is = by (unless_blank (is_blank_line line) line _ is)
   where
     by : (is_blank_line line ≡ true) × (ToSession session text ≡ Nothing)
-        ⊎ (or_unreadable (session_text (words_of line)) ≡ ToSession session text)
+        ⊎ (or_unreadable (session_text (words_between_spaces line)) ≡ ToSession session text)
         → IsFor session text line
     by (inl none) = absurd (cc (none.1))
     by (inr said) =
         subst (IsFor session text) (join_with_byte-slice_split 32 line)
-        (words_for (words_of line) session text said)
+        (words_for (words_between_spaces line) session text said)
 
 -- ---- blank lines
 no_more : (found : Option (ℕ × List ℕ)) → or_unreadable found ≡ Nothing → ⊥
@@ -169,9 +170,9 @@ unfolding script_of
 nothing_blank line is = by (unless_blank (is_blank_line line) line Nothing is)
   where
     by : (is_blank_line line ≡ true) × (Nothing ≡ Nothing)
-        ⊎ (or_unreadable (session_text (words_of line)) ≡ Nothing) → is_blank_line line ≡ true
+        ⊎ (or_unreadable (session_text (words_between_spaces line)) ≡ Nothing) → is_blank_line line ≡ true
     by (inl blank) = blank.0
-    by (inr said) = absurd (no_more (session_text (words_of line)) said)
+    by (inr said) = absurd (no_more (session_text (words_between_spaces line)) said)
 
 pub blank_nothing : (line : List ℕ) → is_blank_line line ≡ true → script_of line ≡ Nothing
 unfolding script_of

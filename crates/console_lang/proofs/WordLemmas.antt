@@ -15,24 +15,24 @@ use Rattle.std.proofs.lemmas.Option.{MatchOption-at_some, MatchOption-at_none}
 use Rattle.std.proofs.lemmas.Str.Parse.{IsNumeralModel, numerals_by_value, tells_all_ascii_digits}
 use Rattle.std.proofs.lemmas.Str.Parse.{digits_value_short}
 use Rattle.std.proofs.lemmas.Str.Pattern.{IsSplitOnceResult, split_once_first}
-use Rattle.text_lines.specs.Fields.{is_decimal, decimal_of}
-use Rattle.console_lang.specs.Words.{is_space, words_of, text_of, number_of}
+use Rattle.mark_types.specs.text_lines.Fields.{is_decimal, decimal_of}
+use Rattle.console_lang.specs.Words.{is_space, words_between_spaces, text_of_words, number_of}
 use Rattle.console_lang.specs.Handed.{words_in}
 
 -- what `split_once` tells of a text with a space
 pub cut_at : (text : List ℕ) (r : Option (Bor (List ℕ) × Bor (List ℕ))) (word behind : Bor (List ℕ))
     → IsSplitOnceResult 32 text r → r ≡ Some (word, behind)
-    → words_of text ≡ word.now ∷ words_of behind.now
+    → words_between_spaces text ≡ word.now ∷ words_between_spaces behind.now
 cut_at text r word behind is at =
     let parts = MatchOption-at_some (position_or_len is_space text ≡ length text)
     (λ x. (position_or_len is_space text < length text) × (x.0.now ≡ before_first is_space text)
     × (x.1.now ≡ after_first is_space text))
     (word, behind) at (split_once_first 32 text r is (lit< tt)) in
-    slice_split_first is_space text 0 parts.0 ∙ (λ i. sym parts.1 i ∷ words_of (sym parts.2 i))
+    slice_split_first is_space text 0 parts.0 ∙ (λ i. sym parts.1 i ∷ words_between_spaces (sym parts.2 i))
 
 -- a text in which no space is found is one word
 pub uncut : (text : List ℕ) (r : Option (Bor (List ℕ) × Bor (List ℕ))) → IsSplitOnceResult 32 text r
-    → r ≡ None → words_of text ≡ text ∷ []
+    → r ≡ None → words_between_spaces text ≡ text ∷ []
 uncut text r is at =
     let whole = MatchOption-at_none (position_or_len is_space text ≡ length text)
     (λ x. (position_or_len is_space text < length text) × (x.0.now ≡ before_first is_space text)
@@ -43,7 +43,7 @@ uncut text r is at =
 
 -- the text of the words that are left is what is left of the line
 pub text_left : (rest : Option (Bor (List ℕ))) (empty : Bor (List ℕ)) → empty.now ≡ []
-    → (unwrap_or rest empty).now ≡ text_of (words_in rest)
+    → (unwrap_or rest empty).now ≡ text_of_words (words_in rest)
 text_left None empty none = none
 text_left (Some text) empty none = sym (join_with_byte-slice_split 32 text.now)
 

@@ -2,7 +2,7 @@
 use Rattle.std.specs.Prelude.{◌≡◌, ℕ, ◌≤◌, ◌⊎◌, true, false, List, [], ◌++◌, length, codes}
 use Rattle.std.specs.List.{list_any}
 use Rattle.std.specs.Str.Parse.{digits_value}
-use Rattle.text_lines.specs.Fields.{has_bytes, is_decimal}
+use Rattle.mark_types.specs.text_lines.Fields.{has_bytes, is_decimal}
 use Rattle.console_lang.specs.declared.command.Command.{Command}
 use Rattle.console_lang.specs.declared.command.Command.TheVariants.{Ins, Put, Sub, Del, Load, Stop}
 use Rattle.console_lang.specs.declared.command.Command.TheVariants.{Ask, Own, Show, Settle, Quit}
@@ -25,7 +25,7 @@ pub record IsName (name : List ℕ) : Type 0 where
   pub whole : list_any is_space name ≡ false
 
 -- `NAME P`
-pub record IsPlaced (name : List ℕ) (place : ℕ) (line : List ℕ) : Type 0 where
+pub record IsNameAndPlace (name : List ℕ) (place : ℕ) (line : List ℕ) : Type 0 where
   pub digits : List ℕ
   pub writes : Writes digits place
   pub line_is : line ≡ name ++ (codes " " ++ digits)
@@ -69,11 +69,11 @@ abbrev pub IsLineOf : Command → List ℕ → Type 0
 IsLineOf (Ins place text) line = IsPlacedText (codes "ins") place text line
 IsLineOf (Put place text) line = IsPlacedText (codes "put") place text line
 IsLineOf (Sub place from to text) line = IsPlacedSpan (codes "sub") place from to text line
-IsLineOf (Del place) line = IsPlaced (codes "del") place line
+IsLineOf (Del place) line = IsNameAndPlace (codes "del") place line
 IsLineOf (Load aff dic) line = IsPair (codes "load") aff dic line
 IsLineOf (Own text) line = IsWithText (codes "own") text line
-IsLineOf (Stop place) line = IsPlaced (codes "stop") place line
-IsLineOf (Ask place) line = IsPlaced (codes "ask") place line
+IsLineOf (Stop place) line = IsNameAndPlace (codes "stop") place line
+IsLineOf (Ask place) line = IsNameAndPlace (codes "ask") place line
 IsLineOf Show line = line ≡ codes "show"
 IsLineOf Settle line = line ≡ codes "settle"
 IsLineOf Quit line = line ≡ codes "quit"

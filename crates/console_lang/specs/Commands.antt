@@ -4,18 +4,18 @@ use Rattle.std.specs.Prelude.{◌≡◌, ℕ, ◌&&◌, List, [], ◌∷◌, cod
 use Rattle.std.specs.Prelude.{Err, if◌then◌else◌}
 use Rattle.std.specs.Option.{option_map}
 use Rattle.std.specs.Str.{bytes_eq}
-use Rattle.text_lines.specs.Fields.{has_bytes}
+use Rattle.mark_types.specs.text_lines.Fields.{has_bytes}
 use Rattle.console_lang.specs.declared.command.Command.{Command}
 use Rattle.console_lang.specs.declared.command.Command.TheVariants.{Ins, Put, Sub, Del, Load, Stop}
 use Rattle.console_lang.specs.declared.command.Command.TheVariants.{Ask, Own, Show, Settle, Quit}
 use Rattle.console_lang.specs.declared.command.CommandFault.{CommandFault}
 use Rattle.console_lang.specs.declared.command.CommandFault.TheVariants.{BadCommand, NoMemory}
-use Rattle.console_lang.specs.Words.{is_blank_line, words_of, text_of, number_of}
+use Rattle.console_lang.specs.Words.{is_blank_line, words_between_spaces, text_of_words, number_of}
 
 -- `P TEXT`: a place, and all words behind it as a text, which is empty where there is none
 abbrev pub placed_text : List (List ℕ) → Option (ℕ × List ℕ)
 placed_text [] = None
-placed_text (place ∷ text) = option_map (λ number. (number, text_of text)) (number_of place)
+placed_text (place ∷ text) = option_map (λ number. (number, text_of_words text)) (number_of place)
 
 abbrev pub of_numbers : Option ℕ → Option ℕ → Option ℕ → List ℕ → Option (ℕ × ℕ × ℕ × List ℕ)
 of_numbers (Some place) (Some from) (Some to) text = Some (place, from, to, text)
@@ -24,7 +24,7 @@ of_numbers _ _ _ text = None
 -- `P FROM TO TEXT`: a place, where something begins and ends in it, and a text
 abbrev pub placed_span : List (List ℕ) → Option (ℕ × ℕ × ℕ × List ℕ)
 placed_span (place ∷ from ∷ to ∷ text) =
-    of_numbers (number_of place) (number_of from) (number_of to) (text_of text)
+    of_numbers (number_of place) (number_of from) (number_of to) (text_of_words text)
 placed_span _ = None
 
 -- `P`: a place alone
@@ -53,7 +53,7 @@ command_named name words =
     else (if bytes_eq name (codes "del") then option_map Del (lone_place words)
     else (if bytes_eq name (codes "load")
     then option_map (λ said. Load said.0 said.1) (two_names words)
-    else (if bytes_eq name (codes "own") then Some (Own (text_of words))
+    else (if bytes_eq name (codes "own") then Some (Own (text_of_words words))
     else (if bytes_eq name (codes "stop") then option_map Stop (lone_place words)
     else (if bytes_eq name (codes "ask") then option_map Ask (lone_place words)
     else (if bytes_eq name (codes "show") then alone Show words
@@ -67,7 +67,7 @@ command_in (name ∷ words) = command_named name words
 
 -- the command that a line is, if it is one
 unfoldable pub command_of : List ℕ → Option Command
-command_of line = command_in (words_of line)
+command_of line = command_in (words_between_spaces line)
 
 abbrev pub or_bad : Option Command → Result (Option Command) CommandFault
 or_bad (Some command) = Ok (Some command)

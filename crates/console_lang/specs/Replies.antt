@@ -3,7 +3,7 @@ use Rattle.std.specs.Prelude.{ℕ, ◌+◌, List, [], ◌∷◌, ◌++◌, codes
 use Rattle.std.specs.Fmt.{decimal}
 use Rattle.std.specs.List.{flat_map}
 use Rattle.aff_lines.specs.Faults.{why_name as aff_why_name}
-use Rattle.dic_reader.specs.Faults.{why_name as dic_why_name}
+use Rattle.dic_reader.specs.Faults.{dic_cause_name}
 use Rattle.personal_words.specs.Faults.{line_why_name as own_why_name}
 use Rattle.mark_types.specs.declared.Mark.{Mark}
 use Rattle.console_lang.specs.declared.reply.ShownPara.{ShownPara}
@@ -30,23 +30,23 @@ abbrev pub cause_line : List ℕ → List ℕ → List ℕ
 cause_line words why = words ++ (codes " " ++ (why ++ codes "\n"))
 
 -- a mark: the paragraph's number, the first byte and the byte past the end, and the word
-abbrev pub mark_line : ℕ → Mark → List ℕ
-mark_line number mark =
+abbrev pub reply_mark_line : ℕ → Mark → List ℕ
+reply_mark_line number mark =
     decimal number
     ++ (codes " "
     ++ (decimal mark.from
     ++ (codes " " ++ (decimal mark.to ++ (codes " " ++ (mark.word ++ codes "\n"))))))
 
 -- a paragraph: a line for each mark, or a line with a question mark where it is not checked
-abbrev pub paragraph_lines : ℕ → ShownPara → List ℕ
-paragraph_lines number Pending = decimal number ++ codes " ?\n"
-paragraph_lines number (Finished marks) = flat_map (mark_line number) marks
+abbrev pub shown_paragraph_lines : ℕ → ShownPara → List ℕ
+shown_paragraph_lines number Pending = decimal number ++ codes " ?\n"
+shown_paragraph_lines number (Finished marks) = flat_map (reply_mark_line number) marks
 
 -- paragraphs, of which the first has this number
 abbrev pub paragraphs_from : ℕ → List ShownPara → List ℕ
 paragraphs_from number [] = []
 paragraphs_from number (paragraph ∷ more) =
-    paragraph_lines number paragraph ++ paragraphs_from (number + 1) more
+    shown_paragraph_lines number paragraph ++ paragraphs_from (number + 1) more
 
 -- the lines of a reply
 unfoldable pub reply_text : Reply → List ℕ
@@ -69,7 +69,7 @@ reply_text NoParked = codes "no Parked\n"
 reply_text NoNotParked = codes "no NotParked\n"
 reply_text NoMissing = codes "no Missing\n"
 reply_text (NoAff line why) = fault_line (codes "no aff") line (aff_why_name why)
-reply_text (NoDic line why) = fault_line (codes "no dic") line (dic_why_name why)
+reply_text (NoDic line why) = fault_line (codes "no dic") line (dic_cause_name why)
 reply_text (NoOwn why) = cause_line (codes "no own") (own_why_name why)
 reply_text NoFiles = codes "no Files\n"
 reply_text NoLarge = codes "no Large 16777216\n"

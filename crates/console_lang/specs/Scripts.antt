@@ -4,7 +4,7 @@ use Rattle.std.specs.Prelude.{None, if◌then◌else◌, option_and_then}
 use Rattle.std.specs.Option.{option_map}
 use Rattle.console_lang.specs.declared.script.ScriptLine.{ScriptLine}
 use Rattle.console_lang.specs.declared.script.ScriptLine.TheVariants.{Blank, Of, Bad}
-use Rattle.console_lang.specs.Words.{is_blank_line, words_of, text_of, number_of}
+use Rattle.console_lang.specs.Words.{is_blank_line, words_between_spaces, text_of_words, number_of}
 use Rattle.console_lang.specs.CommandLines.{Writes, IsTail}
 
 -- a number from 1 to 16
@@ -19,25 +19,25 @@ session_of word =
 -- `K TEXT`: a session, and all words behind it as a text, which is empty where there is none
 abbrev pub session_text : List (List ℕ) → Option (ℕ × List ℕ)
 session_text [] = None
-session_text (word ∷ text) = option_map (λ session. (session, text_of text)) (session_of word)
+session_text (word ∷ text) = option_map (λ session. (session, text_of_words text)) (session_of word)
 
 -- what a line may say: nothing, a text to a session, or what no line of a script says
-pub data Said : Type 0 where
-  Nothing : Said
-  ToSession : ℕ → List ℕ → Said
-  Unreadable : Said
+pub data ScriptLineSaid : Type 0 where
+  Nothing : ScriptLineSaid
+  ToSession : ℕ → List ℕ → ScriptLineSaid
+  Unreadable : ScriptLineSaid
 
-abbrev pub or_unreadable : Option (ℕ × List ℕ) → Said
+abbrev pub or_unreadable : Option (ℕ × List ℕ) → ScriptLineSaid
 or_unreadable (Some said) = ToSession said.0 said.1
 or_unreadable None = Unreadable
 
 -- what a line of a script says: nothing where it is blank, otherwise `K TEXT`, if it has that form
-unfoldable pub script_of : List ℕ → Said
+unfoldable pub script_of : List ℕ → ScriptLineSaid
 script_of line =
-    if is_blank_line line then Nothing else or_unreadable (session_text (words_of line))
+    if is_blank_line line then Nothing else or_unreadable (session_text (words_between_spaces line))
 
 -- what a line is read as, said so
-abbrev pub said_as : ScriptLine → Said
+abbrev pub said_as : ScriptLine → ScriptLineSaid
 said_as Blank = Nothing
 said_as (Of session text) = ToSession session text.now
 said_as Bad = Unreadable

@@ -3,7 +3,7 @@ use Rattle.std.specs.Prelude.{ℕ, ◌==◌, ◌&&◌, Bool, List, length, nat_l
 use Rattle.std.specs.Prelude.{if◌then◌else◌}
 use Rattle.std.specs.List.{slice_split, join_with_byte, list_all}
 use Rattle.std.specs.Str.Parse.{digits_value}
-use Rattle.text_lines.specs.Fields.{is_blank, is_decimal}
+use Rattle.mark_types.specs.text_lines.Fields.{is_blank, is_decimal}
 
 abbrev pub is_space : ℕ → Bool
 is_space byte = byte == 32
@@ -13,12 +13,12 @@ abbrev pub is_blank_line : List ℕ → Bool
 is_blank_line line = list_all is_blank line
 
 -- the words of a text, which one space parts: between two spaces side by side stands an empty word
-abbrev pub words_of : List ℕ → List (List ℕ)
-words_of text = slice_split is_space text
+abbrev pub words_between_spaces : List ℕ → List (List ℕ)
+words_between_spaces text = slice_split is_space text
 
 -- the text that these words make, with a space between each two
-abbrev pub text_of : List (List ℕ) → List ℕ
-text_of words = join_with_byte 32 words
+abbrev pub text_of_words : List (List ℕ) → List ℕ
+text_of_words words = join_with_byte 32 words
 
 -- the number that a word of 1 to 9 ASCII digits writes
 unfoldable pub number_of : List ℕ → Option ℕ

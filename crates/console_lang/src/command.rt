@@ -3,9 +3,9 @@
 ghost use Rattle.std.specs.Prelude.{◌≡◌};
 ghost use Rattle.console_lang.specs.declared.command.CommandFault.TheVariants.{NoMemory as OutOfMemory};
 
-use lists::NoMemory;
+use mark_types::lists::NoMemory;
+use mark_types::text_lines::Text;
 use std::alloc::AllocError;
-use text_lines::Text;
 
 /// What a line of the console asks for. A place is the number of a paragraph, as it is written: no
 /// command knows how many paragraphs there are.

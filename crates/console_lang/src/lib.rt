@@ -14,8 +14,6 @@ mod forms;
 mod reading;
 mod reply;
 mod script;
-#[cfg(test)]
-mod tests;
 mod words;
 
 pub use command::{Command, CommandFault};

@@ -7,14 +7,14 @@ ghost use Rattle.console_lang.specs.declared.command.Command.TheVariants.{Own};
 ghost use Rattle.console_lang.specs.Commands.{placed_text, placed_span, lone_place, two_names};
 ghost use Rattle.console_lang.specs.Commands.{alone, command_named, command_in, said_by, IsAnswer};
 ghost use Rattle.console_lang.specs.Commands.{IsFound};
-ghost use Rattle.console_lang.specs.Handed.{words_left};
-ghost use Rattle.console_lang.specs.Words.{text_of};
+ghost use Rattle.console_lang.specs.Handed.{words_left_of_line};
+ghost use Rattle.console_lang.specs.Words.{text_of_words};
 
 use crate::command::{Command, CommandFault};
 use crate::forms::{lone_place, placed_span, placed_text, two_names};
 use crate::words::{Words, is_blank};
+use mark_types::text_lines::Text;
 use std::alloc::Global;
-use text_lines::Text;
 
 /// The command that a line is. A blank line is none, and no fault. One space parts the words of a
 /// command; a number has 1 to 9 ASCII digits; a text is all behind one space, which may be missing
@@ -31,7 +31,7 @@ pub fn read_command(alloc: Global, line: &str) -> Result<Option<Command>, Comman
 }
 
 fn read_words(alloc: Global, words: Words<'_>) -> Result<Command, CommandFault>
-    ensures { IsFound (command_in (words_left words.entry)) result }
+    ensures { IsFound (command_in (words_left_of_line words.entry)) result }
 {
     match words.split_first() {
         Some((name, behind)) => read_named(alloc, name, behind),
@@ -42,7 +42,7 @@ fn read_words(alloc: Global, words: Words<'_>) -> Result<Command, CommandFault>
 /// The command with this name and these words behind it.
 #[tactic(auto, unfolding(crate::specs::Commands::command_named))]
 fn read_named(alloc: Global, name: &str, words: Words<'_>) -> Result<Command, CommandFault>
-    ensures { IsFound (command_named name.now (words_left words.entry)) result }
+    ensures { IsFound (command_named name.now (words_left_of_line words.entry)) result }
 {
     match name {
         "ins" => read_ins(alloc, words),
@@ -68,7 +68,7 @@ fn read_named(alloc: Global, name: &str, words: Words<'_>) -> Result<Command, Co
 
 fn read_ins(alloc: Global, words: Words<'_>) -> Result<Command, CommandFault>
     ensures { IsFound
-        (option_map (λ said. Ins said.0 said.1) (placed_text (words_left words.entry))) result }
+        (option_map (λ said. Ins said.0 said.1) (placed_text (words_left_of_line words.entry))) result }
 {
     let Some((place, text)) = placed_text(words) else {
         return Err(CommandFault::BadCommand);
@@ -79,7 +79,7 @@ fn read_ins(alloc: Global, words: Words<'_>) -> Result<Command, CommandFault>
 
 fn read_put(alloc: Global, words: Words<'_>) -> Result<Command, CommandFault>
     ensures { IsFound
-        (option_map (λ said. Put said.0 said.1) (placed_text (words_left words.entry))) result }
+        (option_map (λ said. Put said.0 said.1) (placed_text (words_left_of_line words.entry))) result }
 {
     let Some((place, text)) = placed_text(words) else {
         return Err(CommandFault::BadCommand);
@@ -91,7 +91,7 @@ fn read_put(alloc: Global, words: Words<'_>) -> Result<Command, CommandFault>
 fn read_sub(alloc: Global, words: Words<'_>) -> Result<Command, CommandFault>
     ensures { IsFound
         (option_map (λ said. Sub said.0 said.1 said.2 said.3)
-        (placed_span (words_left words.entry))) result }
+        (placed_span (words_left_of_line words.entry))) result }
 {
     let Some(span) = placed_span(words) else {
         return Err(CommandFault::BadCommand);
@@ -105,7 +105,7 @@ fn read_sub(alloc: Global, words: Words<'_>) -> Result<Command, CommandFault>
 }
 
 fn read_load(alloc: Global, words: Words<'_>) -> Result<Command, CommandFault>
-    ensures { IsFound (option_map (λ said. Load said.0 said.1) (two_names (words_left words.entry)))
+    ensures { IsFound (option_map (λ said. Load said.0 said.1) (two_names (words_left_of_line words.entry)))
         result }
 {
     let Some((aff, dic)) = two_names(words) else {
@@ -118,21 +118,21 @@ fn read_load(alloc: Global, words: Words<'_>) -> Result<Command, CommandFault>
 }
 
 fn read_own(alloc: Global, words: Words<'_>) -> Result<Command, CommandFault>
-    ensures { IsFound (Some (Own (text_of (words_left words.entry)))) result }
+    ensures { IsFound (Some (Own (text_of_words (words_left_of_line words.entry)))) result }
 {
     let text = Text::from_str(alloc, words.text())?;
     Ok(Command::Own { text })
 }
 
 fn place_alone(words: Words<'_>) -> Result<u32, CommandFault>
-    ensures { IsFound (lone_place (words_left words.entry)) result }
+    ensures { IsFound (lone_place (words_left_of_line words.entry)) result }
 {
     lone_place(words).ok_or(CommandFault::BadCommand)
 }
 
 /// The command, if no word stands behind its name.
 fn alone(command: Command, words: Words<'_>) -> Result<Command, CommandFault>
-    ensures { IsFound (alone command (words_left words.entry)) result }
+    ensures { IsFound (alone command (words_left_of_line words.entry)) result }
 {
     match words.split_first() {
         None => Ok(command),

@@ -3,17 +3,17 @@
 ghost use Rattle.std.specs.Prelude.{◌≡◌, ◌++◌, IfOk, OnOk};
 ghost use Rattle.std.specs.List.{flat_map};
 ghost use Rattle.std.specs.String.{string_bytes};
-ghost use Rattle.console_lang.specs.Replies.{reply_text, number_line, fault_line, mark_line};
+ghost use Rattle.console_lang.specs.Replies.{reply_text, number_line, fault_line, reply_mark_line};
 ghost use Rattle.console_lang.specs.Replies.{cause_line};
-ghost use Rattle.console_lang.specs.Replies.{paragraph_lines, paragraphs_from};
+ghost use Rattle.console_lang.specs.Replies.{shown_paragraph_lines, paragraphs_from};
 
 use aff_lines::AffWhy;
 use dic_reader::DicWhy;
-use lists::{Copied, NoMemory};
+use mark_types::lists::{Copied, NoMemory};
+use mark_types::text_lines::Text;
 use mark_types::{Mark, Marks};
 use personal_words::OwnLineWhy;
 use std::alloc::{AllocError, Global};
-use text_lines::Text;
 
 /// A paragraph as `show` shows it.
 #[derive(Debug, Drop)]
@@ -48,7 +48,7 @@ pub enum Reply {
     Shown {
         text: u64,
         dict: u64,
-        paragraphs: lists::Items<ShownPara>,
+        paragraphs: mark_types::lists::Items<ShownPara>,
     },
     /// The line is no command.
     NoCommand,
@@ -190,7 +190,7 @@ fn push_paragraph(
 ) -> Result<(), AllocError>
     ensures { OnOk result
         (string_bytes written.new ≡ string_bytes written.old
-        ++ paragraph_lines number paragraph.now) }
+        ++ shown_paragraph_lines number paragraph.now) }
 {
     match paragraph {
         ShownPara::Pending => write!(written, "{number} ?\n"),
@@ -201,7 +201,7 @@ fn push_paragraph(
 fn push_marks(written: &mut String, number: u64, marks: &[Mark]) -> Result<(), AllocError>
     ensures { OnOk result
         (string_bytes written.new ≡ string_bytes written.old
-        ++ flat_map (mark_line number) marks.now) }
+        ++ flat_map (reply_mark_line number) marks.now) }
 {
     for mark in marks {
         push_mark(written, number, mark)?;
@@ -211,7 +211,7 @@ fn push_marks(written: &mut String, number: u64, marks: &[Mark]) -> Result<(), A
 
 fn push_mark(written: &mut String, number: u64, mark: &Mark) -> Result<(), AllocError>
     ensures { OnOk result
-        (string_bytes written.new ≡ string_bytes written.old ++ mark_line number mark.now) }
+        (string_bytes written.new ≡ string_bytes written.old ++ reply_mark_line number mark.now) }
 {
     let Mark { from, to, .. } = *mark;
     let word = mark.word.as_str();

@@ -2,7 +2,7 @@
 
 ghost use Rattle.std.specs.Prelude.{◌≡◌, Some, None, MatchOption};
 ghost use Rattle.console_lang.specs.Scripts.{session_of, session_text, script_of, said_as};
-ghost use Rattle.console_lang.specs.Handed.{words_left};
+ghost use Rattle.console_lang.specs.Handed.{words_left_of_line};
 
 use crate::words::{Words, is_blank, number};
 
@@ -41,8 +41,8 @@ pub fn script_line(line: &str) -> ScriptLine<'_>
 
 /// `K TEXT`: a session and a text.
 fn session_text(words: Words<'_>) -> Option<(u32, &str)>
-    ensures { MatchOption result (session_text (words_left words.entry) ≡ None)
-        (λ said. session_text (words_left words.entry) ≡ Some (said.0, said.1.now)) }
+    ensures { MatchOption result (session_text (words_left_of_line words.entry) ≡ None)
+        (λ said. session_text (words_left_of_line words.entry) ≡ Some (said.0, said.1.now)) }
 {
     let (word, words) = words.split_first()?;
     let session = session(word)?;

@@ -1,10 +1,11 @@
 //! The words of a line, one after another.
 
 ghost use Rattle.std.specs.Prelude.{◌≡◌, [], ◌∷◌, MatchOption};
-ghost use Rattle.console_lang.specs.Words.{is_blank_line, words_of, text_of, number_of};
-ghost use Rattle.console_lang.specs.Handed.{words_left};
+ghost use Rattle.console_lang.specs.Words.{is_blank_line, words_between_spaces, text_of_words};
+ghost use Rattle.console_lang.specs.Words.{number_of};
+ghost use Rattle.console_lang.specs.Handed.{words_left_of_line};
 
-use text_lines::decimal;
+use mark_types::text_lines::decimal;
 
 /// How many digits a number of a command has at most, so that it is below 2^32.
 const DIGITS: usize = 9;
@@ -29,15 +30,15 @@ pub struct Words<'a> {
 impl<'a> Words<'a> {
     /// All words of a line, of which there is at least one.
     pub fn of(line: &'a str) -> Words<'a>
-        ensures { words_left result ≡ words_of line.now }
+        ensures { words_left_of_line result ≡ words_between_spaces line.now }
     {
         Words { rest: Some(line) }
     }
 
     /// The next word, and the words behind it.
     pub fn split_first(self) -> Option<(&'a str, Words<'a>)>
-        ensures { MatchOption result (words_left self.entry ≡ [])
-            (λ found. words_left self.entry ≡ found.0.now ∷ words_left found.1) }
+        ensures { MatchOption result (words_left_of_line self.entry ≡ [])
+            (λ found. words_left_of_line self.entry ≡ found.0.now ∷ words_left_of_line found.1) }
     {
         let text = self.rest?;
         match text.split_once(' ') {
@@ -48,7 +49,7 @@ impl<'a> Words<'a> {
 
     /// The text that the words make, with the spaces between them.
     pub fn text(self) -> &'a str
-        ensures { result.now ≡ text_of (words_left self.entry) }
+        ensures { result.now ≡ text_of_words (words_left_of_line self.entry) }
     {
         self.rest.unwrap_or("")
     }

@@ -17,23 +17,25 @@ use Rattle.std.proofs.lemmas.List.Kept.{IsSortedBy-filter}
 use Rattle.std.proofs.lemmas.List.Sorted.{ranks_by, sorted_far}
 use Rattle.std.proofs.lemmas.Option.{get_or_from_slice_get, slice_get_within}
 use Rattle.std.proofs.lemmas.Slice.Eq.{bytes_eq-Decides}
-use Rattle.lists.specs.Laws.{contains-filter, contains-none, filter-holds, filter-among}
-use Rattle.lists.specs.TextOrder.{AreInOrder, beginning, having}
-use Rattle.conversions.specs.Patterns.{Pattern, pattern_cmp, AreSorted, FitsUpTo, IsBestUpTo}
+use Rattle.spell_types.specs.lists.Laws.{contains-filter, contains-none, filter-holds, filter-among}
+use Rattle.spell_types.specs.lists.TextOrder.{AreInOrder, beginning, having}
+use Rattle.conversions.specs.Patterns.{ConversionPattern, pattern_cmp, ArePatternsSorted, FitsUpTo}
+use Rattle.conversions.specs.Patterns.{IsBestUpTo}
 use Rattle.conversions.specs.Patterns.{BestUpTo}
 
 -- ---- the order of patterns
 pattern-total : IsTotalOrder pattern_cmp
 pattern-total =
-    then_total (on_total (λ (p : Pattern). p.0.items) nat_list_cmp_total)
-    (on_total (λ (p : Pattern). p.1) nat_cmp_total)
+    then_total (on_total (λ (p : ConversionPattern). p.0.items) nat_list_cmp_total)
+    (on_total (λ (p : ConversionPattern). p.1) nat_cmp_total)
 
 then-not_less : (o more : Ordering) → is_lt (ordering_then o more) ≡ false → is_lt o ≡ false
 then-not_less Less more is = is
 then-not_less Equal more is = refl
 then-not_less Greater more is = refl
 
-pub sorted-in_order : (patterns : List Pattern) → AreSorted patterns → AreInOrder patterns
+pub sorted-in_order : (patterns : List ConversionPattern) → ArePatternsSorted patterns
+    → AreInOrder patterns
 sorted-in_order patterns sorted = λ k d above within. then-not_less _ _ (sorted k d above within)
 
 equal-rise : (text other : List ℕ) (place later : ℕ) → text ≡ other
@@ -48,7 +50,8 @@ equal-rise text other place later same order =
     by order = grind (arith, nat_tests)
 
 -- ---- what stays among others
-first-among : (found : List Pattern) (p : Pattern) → slice_get found 0 ≡ Some p → Contains found p
+first-among : (found : List ConversionPattern) (p : ConversionPattern) → slice_get found 0 ≡ Some p
+    → Contains found p
 first-among found p first =
     (0, slice_get_within found 0 p first, get_or_from_slice_get found 0 p p first)
 
@@ -88,12 +91,12 @@ begins text n m from within long fit =
     (bytes_eq-Decides (take n text) (take (length (take n text)) from)).1 (sym front)
 
 -- ---- the best so far
-pub none_yet : (patterns : List Pattern) (text : List ℕ) → BestUpTo patterns text 0 None
+pub none_yet : (patterns : List ConversionPattern) (text : List ℕ) → BestUpTo patterns text 0 None
 none_yet patterns text = λ p among fit. omega (arith, fit.some, fit.upto)
 
 -- where no more patterns fit, the best stays
-best-kept : (patterns : List Pattern) (text : List ℕ) (n m : ℕ) (best : Option Pattern) → n ≤ m
-    → ((p : Pattern) → Contains patterns p → FitsUpTo text m p.0.items → FitsUpTo text n p.0.items)
+best-kept : (patterns : List ConversionPattern) (text : List ℕ) (n m : ℕ) (best : Option ConversionPattern) → n ≤ m
+    → ((p : ConversionPattern) → Contains patterns p → FitsUpTo text m p.0.items → FitsUpTo text n p.0.items)
     → BestUpTo patterns text n best → BestUpTo patterns text m best
 best-kept patterns text n m None wider less was = λ p among fit. was p among (less p among fit)
 best-kept patterns text n m (Some best) wider less was = record {
@@ -104,42 +107,42 @@ best-kept patterns text n m (Some best) wider less was = record {
 }
 
 -- no pattern is the next front
-none_longer : (patterns : List Pattern) (text : List ℕ) (n : ℕ) (best : Option Pattern)
-    (found : List Pattern) → found ≡ having (take (n + 1) text) patterns → found ≡ []
+none_longer : (patterns : List ConversionPattern) (text : List ℕ) (n : ℕ) (best : Option ConversionPattern)
+    (found : List ConversionPattern) → found ≡ having (take (n + 1) text) patterns → found ≡ []
     → BestUpTo patterns text n best → BestUpTo patterns text (n + 1) best
 none_longer patterns text n best found is none was =
     best-kept patterns text n (n + 1) best (omega arith) less was
   where
-    less : (p : Pattern) → Contains patterns p → FitsUpTo text (n + 1) p.0.items
+    less : (p : ConversionPattern) → Contains patterns p → FitsUpTo text (n + 1) p.0.items
         → FitsUpTo text n p.0.items
     less p among fit = by (fits-more text n p.0.items fit)
       where
         by : (p.0.items ≡ take (n + 1) text) ⊎ FitsUpTo text n p.0.items → FitsUpTo text n p.0.items
         by (inr fit) = fit
         by (inl same) = absurd (contains-none found p none (subst (λ ps. Contains ps p) (sym is)
-            (contains-filter (λ (q : Pattern). pointwise nat_eq q.0.items (take (n + 1) text))
+            (contains-filter (λ (q : ConversionPattern). pointwise nat_eq q.0.items (take (n + 1) text))
             patterns p among ((bytes_eq-Decides p.0.items (take (n + 1) text)).1 same))))
 
 -- no pattern begins with the next front
-pub none_begins : (patterns : List Pattern) (text : List ℕ) (n : ℕ) (best : Option Pattern)
+pub none_begins : (patterns : List ConversionPattern) (text : List ℕ) (n : ℕ) (best : Option ConversionPattern)
     → n + 1 ≤ length text → beginning (take (n + 1) text) patterns ≡ []
     → BestUpTo patterns text n best → BestUpTo patterns text (length text) best
 none_begins patterns text n best within none was =
     best-kept patterns text n (length text) best (omega arith) less was
   where
-    less : (p : Pattern) → Contains patterns p → FitsUpTo text (length text) p.0.items
+    less : (p : ConversionPattern) → Contains patterns p → FitsUpTo text (length text) p.0.items
         → FitsUpTo text n p.0.items
     less p among fit = by (cases_lt (length p.0.items) (n + 1))
       where
         by : (length p.0.items < n + 1) ⊎ (n + 1 ≤ length p.0.items) → FitsUpTo text n p.0.items
         by (inl less) = record { some = fit.some; upto = omega (arith, less); front = fit.front }
         by (inr long) = absurd (contains-none (beginning (take (n + 1) text) patterns) p none
-            (contains-filter (λ (q : Pattern). starts_with nat_eq q.0.items (take (n + 1) text))
+            (contains-filter (λ (q : ConversionPattern). starts_with nat_eq q.0.items (take (n + 1) text))
             patterns p among (begins text (n + 1) (length text) p.0.items within long fit)))
 
 -- the first pattern that is the next front
-next_best : (patterns : List Pattern) (text : List ℕ) (n : ℕ) (best : Pattern)
-    (found : List Pattern) → AreSorted patterns → n + 1 ≤ length text
+next_best : (patterns : List ConversionPattern) (text : List ℕ) (n : ℕ) (best : ConversionPattern)
+    (found : List ConversionPattern) → ArePatternsSorted patterns → n + 1 ≤ length text
     → found ≡ having (take (n + 1) text) patterns → slice_get found 0 ≡ Some best
     → IsBestUpTo patterns text (n + 1) best
 next_best patterns text n best found sorted within is first = record {
@@ -153,7 +156,7 @@ next_best patterns text n best found sorted within is first = record {
       ((bytes_eq-Decides p.0.items (take (n + 1) text)).1 (equal ∙ same)));
 }
   where
-    has : Pattern → Bool
+    has : ConversionPattern → Bool
     has = λ q. pointwise nat_eq q.0.items (take (n + 1) text)
 
     first' : slice_get (filter has patterns) 0 ≡ Some best
@@ -166,11 +169,11 @@ next_best patterns text n best found sorted within is first = record {
     same = (bytes_eq-Decides best.0.items (take (n + 1) text)).0
         (filter-holds has patterns best inside)
 
-    rising : (p : Pattern) → p.0.items ≡ best.0.items → Contains (filter has patterns) p
+    rising : (p : ConversionPattern) → p.0.items ≡ best.0.items → Contains (filter has patterns) p
         → best.1 ≤ p.1
     rising p equal (k, within, at) =
-        let lt = λ (q r : Pattern). is_lt (pattern_cmp q r) in
-        let order = ranks_by pattern-total (λ (q : Pattern). q) in
+        let lt = λ (q r : ConversionPattern). is_lt (pattern_cmp q r) in
+        let order = ranks_by pattern-total (λ (q : ConversionPattern). q) in
         let far : lt (get_or (filter has patterns) k p) (get_or (filter has patterns) 0 p) ≡ false =
         sorted_far lt order (filter has patterns) (IsSortedBy-filter lt order has patterns sorted) 0
         k p (omega arith) within in
@@ -180,9 +183,10 @@ next_best patterns text n best found sorted within is first = record {
         (sym (ap (λ q. lt q best) at) ∙ sym (ap (lt (get_or (filter has patterns) k p)) here) ∙ far)
 
 -- where the next front is a pattern it is the best one, the first of its equals
-pub first_best : (patterns alike found : List Pattern) (text : List ℕ) (n : ℕ) (best : Pattern)
-    → AreSorted patterns → n + 1 ≤ length text → alike ≡ beginning (take (n + 1) text) patterns
-    → ((all : List Pattern) (front : List ℕ) → AreInOrder all → length front ≡ n + 1
+pub first_best : (patterns alike found : List ConversionPattern) (text : List ℕ) (n : ℕ) (best : ConversionPattern)
+    → ArePatternsSorted patterns → n + 1 ≤ length text
+    → alike ≡ beginning (take (n + 1) text) patterns
+    → ((all : List ConversionPattern) (front : List ℕ) → AreInOrder all → length front ≡ n + 1
     → alike ≡ beginning front all → found ≡ having front all)
     → Some best ≡ slice_get found 0 → IsBestUpTo patterns text (n + 1) best
 first_best patterns alike found text n best sorted within so_far ends first =
@@ -191,10 +195,10 @@ first_best patterns alike found text n best sorted within so_far ends first =
     (length-take-le (n + 1) text within) so_far) (sym first)
 
 -- and otherwise the best one stays
-pub none_best : (patterns alike found : List Pattern) (text : List ℕ) (n : ℕ)
-    (best : Option Pattern) → AreSorted patterns → n + 1 ≤ length text
+pub none_best : (patterns alike found : List ConversionPattern) (text : List ℕ) (n : ℕ)
+    (best : Option ConversionPattern) → ArePatternsSorted patterns → n + 1 ≤ length text
     → alike ≡ beginning (take (n + 1) text) patterns
-    → ((all : List Pattern) (front : List ℕ) → AreInOrder all → length front ≡ n + 1
+    → ((all : List ConversionPattern) (front : List ℕ) → AreInOrder all → length front ≡ n + 1
     → alike ≡ beginning front all → found ≡ having front all)
     → None ≡ slice_get found 0 → BestUpTo patterns text n best → BestUpTo patterns text (n + 1) best
 none_best patterns alike found text n best sorted within so_far ends first =
@@ -202,6 +206,6 @@ none_best patterns alike found text n best sorted within so_far ends first =
     (ends patterns (take (n + 1) text) (sorted-in_order patterns sorted)
     (length-take-le (n + 1) text within) so_far) (empty found first)
   where
-    empty : (xs : List Pattern) → None ≡ slice_get xs 0 → xs ≡ []
+    empty : (xs : List ConversionPattern) → None ≡ slice_get xs 0 → xs ≡ []
     empty [] none = refl
     empty (x ∷ xs) none = absurd (cc)

@@ -13,7 +13,8 @@ use Rattle.std.proofs.lemmas.Option.{same_Some}
 use Rattle.std.proofs.lemmas.Slice.Eq.{bytes_eq-Decides}
 use Rattle.spell_types.specs.declared.conversions.Conversion.{Conversion}
 use Rattle.spell_types.specs.Conversions.{fits, best_fit, IsBestFit}
-use Rattle.conversions.specs.Patterns.{Pattern, IsPatternOf, ArePatternsOf, FitsUpTo, IsBestUpTo}
+use Rattle.conversions.specs.Patterns.{ConversionPattern, IsPatternOf, ArePatternsOf, FitsUpTo}
+use Rattle.conversions.specs.Patterns.{IsBestUpTo}
 use Rattle.conversions.specs.Patterns.{BestUpTo}
 use Rattle.conversions.proofs.Best.{best_fit-is, best_fit-none}
 
@@ -74,7 +75,8 @@ front-fits text row fit =
     ((bytes_eq-Decides row.from (take (length row.from) text)).1 (sym fit.front))
 
 -- ---- the row of a pattern, and the pattern of a row
-row-of : (table : List Conversion) (p : Pattern) → IsPatternOf table p → (row : Conversion)
+row-of : (table : List Conversion) (p : ConversionPattern) → IsPatternOf table p
+    → (row : Conversion)
     × (slice_get table p.1 ≡ Some row) × (row.from ≡ p.0.items)
 row-of table p right = by (slice_get table p.1) refl right
   where
@@ -84,13 +86,14 @@ row-of table p right = by (slice_get table p.1) refl right
     by None at is = absurd (cc)
     by (Some row) at is = let same : row.from ≡ p.0.items = cc in (row, at, same)
 
-pattern-of : (table : List Conversion) (patterns : List Pattern) (place : ℕ) (row : Conversion)
+pattern-of : (table : List Conversion) (patterns : List ConversionPattern) (place : ℕ) (row : Conversion)
     → ArePatternsOf table patterns → slice_get table place ≡ Some row
-    → (p : Pattern) × Contains patterns p × (p.1 ≡ place) × (p.0.items ≡ row.from)
+    → (p : ConversionPattern) × Contains patterns p × (p.1 ≡ place) × (p.0.items ≡ row.from)
 pattern-of table patterns place row are at =
     by (are.whole place (slice_get_within table place row at))
   where
-    here : (k : ℕ) (p : Pattern) → slice_get patterns k ≡ Some p → p.1 ≡ place → (p : Pattern)
+    here : (k : ℕ) (p : ConversionPattern) → slice_get patterns k ≡ Some p → p.1 ≡ place
+        → (p : ConversionPattern)
         × Contains patterns p × (p.1 ≡ place) × (p.0.items ≡ row.from)
     here k p found is =
         let among : Contains patterns p =
@@ -101,30 +104,32 @@ pattern-of table patterns place row are at =
         let same : own.0 ≡ row = same_Some own.0 row (sym own.1 ∙ ap (slice_get table) is ∙ at) in
         (p, among, is, sym own.2 ∙ ap (λ (r : Conversion). r.from) same)
 
-    at-k : (k : ℕ) (found : Option Pattern) → slice_get patterns k ≡ found
-        → option_map (λ (p : Pattern). p.1) found ≡ Some place → (p : Pattern) × Contains patterns p
+    at-k : (k : ℕ) (found : Option ConversionPattern) → slice_get patterns k ≡ found
+        → option_map (λ (p : ConversionPattern). p.1) found ≡ Some place
+        → (p : ConversionPattern) × Contains patterns p
         × (p.1 ≡ place) × (p.0.items ≡ row.from)
     at-k k None found is = absurd (cc)
     at-k k (Some p) found is = let same : p.1 ≡ place = cc in here k p found same
 
-    by : Contains (map (λ (p : Pattern). p.1) patterns) place → (p : Pattern) × Contains patterns p
+    by : Contains (map (λ (p : ConversionPattern). p.1) patterns) place
+        → (p : ConversionPattern) × Contains patterns p
         × (p.1 ≡ place) × (p.0.items ≡ row.from)
     by (k, inside, is) =
         at-k k (slice_get patterns k) refl
-        (sym (slice_get-map (λ (p : Pattern). p.1) patterns k)
-        ∙ slice_get-get_or (map (λ (p : Pattern). p.1) patterns) k place inside
+        (sym (slice_get-map (λ (p : ConversionPattern). p.1) patterns k)
+        ∙ slice_get-get_or (map (λ (p : ConversionPattern). p.1) patterns) k place inside
         ∙ ap (λ n. Some n) is)
 
 -- the pattern of a best fitting row fits
-pattern-fits : (table : List Conversion) (patterns : List Pattern) (text : List ℕ)
+pattern-fits : (table : List Conversion) (patterns : List ConversionPattern) (text : List ℕ)
     (row : Conversion) → ArePatternsOf table patterns → (best : IsBestFit table text row)
-    → (p : Pattern) × Contains patterns p × (p.1 ≡ length best.before) × (p.0.items ≡ row.from)
+    → (p : ConversionPattern) × Contains patterns p × (p.1 ≡ length best.before) × (p.0.items ≡ row.from)
     × FitsUpTo text (length text) p.0.items
 pattern-fits table patterns text row are best =
     let at : slice_get table (length best.before) ≡ Some row =
     ap (λ rows. slice_get rows (length best.before)) best.whole
     ∙ at-place best.before best.behind row in
-    let own : (p : Pattern) × Contains patterns p × (p.1 ≡ length best.before)
+    let own : (p : ConversionPattern) × Contains patterns p × (p.1 ≡ length best.before)
     × (p.0.items ≡ row.from) = pattern-of table patterns (length best.before) row are at in (
       own.0,
       own.1,
@@ -135,13 +140,14 @@ pattern-fits table patterns text row are best =
     )
 
 -- ---- the best one
-pub no_fit : (table : List Conversion) (patterns : List Pattern) (text : List ℕ)
+pub no_fit : (table : List Conversion) (patterns : List ConversionPattern) (text : List ℕ)
     → ArePatternsOf table patterns → BestUpTo patterns text (length text) None
     → None ≡ best_fit table text
 no_fit table patterns text are none = by (best_fit table text) refl
   where
     not : (row : Conversion)
-        → ((p : Pattern) × Contains patterns p × FitsUpTo text (length text) p.0.items) → ⊥
+        → ((p : ConversionPattern) × Contains patterns p × FitsUpTo text (length text) p.0.items)
+        → ⊥
     not row (p, among, fit) = none p among fit
 
     by : (found : Option Conversion) → best_fit table text ≡ found → None ≡ found
@@ -150,7 +156,7 @@ no_fit table patterns text are none = by (best_fit table text) refl
         pattern-fits table patterns text row are
         (best_fit-is table text row is) in absurd (not row (own.0, own.1, own.4))
 
-pub best_row : (table : List Conversion) (patterns : List Pattern) (text : List ℕ) (p : Pattern)
+pub best_row : (table : List Conversion) (patterns : List ConversionPattern) (text : List ℕ) (p : ConversionPattern)
     → ArePatternsOf table patterns → IsBestUpTo patterns text (length text) p
     → slice_get table p.1 ≡ best_fit table text
 best_row table patterns text p are best =
@@ -164,7 +170,7 @@ best_row table patterns text p are best =
     -- where each of two rows is best, they are one
     same_row : (row other : Conversion) → slice_get table p.1 ≡ Some row → row.from ≡ p.0.items
         → (it : IsBestFit table text other)
-        → ((q : Pattern) × Contains patterns q × (q.1 ≡ length it.before) × (q.0.items ≡ other.from)
+        → ((q : ConversionPattern) × Contains patterns q × (q.1 ≡ length it.before) × (q.0.items ≡ other.from)
         × FitsUpTo text (length text) q.0.items) → row ≡ other
     same_row row other at from it (q, among, place, pattern, fit) =
         ordered (cases_order p.1 (length it.before))

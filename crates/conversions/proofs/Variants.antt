@@ -4,7 +4,7 @@ use Rattle.std.proofs.Common.{cond, map, append_assoc}
 use Rattle.std.specs.List.{filter, range_with_len}
 use Rattle.std.proofs.lemmas.List.{append-nil, map-append}
 use Rattle.std.proofs.lemmas.List.Elements.{filter-append}
-use Rattle.lists.specs.Laws.{range_more}
+use Rattle.spell_types.specs.lists.Laws.{range_more}
 
 module _ {X : Type 0} (make : ℕ → X) (test : ℕ → Bool) where
   abbrev pub made_before : ℕ → List X

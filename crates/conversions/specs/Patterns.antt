@@ -8,26 +8,26 @@ use Rattle.std.specs.Option.{option_map}
 use Rattle.std.specs.Ordering.{nat_cmp, ordering_then}
 use Rattle.std.specs.declared.cmp.Ordering.{Ordering}
 use Rattle.spell_types.specs.declared.conversions.Conversion.{Conversion}
-use Rattle.lists.specs.TextOrder.{Row}
+use Rattle.spell_types.specs.lists.TextOrder.{Row}
 
 -- a pattern, and the place of its row
-abbrev pub Pattern : Type 0
-Pattern = Row ℕ
+abbrev pub ConversionPattern : Type 0
+ConversionPattern = Row ℕ
 
 -- the order of patterns by their characters, and of equal ones by their places
-abbrev pub pattern_cmp : Pattern → Pattern → Ordering
+abbrev pub pattern_cmp : ConversionPattern → ConversionPattern → Ordering
 pattern_cmp p q = ordering_then (slice_cmp nat_cmp p.0.items q.0.items) (nat_cmp p.1 q.1)
 
-abbrev pub AreSorted : List Pattern → Type 0
-AreSorted patterns = IsSorted pattern_cmp patterns
+abbrev pub ArePatternsSorted : List ConversionPattern → Type 0
+ArePatternsSorted patterns = IsSorted pattern_cmp patterns
 
 -- the pattern is that of the row at its place
-abbrev pub IsPatternOf : List Conversion → Pattern → Type 0
+abbrev pub IsPatternOf : List Conversion → ConversionPattern → Type 0
 IsPatternOf table p = option_map (λ row. row.from) (slice_get table p.1) ≡ Some p.0.items
 
 -- these are the patterns of the table, each with its place, in order
-pub record ArePatternsOf (table : List Conversion) (patterns : List Pattern) : Type 0 where
-  pub sorted : AreSorted patterns
+pub record ArePatternsOf (table : List Conversion) (patterns : List ConversionPattern) : Type 0 where
+  pub sorted : ArePatternsSorted patterns
   pub right : All (IsPatternOf table) patterns
   pub whole : (place : ℕ) → place < length table → Contains (map (λ p. p.1) patterns) place
 
@@ -38,18 +38,19 @@ pub record FitsUpTo (text : List ℕ) (most : ℕ) (pattern : List ℕ) : Type 0
   pub front : take (length pattern) text ≡ pattern
 
 -- it is the longest of the patterns that do, and the first of its equals
-pub record IsBestUpTo (patterns : List Pattern) (text : List ℕ) (most : ℕ) (best : Pattern) : Type
+pub record IsBestUpTo (patterns : List ConversionPattern) (text : List ℕ) (most : ℕ) (best : ConversionPattern) : Type
     0 where
   pub among : Contains patterns best
   pub fit : FitsUpTo text most best.0.items
-  pub longest : (p : Pattern) → Contains patterns p → FitsUpTo text most p.0.items
+  pub longest : (p : ConversionPattern) → Contains patterns p → FitsUpTo text most p.0.items
       → length p.0.items ≤ length best.0.items
-  pub first : (p : Pattern) → Contains patterns p → p.0.items ≡ best.0.items → best.1 ≤ p.1
+  pub first : (p : ConversionPattern) → Contains patterns p → p.0.items ≡ best.0.items
+      → best.1 ≤ p.1
 
 -- the best one that was found, or none where none fits
-abbrev pub BestUpTo : List Pattern → List ℕ → ℕ → Option Pattern → Type 0
+abbrev pub BestUpTo : List ConversionPattern → List ℕ → ℕ → Option ConversionPattern → Type 0
 BestUpTo patterns text most found =
-    MatchOption found ((p : Pattern) → Contains patterns p → ¬ (FitsUpTo text most p.0.items))
+    MatchOption found ((p : ConversionPattern) → Contains patterns p → ¬ (FitsUpTo text most p.0.items))
     (IsBestUpTo patterns text most)
 
 -- what was made, or the word itself where nothing was

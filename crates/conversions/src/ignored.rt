@@ -7,8 +7,8 @@ ghost use Rattle.std.specs.List.Sorted.{IsNonDecreasing};
 ghost use Rattle.spell_types.specs.Conversions.{is_kept, without_ignored};
 ghost use Rattle.conversions.specs.Patterns.{or_word};
 
-use lists::{Items, NoMemory};
 use spell_types::Chars;
+use spell_types::lists::{Items, NoMemory};
 use std::alloc::Global;
 use std::marker::Model;
 

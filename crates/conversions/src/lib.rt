@@ -15,8 +15,8 @@ mod replacements;
 mod table;
 
 pub use ignored::Ignored;
-use lists::{Items, NoMemory};
 pub use replacements::{rep_variants, stands_anchored, variant_at};
+use spell_types::lists::{Items, NoMemory};
 use spell_types::{Chars, Conversion};
 use std::alloc::Global;
 pub use table::Conversions;

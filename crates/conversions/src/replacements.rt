@@ -4,7 +4,7 @@ ghost use Rattle.std.specs.Prelude.{◌≡◌, ◌+◌, ◌==◌, ◌++◌, leng
 ghost use Rattle.spell_types.specs.Replacements.{stands_anchored, replaced_at, variants_by};
 ghost use Rattle.spell_types.specs.Replacements.{rep_variants};
 
-use lists::{Items, NoMemory};
+use spell_types::lists::{Items, NoMemory};
 use spell_types::{Anchored, Chars, Rep};
 use std::alloc::Global;
 

@@ -4,16 +4,16 @@
 ghost use Rattle.std.specs.Prelude.{◌≡◌, ◌++◌, ◌<◌, ◌≤◌, length, take, drop, MatchOption, IfOk};
 ghost use Rattle.std.specs.Option.{option_copied};
 ghost use Rattle.spell_types.specs.Conversions.{best_fit, converted};
-ghost use Rattle.conversions.specs.Patterns.{ArePatternsOf, AreSorted, BestUpTo, or_word};
+ghost use Rattle.conversions.specs.Patterns.{ArePatternsOf, ArePatternsSorted, BestUpTo, or_word};
 
-use lists::text_order::{ending, going_on};
-use lists::{Items, NoMemory};
+use spell_types::lists::text_order::{ending, going_on};
+use spell_types::lists::{Items, NoMemory};
 use spell_types::{Chars, Conversion};
 use std::alloc::Global;
 use std::marker::Model;
 
 /// A pattern, and the place of its row in the table.
-type Pattern = (Vec<char>, usize);
+type ConversionPattern = (Vec<char>, usize);
 
 /// A table of conversions, ready to be used on words. Contracts see it as its rows. A pattern is
 /// found by its characters, one after another, each by halves among the patterns that begin alike:
@@ -22,7 +22,7 @@ type Pattern = (Vec<char>, usize);
 pub struct Conversions {
     table: Items<Conversion>,
     /// In the order of their characters, equal ones in the order of the table.
-    patterns: Vec<Pattern>,
+    patterns: Vec<ConversionPattern>,
 }
 
 impl Model for Conversions {
@@ -65,7 +65,7 @@ impl Conversions {
 }
 
 /// The patterns of a table, in order.
-fn patterns_of(alloc: Global, table: &[Conversion]) -> Result<Vec<Pattern>, NoMemory>
+fn patterns_of(alloc: Global, table: &[Conversion]) -> Result<Vec<ConversionPattern>, NoMemory>
     ensures { IfOk result (λ patterns. ArePatternsOf table.now patterns.items) }
 {
     let mut patterns = Vec::with_capacity(alloc, table.len())?;
@@ -78,7 +78,7 @@ fn patterns_of(alloc: Global, table: &[Conversion]) -> Result<Vec<Pattern>, NoMe
 }
 
 /// The first place of the word at which a pattern stands.
-fn first_fit(table: &[Conversion], patterns: &[Pattern], word: &[char]) -> Option<usize>
+fn first_fit(table: &[Conversion], patterns: &[ConversionPattern], word: &[char]) -> Option<usize>
     requires { ArePatternsOf table.now patterns.now }
     ensures { MatchOption result (converted table.now word.now ≡ word.now)
         (λ start. (start ≤ length word.now)
@@ -97,7 +97,7 @@ fn first_fit(table: &[Conversion], patterns: &[Pattern], word: &[char]) -> Optio
 fn convert_from(
     alloc: Global,
     table: &[Conversion],
-    patterns: &[Pattern],
+    patterns: &[ConversionPattern],
     word: &[char],
     start: usize,
 ) -> Result<Chars, NoMemory>
@@ -117,7 +117,7 @@ fn convert_from(
 /// Writes what stands at the front of the text, converted, and says how many characters that was.
 fn convert_front(
     table: &[Conversion],
-    patterns: &[Pattern],
+    patterns: &[ConversionPattern],
     text: &[char],
     made: &mut Chars,
 ) -> Result<usize, NoMemory>
@@ -146,7 +146,7 @@ fn convert_front(
 /// ones.
 fn best_fit<'a>(
     table: &'a [Conversion],
-    patterns: &[Pattern],
+    patterns: &[ConversionPattern],
     text: &[char],
 ) -> Option<&'a Conversion>
     requires { ArePatternsOf table.now patterns.now }
@@ -159,8 +159,11 @@ fn best_fit<'a>(
 }
 
 /// The longest pattern at the front of the text, the first of equal ones.
-fn best_pattern<'a>(patterns: &'a [Pattern], text: &[char]) -> Option<&'a Pattern>
-    requires { AreSorted patterns.now }
+fn best_pattern<'a>(
+    patterns: &'a [ConversionPattern],
+    text: &[char],
+) -> Option<&'a ConversionPattern>
+    requires { ArePatternsSorted patterns.now }
     ensures { BestUpTo patterns.now text.now (length text.now) (option_copied result) }
 {
     let mut alike = patterns;

@@ -2,15 +2,15 @@
 use Rattle.std.proofs.Common.{◌≡◌, ◌∙◌, refl, sym, ap, subst, inl, inr, ◌⊎◌, ⊎_elim, ℕ, true, false}
 use Rattle.std.proofs.Common.{List, [], ◌∷◌, ◌++◌, Option, None, Some, Result, Ok, Err, IfOk}
 use Rattle.std.specs.Prelude.{IfSome}
-use Rattle.lists.specs.Answers.{FailsAs, GivesDue}
+use Rattle.outside.specs.lists.Answers.{FailsAs, GivesDue}
 use Rattle.outside.specs.Files.{Folder}
-use Rattle.spell_types.specs.declared.Lexicon.{Lexicon}
+use Rattle.mark_types.specs.spell_types.declared.Lexicon.{Lexicon}
 use Rattle.personal_words.specs.declared.items.OwnItem.{OwnItem}
 use Rattle.personal_words.specs.declared.faults.OwnLineFault.TheVariants.{Why}
 use Rattle.personal_words.specs.declared.faults.OwnLineWhy.{OwnLineWhy}
-use Rattle.personal_words.specs.Lists.{IsAdded, IsRefused, added}
+use Rattle.personal_words.specs.Lists.{IsAdded, IsOwnLineRefused, added}
 use Rattle.personal_words.specs.Dictionaries.{OwnSeen}
-use Rattle.dictionary_swap.specs.Loads.{DictionaryFiles, MayCome, lexicon_due, found_in}
+use Rattle.dictionary_swap.specs.Loads.{DictionaryFiles, MayComeOfLoads, lexicon_due, found_in}
 use Rattle.dictionary_swap.specs.declared.fault.LoadFault.{LoadFault}
 use Rattle.dictionary_swap.specs.declared.fault.LoadFault.TheVariants.{Failed, NoMemory}
 use Rattle.board_share.specs.Eyes.{last_of}
@@ -35,14 +35,14 @@ both (Err stop) gives p q = tt
 pub record IsDue (told : Option Folder) (aff dic : List ℕ)
     (result : Result Lexicon LoadFault) : Type 0 where
   pub found : (there : DictionaryFiles)
-      × GivesDue MayCome (λ speller. speller) (lexicon_due there) result
+      × GivesDue MayComeOfLoads (λ speller. speller) (lexicon_due there) result
   pub told_is : IfSome told (λ folder.
-      GivesDue MayCome (λ speller. speller) (lexicon_due (found_in folder aff dic)) result)
+      GivesDue MayComeOfLoads (λ speller. speller) (lexicon_due (found_in folder aff dic)) result)
 
 -- so there are some of which it is due: those of the folder that is told, where one is
 found-files : (told : Option Folder) {aff dic : List ℕ} {result : Result Lexicon LoadFault}
     → IsDue told aff dic result → (there : DictionaryFiles) × IsThere told aff dic there
-    × GivesDue MayCome (λ speller. speller) (lexicon_due there) result
+    × GivesDue MayComeOfLoads (λ speller. speller) (lexicon_due there) result
 found-files None due = (due.found.0, tt, due.found.1)
 found-files (Some folder) {aff} {dic} due = (found_in folder aff dic, refl, due.told_is)
 
@@ -62,7 +62,7 @@ loads-read {told} before after result due made_is reloads same =
 
 -- a fault that is not of memory is of files that failed, or it is what is due
 failed-or-due : {due : Result Lexicon LoadFault} (fault : LoadFault) → ¬ (fault ≡ NoMemory)
-    → FailsAs MayCome due fault → (fault ≡ Failed) ⊎ (due ≡ Err fault)
+    → FailsAs MayComeOfLoads due fault → (fault ≡ Failed) ⊎ (due ≡ Err fault)
 failed-or-due fault other (inr due) = inr due
 failed-or-due Failed other (inl comes) = inl refl
 failed-or-due NoMemory other (inl comes) = absurd (other refl)
@@ -106,7 +106,7 @@ own-blank before after text {reply} due stays looks told =
 
 -- a text that is refused is told why
 pub own-refused : (before after : Seat) (text : List ℕ) (why : OwnLineWhy) {reply : Reply}
-    → IsRefused (added before.dictionary.base.affixes before.dictionary.own text) (Why why)
+    → IsOwnLineRefused (added before.dictionary.base.affixes before.dictionary.own text) (Why why)
     → reply ≡ NoOwn why → after ≡ before → IsOwnTold before text after reply
 own-refused before after text why {reply} refused told stays =
     subst (λ due. IsItemTold before due after reply) (sym refused) (stays, told)

@@ -14,25 +14,26 @@ use Rattle.console_lang.specs.declared.command.Command.TheVariants as command
 use Rattle.console_lang.specs.declared.command.CommandFault.{CommandFault}
 use Rattle.console_lang.specs.declared.reply.Reply.{Reply}
 use Rattle.console_lang.specs.declared.reply.Reply.TheVariants.{NoCommand}
-use Rattle.console_board.specs.Transcripts.{asked_by, asked_for, failures_in, is_no_files}
+use Rattle.console_board.specs.Transcripts.{commands_asked_by, asked_for, failures_in, is_no_files}
 use Rattle.console_board.specs.Transcripts.{line_says, quits, written_of}
 use Rattle.console_history.specs.Told.{GoesOneOn, IsToldOne, Seat, Told}
-use Rattle.desk_console.specs.Consoles.{HasTold, IsStopped, lines_left}
+use Rattle.desk_console.specs.Consoles.{HasTold, IsStopped, lines_left_for_eye}
 use Rattle.desk_console.specs.Consoles.{most_asked}
 use Rattle.desk_console.specs.declared.console.TheConstants.{SESSION}
 use Rattle.desk_console.specs.declared.stop.Stop.{Stop}
 use Rattle.desk_console.specs.declared.stop.Stop.TheVariants as stop
 
 -- ---- what lines ask for
-asked-append : (lines later : List (List ℕ)) → asked_by (lines ++ later) ≡ asked_by lines
-    ++ asked_by later
-unfolding asked_by
+asked-append : (lines later : List (List ℕ))
+    → commands_asked_by (lines ++ later) ≡ commands_asked_by lines
+    ++ commands_asked_by later
+unfolding commands_asked_by
 asked-append lines later = filter_map-append (λ line. asked_for (line_says line)) lines later
 
 -- a line asks for what it says
 pub asked-line : (line : List ℕ) {said : Result (Option Command) CommandFault}
-    → line_says line ≡ said → asked_by (line ∷ []) ≡ cons_option (asked_for said) []
-unfolding asked_by
+    → line_says line ≡ said → commands_asked_by (line ∷ []) ≡ cons_option (asked_for said) []
+unfolding commands_asked_by
 asked-line line says = ap (λ said. cons_option (asked_for said) []) says
 
 -- no command but `quit` ends the input
@@ -62,7 +63,7 @@ module _ {folder here_folder : Option Folder} {failed here_failed : ℕ}
   where
     -- nothing is done for a line that asks for nothing, or for none
     pub idle-on : (more : List (List ℕ)) {folder_now : Option Folder} {failed_now : ℕ}
-        → asked_by more ≡ [] → folder_now ≡ here_folder → here_failed ≤ failed_now
+        → commands_asked_by more ≡ [] → folder_now ≡ here_folder → here_failed ≤ failed_now
         → HasTold folder folder_now failed failed_now stopped_first first here stopped
         (lines ++ more) (said ++ [])
     idle-on more asks same grown = record {
@@ -70,8 +71,8 @@ module _ {folder here_folder : Option Folder} {failed here_failed : ℕ}
       seen = led.seen;
       told = subst
           (λ (asked : List (Option Command)). Told folder SESSION first asked led.replies led.seen)
-          (sym (asked-append lines more ∙ ap (λ asked. asked_by lines ++ asked) asks
-          ∙ append-nil (asked_by lines))) led.told;
+          (sym (asked-append lines more ∙ ap (λ asked. commands_asked_by lines ++ asked) asks
+          ∙ append-nil (commands_asked_by lines))) led.told;
       text_is = append-nil said ∙ led.text_is;
       failures = omega (arith, led.failures, grown);
       same = same ∙ led.same;
@@ -85,7 +86,8 @@ module _ {folder here_folder : Option Folder} {failed here_failed : ℕ}
     pub replied-on : OneMore → (later-self : (eye : EyeSeen) → GoesOneOn eye eye)
         → stopped ≡ None → (line : List ℕ) (reply : Reply) {asked : Option Command} {next : Seat}
         {added : List ℕ} {folder_now : Option Folder} {failed_now : ℕ} {stopped_now : Option Stop}
-        → asked_by (line ∷ []) ≡ asked ∷ [] → IsToldOne here_folder SESSION here asked next reply
+        → commands_asked_by (line ∷ []) ≡ asked ∷ []
+        → IsToldOne here_folder SESSION here asked next reply
         → added ≡ written_of (reply ∷ [])
         → here_failed + failures_in (reply ∷ []) ≤ failed_now → folder_now ≡ here_folder
         → stopped_now ≡ None
@@ -100,8 +102,8 @@ module _ {folder here_folder : Option Folder} {failed here_failed : ℕ}
           told = subst
               (λ (commands : List (Option Command)).
               Told folder SESSION first commands (led.replies ++ reply ∷ []) next)
-              (sym (asked-append lines (line ∷ []) ∙ ap (λ asked. asked_by lines ++ asked) asks))
-              (one_more folder SESSION first led.seen next (asked_by lines) led.replies asked reply
+              (sym (asked-append lines (line ∷ []) ∙ ap (λ asked. commands_asked_by lines ++ asked) asks))
+              (one_more folder SESSION first led.seen next (commands_asked_by lines) led.replies asked reply
               led.told
               (subst (λ (seat : Seat). IsToldOne folder SESSION seat asked next reply) here_is
               (subst (λ (told : Option Folder). IsToldOne told SESSION here asked next reply)
@@ -119,7 +121,7 @@ module _ {folder here_folder : Option Folder} {failed here_failed : ℕ}
     -- the console has stopped
     pub stopped-on : stopped ≡ None → {next : Seat} {stopped_now : Option Stop}
         {folder_now : Option Folder} {failed_now : ℕ} → IsStopped here.eye next.eye stopped_now
-        → 1 ≤ lines_left here.eye → folder_now ≡ here_folder → here_failed ≤ failed_now
+        → 1 ≤ lines_left_for_eye here.eye → folder_now ≡ here_folder → here_failed ≤ failed_now
         → HasTold folder folder_now failed failed_now stopped_first first next stopped_now
         (lines ++ []) (said ++ [])
     stopped-on going {next} {stopped_now} stops left same grown =
@@ -128,7 +130,7 @@ module _ {folder here_folder : Option Folder} {failed here_failed : ℕ}
           seen = led.seen;
           told = subst
               (λ (more : List (List ℕ)).
-              Told folder SESSION first (asked_by more) led.replies led.seen)
+              Told folder SESSION first (commands_asked_by more) led.replies led.seen)
               (sym (append-nil lines)) led.told;
           text_is = append-nil said ∙ led.text_is;
           failures = omega (arith, led.failures, grown);

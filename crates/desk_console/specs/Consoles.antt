@@ -2,14 +2,14 @@
 use Rattle.std.specs.Prelude.{◌≡◌, ℕ, ◌+◌, ◌-◌, ◌^◌, ◌≤◌, Bool, true, false, List, [], ◌∷◌, ◌++◌}
 use Rattle.std.specs.Prelude.{Option, None, Some, is_some}
 use Rattle.outside.specs.Files.{Folder}
-use Rattle.edit_core.specs.declared.refusal.Refusal.{Refusal}
-use Rattle.edit_core.specs.declared.refusal.Refusal.TheVariants as refusal
+use Rattle.board_share.specs.edit_core.declared.refusal.Refusal.{Refusal}
+use Rattle.board_share.specs.edit_core.declared.refusal.Refusal.TheVariants as refusal
 use Rattle.board_share.specs.Eyes.{EyeSeen, IsLater, events_in, last_of}
 use Rattle.console_lang.specs.declared.command.Command.{Command}
 use Rattle.console_lang.specs.declared.command.Command.TheVariants.{Load, Own, Quit}
 use Rattle.console_lang.specs.declared.reply.Reply.{Reply}
 use Rattle.console_board.specs.BoardAnswers.{reply_for}
-use Rattle.console_board.specs.Transcripts.{asked_by, failures_in, written_of}
+use Rattle.console_board.specs.Transcripts.{commands_asked_by, failures_in, written_of}
 use Rattle.console_history.specs.Told.{GoesOneOn, IsNoMoreAsked, IsToldTo, Seat, Told}
 use Rattle.desk_console.specs.declared.stop.Stop.{Stop}
 use Rattle.desk_console.specs.declared.stop.Stop.TheVariants as stop
@@ -18,9 +18,9 @@ use Rattle.desk_console.specs.declared.console.TheConstants.{SESSION}
 -- ---- why a console stops
 
 -- the refusal that stops it
-abbrev pub refusal_of : Stop → Refusal
-refusal_of (stop.Spent point) = refusal.Spent point
-refusal_of stop.Wanting = refusal.NoMemory
+abbrev pub refusal_of_stop : Stop → Refusal
+refusal_of_stop (stop.Spent point) = refusal.Spent point
+refusal_of_stop stop.Wanting = refusal.NoMemory
 
 -- a refusal stops the console, or has a reply
 abbrev pub StopsOrHasReply : Refusal → Type 0
@@ -43,11 +43,11 @@ pub record IsStopped (old new : EyeSeen) (stopped : Option Stop) : Type 0 where
 -- ---- commands
 
 -- whether a command is done without a dictionary, and does not end the console
-abbrev pub is_plain : Command → Bool
-is_plain (Load aff dic) = false
-is_plain (Own text) = false
-is_plain Quit = false
-is_plain asked = true
+abbrev pub needs_no_dictionary : Command → Bool
+needs_no_dictionary (Load aff dic) = false
+needs_no_dictionary (Own text) = false
+needs_no_dictionary Quit = false
+needs_no_dictionary asked = true
 
 -- ---- how many lines may be answered
 
@@ -56,8 +56,8 @@ abbrev pub most_asked : ℕ
 most_asked = 2 ^ 33
 
 -- how many lines a console can answer at least whose eye has counted these events
-abbrev pub lines_left : EyeSeen → ℕ
-lines_left eye = most_asked - events_in eye.counts
+abbrev pub lines_left_for_eye : EyeSeen → ℕ
+lines_left_for_eye eye = most_asked - events_in eye.counts
 
 -- no event may come any more, although few were asked for
 pub record IsSpentEarly (eye : EyeSeen) : Type 0 where
@@ -68,7 +68,7 @@ pub record IsSpentEarly (eye : EyeSeen) : Type 0 where
 
 -- a command was replied to, and the reply was added to a text; the files failed as often at least
 -- as it says
-pub record IsReplied (folder : Option Folder) (failed failed_now : ℕ) (before after : Seat)
+pub record IsCommandReplied (folder : Option Folder) (failed failed_now : ℕ) (before after : Seat)
     (command : Command) (text text_now : List ℕ) : Type 0 where
   pub reply : Reply
   pub told : IsToldTo folder SESSION before command after reply
@@ -83,7 +83,7 @@ pub record HasTold (folder folder_now : Option Folder) (failed failed_now : ℕ)
     (lines : List (List ℕ)) (text : List ℕ) : Type 0 where
   pub replies : List Reply
   pub seen : Seat
-  pub told : Told folder SESSION first (asked_by lines) replies seen
+  pub told : Told folder SESSION first (commands_asked_by lines) replies seen
   pub text_is : text ≡ written_of replies
   pub failures : failed + failures_in replies ≤ failed_now
   pub same : folder_now ≡ folder

@@ -3,7 +3,7 @@ use Rattle.std.specs.Prelude.{◌≡◌, ℕ, ◌+◌, ◌≤◌, List, [], leng
 use Rattle.std.proofs.Common.{arith, refl, sym, subst, add-zero, append-nil}
 use Rattle.std.proofs.Math.Nat.{le_refl}
 use Rattle.outside.specs.Files.{Folder}
-use Rattle.edit_core.specs.Runs.{asked_of}
+use Rattle.board_share.specs.edit_core.Runs.{asked_of}
 use Rattle.board_share.specs.Eyes.{EyeSeen, IsLater, entries_in, events_in}
 use Rattle.console_lang.specs.declared.command.Command.{Command}
 use Rattle.console_board.specs.Starts.{asked-nothing}

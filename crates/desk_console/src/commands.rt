@@ -2,23 +2,23 @@
 
 ghost use Rattle.std.specs.Prelude.{◌≡◌, ◌≤◌, IfErr, IfOk, false, true};
 ghost use Rattle.std.specs.Arc.{arc_value};
-ghost use Rattle.edit_core.specs.Events.{event_of};
+ghost use Rattle.board_share.specs.edit_core.Events.{event_of};
 ghost use Rattle.console_lang.specs.declared.reply.Reply.TheVariants.{Done};
 ghost use Rattle.board_share.specs.Eyes.{last_of};
 ghost use Rattle.console_board.specs.BoardAnswers.{IsAsked, look_reply};
 ghost use Rattle.console_board.specs.Transcripts.{HasWholeText, is_no_files};
 ghost use Rattle.console_history.specs.Told.{IsEventTold, IsLexiconTold, IsPlaceTold};
 ghost use Rattle.console_history.specs.Told.{IsPlainTold, Looks, Settles};
-ghost use Rattle.desk_console.specs.Consoles.{IsCutOff, is_plain};
+ghost use Rattle.desk_console.specs.Consoles.{IsCutOff, needs_no_dictionary};
 
 use crate::console::DeskConsole;
 use crate::stop::{Stop, stop_of, turned_down};
 use board_share::Naming;
+use board_share::edit_core::Event;
 use check_workers::settle;
 use console_board::{asked_events_have_replies, event_for, show};
 use console_history::told_commands_go_one_on;
 use console_lang::{Command, Reply};
-use edit_core::Event;
 use mark_types::Judge;
 use std::alloc::Global;
 use std::sync::{Arc, Wait};
@@ -56,7 +56,7 @@ impl<J: Judge + Drop, O: Drop, D: Naming, W: Wait + Drop, R: Wait> DeskConsole<'
     /// number, which its events name. `load`, `own` and `quit` are no such commands.
     #[tactic(auto, unfolding(console_history::specs::Told::IsPlainTold))]
     pub fn reply_as(&mut self, alloc: Global, session: u32, command: Command) -> Result<Reply, Stop>
-        requires plain { is_plain command ≡ true }
+        requires plain { needs_no_dictionary command ≡ true }
         requires whole { HasWholeText command }
         ensures dictionary { self.new.dictionary ≡ self.old.dictionary }
         ensures stopped { self.new.stopped ≡ self.old.stopped }

@@ -1,7 +1,7 @@
 //! What the commands of a console do that change its dictionary.
 
 ghost use Rattle.std.specs.Prelude.{◌≡◌, ◌+◌, ◌≤◌, [], ◌∷◌, IfErr, IfOk, false};
-ghost use Rattle.personal_words.specs.Dictionaries.{IsBase};
+ghost use Rattle.personal_words.specs.Dictionaries.{IsLoadedBase};
 ghost use Rattle.console_board.specs.Transcripts.{failures_in, is_no_files};
 ghost use Rattle.console_history.specs.Told.{IsLoadTold, IsOwnTold, IsReloadTold};
 ghost use Rattle.desk_console.specs.Consoles.{IsCutOff};

@@ -10,7 +10,8 @@ ghost use Rattle.console_lang.specs.declared.command.Command.{Command};
 ghost use Rattle.console_board.specs.Transcripts.{HasWholeText, failures_in, is_quit, line_says};
 ghost use Rattle.console_board.specs.Transcripts.{written_of};
 ghost use Rattle.console_history.specs.Told.{IsToldTo};
-ghost use Rattle.desk_console.specs.Consoles.{HasTold, IsCutOff, IsReplied, IsStopped, lines_left};
+ghost use Rattle.desk_console.specs.Consoles.{HasTold, IsCutOff, IsCommandReplied, IsStopped};
+ghost use Rattle.desk_console.specs.Consoles.{lines_left_for_eye};
 ghost use Rattle.desk_console.specs.Consoles.{most_asked};
 ghost use Rattle.desk_console.specs.Starts.{told-none};
 
@@ -21,9 +22,9 @@ use console_board::commands_have_whole_texts;
 use console_history::{told_commands_go_one_on, told_consoles_are_followed};
 use console_lang::{Command, CommandFault, Reply, read_command, write_reply};
 use input_lines::{Flow, Responder};
-use lists::NoMemory;
 use mark_types::Judge;
 use outside::Files;
+use outside::lists::NoMemory;
 use personal_words::Dictionary;
 use std::alloc::Global;
 use std::sync::Wait;
@@ -36,7 +37,7 @@ where
 {
     ghost quits = { is_quit };
 
-    ghost room = { λ console. lines_left console.eye };
+    ghost room = { λ console. lines_left_for_eye console.eye };
 
     ghost Leads = { λ first beside_first lines said now beside.
         HasTold (F.told beside_first) (F.told beside) (F.faults beside_first) (F.faults beside)
@@ -95,7 +96,7 @@ where
         requires whole { HasWholeText command }
         requires going { self.old.stopped ≡ None }
         ensures replied { OnOk result
-            (IsReplied (F.told files.old) (F.faults files.old) (F.faults files.new)
+            (IsCommandReplied (F.told files.old) (F.faults files.old) (F.faults files.new)
             (record { eye = self.old.eye; dictionary = O.seen self.old.dictionary })
             (record { eye = self.new.eye; dictionary = O.seen self.new.dictionary })
             command (string_bytes replies.old) (string_bytes replies.new)) }
@@ -125,7 +126,7 @@ where
         requires asked { ¬ (command ≡ Command.Quit) }
         requires whole { HasWholeText command }
         ensures replied { OnOk result
-            (IsReplied (F.told files.old) (F.faults files.old) (F.faults files.new)
+            (IsCommandReplied (F.told files.old) (F.faults files.old) (F.faults files.new)
             (record { eye = self.old.eye; dictionary = O.seen self.old.dictionary })
             (record { eye = self.new.eye; dictionary = O.seen self.new.dictionary })
             command (string_bytes replies.old) (string_bytes replies.new)) }

@@ -2,15 +2,15 @@
 
 ghost use Rattle.std.specs.Prelude.{◌≡◌, IfErr, IfOk, Some};
 ghost use Rattle.console_board.specs.BoardAnswers.{reply_for};
-ghost use Rattle.desk_console.specs.Consoles.{StopsOrHasReply, refusal_of};
+ghost use Rattle.desk_console.specs.Consoles.{StopsOrHasReply, refusal_of_stop};
 ghost use Rattle.desk_console.specs.declared.stop.Stop.TheVariants.{Wanting};
-ghost use Rattle.check_workers.specs.Ends.{refusal_of as refusal_of_fault};
+ghost use Rattle.check_workers.specs.Ends.{refusal_of_claim};
 
 use board_share::ClaimFault;
+use board_share::edit_core::Refusal;
 use console_board::refused;
 use console_lang::Reply;
-use edit_core::Refusal;
-use lists::NoMemory;
+use outside::lists::NoMemory;
 use std::alloc::AllocError;
 
 /// Why a console stops before its input ends.
@@ -40,7 +40,7 @@ impl From<AllocError> for Stop {
 
 /// What a fault of a settle stops the console with.
 pub(crate) fn stop_of(fault: ClaimFault) -> Stop
-    ensures { refusal_of result ≡ refusal_of_fault fault }
+    ensures { refusal_of_stop result ≡ refusal_of_claim fault }
 {
     match fault {
         ClaimFault::Spent { point } => Stop::Spent { point },
@@ -52,7 +52,7 @@ pub(crate) fn stop_of(fault: ClaimFault) -> Stop
 pub(crate) fn turned_down(refusal: Refusal) -> Result<Reply, Stop>
     requires { StopsOrHasReply refusal }
     ensures reply { IfOk result (λ reply. reply_for refusal ≡ Some reply) }
-    ensures stop { IfErr result (λ stop. refusal ≡ refusal_of stop) }
+    ensures stop { IfErr result (λ stop. refusal ≡ refusal_of_stop stop) }
 {
     match refusal {
         Refusal::Spent { point } => Err(Stop::Spent { point }),

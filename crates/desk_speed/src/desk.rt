@@ -1,7 +1,7 @@
 //! A desk alone: threads that publish, and threads that look.
 
 ghost use Rattle.std.specs.Prelude.{◌<◌, ◌≤◌};
-ghost use Rattle.edit_core.specs.Seen.{IsOpening};
+ghost use Rattle.board_share.specs.edit_core.Seen.{IsOpening};
 
 mod judges;
 mod measuring;
@@ -10,10 +10,10 @@ mod seats;
 use crate::{USAGE, eyes_of};
 use anyhow::Context;
 use board_share::Blank;
-use edit_core::Board;
+use board_share::edit_core::Board;
 use judges::Mute;
-use lists::NoMemory;
 use measuring::{Work, measured};
+use outside::lists::NoMemory;
 use seats::{Rates, opening_of, print};
 use std::alloc::{AllocError, Global};
 use std::marker::Brand;

@@ -1,7 +1,7 @@
 //! Workers over a desk, alone and beside sessions that edit.
 
 ghost use Rattle.std.specs.Prelude.{◌<◌, ◌≤◌, IfOk};
-ghost use Rattle.edit_core.specs.Seen.{IsOpening};
+ghost use Rattle.board_share.specs.edit_core.Seen.{IsOpening};
 
 mod measuring;
 mod rates;
@@ -11,13 +11,13 @@ mod turns;
 use crate::{USAGE, eyes_of};
 use anyhow::Context;
 use board_share::Blank;
-use edit_core::Board;
-use lists::NoMemory;
+use board_share::edit_core::Board;
 use mark_types::Judge;
 use measuring::measured;
 use outside::RealFiles;
-use rates::{Rates, print};
-use seats::{Run, Work, opening_of, speller_of, text_of};
+use outside::lists::NoMemory;
+use rates::{WorkerRates, print};
+use seats::{Run, WorkersWork, opening_of, speller_of, text_of};
 use std::alloc::{AllocError, Global};
 use std::marker::Brand;
 use std::rt::Files;
@@ -32,7 +32,7 @@ pub(crate) struct Asked<'a> {
     aff: &'a str,
     dic: &'a str,
     text: &'a str,
-    work: Work,
+    work: WorkersWork,
 }
 
 /// What is measured without words.
@@ -40,7 +40,7 @@ pub(crate) const SMALL: Asked<'static> = Asked {
     aff: "small.aff",
     dic: "small.dic",
     text: "small.txt",
-    work: Work {
+    work: WorkersWork {
         workers: 2,
         sessions: 0,
         seconds: 0,
@@ -56,7 +56,7 @@ fn asked_of<'a>(words: &'a [String]) -> Option<Asked<'a>> {
         aff: aff.as_str(),
         dic: dic.as_str(),
         text: text.as_str(),
-        work: Work {
+        work: WorkersWork {
             workers: workers.parse::<u32>().ok()?,
             sessions: sessions.parse::<u32>().ok()?,
             seconds: seconds.parse::<u64>().ok()?,
@@ -79,9 +79,9 @@ fn measured_alone<J: Judge + Drop + Send + Sync, R: Threads + Wait + Clock + Syn
     rt: &R,
     alloc: Global,
     opening: Board<J>,
-    work: Work,
+    work: WorkersWork,
     eyes: u32,
-) -> Result<Rates, NoMemory>
+) -> Result<WorkerRates, NoMemory>
     requires eyes { (0 < eyes) × (eyes ≤ 64) }
     requires opens { IsOpening opening }
 {

@@ -1,2 +1,1 @@
-pub mod NoWords
 pub mod TwoEyes

@@ -1,8 +1,6 @@
-//! The tests, a file for each storey below, and what they share.
+//! The tests, and how they are played over a desk.
 
-mod board_tables;
-mod boards;
 mod desks;
-mod makers;
 mod memory;
+mod scenes;
 mod workers;

@@ -17,8 +17,10 @@ use Rattle.dic_reader.specs.declared.faults.DicWhy.{DicWhy}
 use Rattle.dic_reader.specs.declared.faults.DicWhy.TheVariants.{EmptyWord, BadFlag, BadAlias}
 use Rattle.flag_sets.specs.declared.FlagFault.TheVariants.{BadAlias as NoAlias, BadFlag as NoFlag}
 use Rattle.flag_sets.specs.declared.FlagFault.TheVariants.{NoMemory as Wanting}
-use Rattle.dic_reader.specs.Entries.{Listed, entry_at, flag_text, whole_word, word_of, flags_of}
-use Rattle.dic_reader.specs.Faults.{Fault, cause_number, least_of, word_faults, flag_whys}
+use Rattle.dic_reader.specs.Entries.{Listed, entry_at, flag_text_of_entry, whole_word}
+use Rattle.dic_reader.specs.Entries.{word_of_entry, flags_of_entry}
+use Rattle.dic_reader.specs.Faults.{DicFaultAtLine, dic_cause_number, least_dic_fault, word_faults}
+use Rattle.dic_reader.specs.Faults.{flag_whys}
 use Rattle.dic_reader.specs.Faults.{or_none, told_at, IsTold}
 use Rattle.flag_sets.specs.declared.FlagFault.{FlagFault}
 use Rattle.flag_sets.specs.FlagTexts.{flag_field}
@@ -28,7 +30,7 @@ use Rattle.dic_reader.specs.Faults.{flag_faults, entry_faults, entry_said, entry
 use Rattle.dic_reader.proofs.FaultLemmas.{flags-behind-word}
 use Rattle.line_faults.specs.Faults.{fault_at, unless_fault}
 use Rattle.line_faults.specs.Laws.{none-before-stays}
-use Rattle.lists.specs.Laws.{each-append}
+use Rattle.text_lines.specs.lists.Laws.{each-append}
 
 -- ---- the word and the flags of an entry
 
@@ -62,11 +64,11 @@ opened (Some text) place = refl
 pub front-flags : (entry : List ℕ) (rest stripped result : Bor (List ℕ))
     (found : Option (Bor (List ℕ))) (place : _) → entry ≡ 47 ∷ stripped.now → rest ≡ stripped
     → option_copied found ≡ behind_slash rest.now
-    → result ≡ unwrap_or found (record { ref_ptr = place; now = [] }) → result.now ≡ flag_text entry
+    → result ≡ unwrap_or found (record { ref_ptr = place; now = [] }) → result.now ≡ flag_text_of_entry entry
 front-flags entry rest stripped result found place is same behind given =
     ap (λ r. r.now) given ∙ opened found place
     ∙ ap (λ o. unwrap_or o []) (behind ∙ ap (λ r. behind_slash r.now) same)
-    ∙ sym (ap flag_text is)
+    ∙ sym (ap flag_text_of_entry is)
 
 -- where no slash stands at the front
 plain-word-of : (entry : List ℕ) → ((rest : List ℕ) → entry ≢ 47 ∷ rest)
@@ -77,7 +79,7 @@ plain-word-of (c ∷ more) plain =
     (ne_eqb c 47 (λ is. plain more (ap (λ n. n ∷ more) is)))
 
 plain-flag-text : (entry : List ℕ) → ((rest : List ℕ) → entry ≢ 47 ∷ rest)
-    → flag_text entry ≡ unwrap_or (behind_slash entry) []
+    → flag_text_of_entry entry ≡ unwrap_or (behind_slash entry) []
 plain-flag-text [] plain = refl
 plain-flag-text (c ∷ more) plain =
     ap (λ t. unwrap_or (behind_slash (cond t more (c ∷ more))) [])
@@ -96,7 +98,7 @@ pub plain-flags : (rest entry result : Bor (List ℕ)) (found : Option (Bor (Lis
     → ((more : List ℕ) → entry.now ≢ 47 ∷ more) → rest ≡ entry
     → option_copied found ≡ behind_slash rest.now
     → result ≡ unwrap_or found (record { ref_ptr = place; now = [] })
-    → result.now ≡ flag_text entry.now
+    → result.now ≡ flag_text_of_entry entry.now
 plain-flags rest entry result found place plain same behind given =
     ap (λ r. r.now) given ∙ opened found place
     ∙ ap (λ o. unwrap_or o []) (behind ∙ ap (λ r. behind_slash r.now) same)
@@ -104,7 +106,7 @@ plain-flags rest entry result found place plain same behind given =
 
 -- ---- the faults of one entry are all at its line
 
-abbrev pub IsAtLine : ℕ → Fault → Type 0
+abbrev pub IsAtLine : ℕ → DicFaultAtLine → Type 0
 IsAtLine number fault = fault.line ≡ number
 
 word-faults-at : (number : ℕ) (empty : Bool)
@@ -121,23 +123,24 @@ pub faults-at : (affixes : Affixes) (entry : Listed)
     → AllByRecursion (IsAtLine entry.number) (entry_faults affixes entry)
 faults-at affixes entry =
     each-append (IsAtLine entry.number) (word_faults affixes entry) (flag_faults affixes entry)
-    (word-faults-at entry.number (length (word_of affixes entry.text) == 0))
-    (flag-faults-at entry.number (flag_whys (flags_of affixes entry.text)))
+    (word-faults-at entry.number (length (word_of_entry affixes entry.text) == 0))
+    (flag-faults-at entry.number (flag_whys (flags_of_entry affixes entry.text)))
 
 -- an entry without a word, whatever its flags are
-pub no-word : (affixes : Affixes) (number : ℕ) (text word : List ℕ) → word ≡ word_of affixes text
+pub no-word : (affixes : Affixes) (number : ℕ) (text word : List ℕ)
+    → word ≡ word_of_entry affixes text
     → (length word == 0) ≡ true
     → entry_read affixes (entry_at number text) ≡ Err (fault_at number EmptyWord)
 no-word affixes number text word is empty =
     let fault = fault_at number EmptyWord in
     let flags = flag_faults affixes (entry_at number text) in
-    ap (λ w. unless_fault (least_of (cond (length w == 0) (fault ∷ []) [] ++ flags))
+    ap (λ w. unless_fault (least_dic_fault (cond (length w == 0) (fault ∷ []) [] ++ flags))
     (entry_said affixes (entry_at number text))) (sym is)
-    ∙ ap (λ b. unless_fault (least_of (cond b (fault ∷ []) [] ++ flags))
+    ∙ ap (λ b. unless_fault (least_dic_fault (cond b (fault ∷ []) [] ++ flags))
     (entry_said affixes (entry_at number text))) empty
     ∙ ap (λ o. unless_fault o (entry_said affixes (entry_at number text)))
-    (none-before-stays cause_number fault flags
-    (flags-behind-word number (flags_of affixes text)))
+    (none-before-stays dic_cause_number fault flags
+    (flags-behind-word number (flags_of_entry affixes text)))
 
 -- ---- whether a word has characters
 pub no-characters : (bytes : List ℕ) → true ≡ (length bytes == 0)
@@ -156,45 +159,45 @@ some-characters bytes utf8 isnt = go bytes (chars bytes) (encodes-chars bytes ut
 
 -- an entry with a word and right flags
 pub read-well : (affixes : Affixes) (number : ℕ) (text : List ℕ) (made : Entry)
-    → made.word ≡ word_of affixes text → 0 < length made.word
-    → flag_field affixes.kind affixes.aliases (flag_text text) ≡ Ok made.flags
+    → made.word ≡ word_of_entry affixes text → 0 < length made.word
+    → flag_field affixes.kind affixes.aliases (flag_text_of_entry text) ≡ Ok made.flags
     → entry_read affixes (entry_at number text) ≡ Ok made
 read-well affixes number text made word some field =
-    let whole = word_of affixes text in
+    let whole = word_of_entry affixes text in
     let full : (length whole == 0) ≡ false =
     ne_eqb (length whole) 0 (λ none. omega (arith, some, ap length word, none)) in
-    let faults : Result (List Flag) FlagFault → List Fault =
+    let faults : Result (List Flag) FlagFault → List DicFaultAtLine =
     λ found. map (fault_at number) (flag_whys found) in
     ap (λ b. unless_fault
-    (least_of (cond b (fault_at number EmptyWord ∷ []) [] ++ faults (flags_of affixes text)))
-    (record { word = whole; flags = or_none (flags_of affixes text) })) full
-    ∙ ap (λ found. unless_fault (least_of (faults found))
+    (least_dic_fault (cond b (fault_at number EmptyWord ∷ []) [] ++ faults (flags_of_entry affixes text)))
+    (record { word = whole; flags = or_none (flags_of_entry affixes text) })) full
+    ∙ ap (λ found. unless_fault (least_dic_fault (faults found))
     (record { word = whole; flags = or_none found })) field
     ∙ ap (λ w. Ok (record { word = w; flags = made.flags })) (sym word)
 
 -- an entry with a word and wrong flags
 pub read-ill : (affixes : Affixes) (number : ℕ) (text word : List ℕ) (fault : FlagFault)
-    (why : DicWhy) → word ≡ word_of affixes text → 0 < length word
-    → flag_field affixes.kind affixes.aliases (flag_text text) ≡ Err fault
+    (why : DicWhy) → word ≡ word_of_entry affixes text → 0 < length word
+    → flag_field affixes.kind affixes.aliases (flag_text_of_entry text) ≡ Err fault
     → flag_whys (Err fault) ≡ why ∷ []
     → entry_read affixes (entry_at number text) ≡ Err (fault_at number why)
 read-ill affixes number text word fault why is some field whys =
-    let whole = word_of affixes text in
+    let whole = word_of_entry affixes text in
     let full : (length whole == 0) ≡ false =
     ne_eqb (length whole) 0 (λ none. omega (arith, some, ap length is, none)) in
-    let faults : Result (List Flag) FlagFault → List Fault =
+    let faults : Result (List Flag) FlagFault → List DicFaultAtLine =
     λ found. map (fault_at number) (flag_whys found) in
     ap (λ b. unless_fault
-    (least_of (cond b (fault_at number EmptyWord ∷ []) [] ++ faults (flags_of affixes text)))
-    (record { word = whole; flags = or_none (flags_of affixes text) })) full
-    ∙ ap (λ found. unless_fault (least_of (faults found))
+    (least_dic_fault (cond b (fault_at number EmptyWord ∷ []) [] ++ faults (flags_of_entry affixes text)))
+    (record { word = whole; flags = or_none (flags_of_entry affixes text) })) full
+    ∙ ap (λ found. unless_fault (least_dic_fault (faults found))
     (record { word = whole; flags = or_none found })) field
-    ∙ ap (λ ws. unless_fault (least_of (map (fault_at number) ws))
+    ∙ ap (λ ws. unless_fault (least_dic_fault (map (fault_at number) ws))
     (record { word = whole; flags = [] })) whys
 
 pub told-ill : (affixes : Affixes) (number : ℕ) (text word : List ℕ) (fault : FlagFault)
-    → word ≡ word_of affixes text → 0 < length word
-    → (fault ≢ Wanting → flag_field affixes.kind affixes.aliases (flag_text text) ≡ Err fault)
+    → word ≡ word_of_entry affixes text → 0 < length word
+    → (fault ≢ Wanting → flag_field affixes.kind affixes.aliases (flag_text_of_entry text) ≡ Err fault)
     → IsTold (entry_read affixes (entry_at number text)) (told_at number fault)
 told-ill affixes number text word Wanting is some field = tt
 told-ill affixes number text word NoFlag is some field =

@@ -15,14 +15,15 @@ use Rattle.dic_reader.specs.declared.faults.DicFault.TheVariants.{At, NoMemory}
 use Rattle.dic_reader.specs.declared.faults.DicWhy.{DicWhy}
 use Rattle.dic_reader.specs.declared.faults.DicWhy.TheVariants.{NotUtf8, BadCount, EmptyWord}
 use Rattle.dic_reader.specs.declared.faults.DicWhy.TheVariants.{BadFlag, BadAlias, TooMany}
-use Rattle.dic_reader.specs.Faults.{Fault, cause_number, flag_whys, first_fault, dic_passes}
-use Rattle.dic_reader.specs.Faults.{entries_said, dic_read, IsRead, DicReads, DicRefuses}
+use Rattle.dic_reader.specs.Faults.{DicFaultAtLine, dic_cause_number, flag_whys, first_dic_fault}
+use Rattle.dic_reader.specs.Faults.{dic_passes}
+use Rattle.dic_reader.specs.Faults.{entries_said, dic_read, AreEntriesRead, DicReads, DicRefuses}
 use Rattle.std.specs.Result.{IfOk, IfErr}
 
 -- ---- the order of causes
 
-cause-at-most : (why : DicWhy) → cause_number why ≤ cause_number TooMany
-unfolding cause_number
+cause-at-most : (why : DicWhy) → dic_cause_number why ≤ dic_cause_number TooMany
+unfolding dic_cause_number
 cause-at-most NotUtf8 = omega arith
 cause-at-most BadCount = omega arith
 cause-at-most EmptyWord = omega arith
@@ -30,66 +31,68 @@ cause-at-most BadFlag = omega arith
 cause-at-most BadAlias = omega arith
 cause-at-most TooMany = omega arith
 
-pub too-many-last : (fault : Fault) (line : ℕ) → fault.line ≡ line
-    → is_before cause_number (fault_at line TooMany) fault ≡ false
+pub too-many-last : (fault : DicFaultAtLine) (line : ℕ) → fault.line ≡ line
+    → is_before dic_cause_number (fault_at line TooMany) fault ≡ false
 too-many-last fault line same =
-    lower-cause cause_number fault (fault_at line TooMany) same (cause-at-most fault.why)
+    lower-cause dic_cause_number fault (fault_at line TooMany) same (cause-at-most fault.why)
 
 pub flags-behind-word : (line : ℕ) (found : Result (List Flag) FlagFault)
-    → NoneBefore cause_number (fault_at line EmptyWord) (map (fault_at line) (flag_whys found))
-unfolding cause_number
+    → NoneBefore dic_cause_number (fault_at line EmptyWord) (map (fault_at line) (flag_whys found))
+unfolding dic_cause_number
 flags-behind-word line (Ok set) = tt
 flags-behind-word line (Err NoAlias) = (
-  lower-cause cause_number (fault_at line EmptyWord) (fault_at line BadAlias) refl (omega arith),
+  lower-cause dic_cause_number (fault_at line EmptyWord) (fault_at line BadAlias) refl (omega arith),
   tt,
 )
 flags-behind-word line (Err NoFlag) = (
-  lower-cause cause_number (fault_at line EmptyWord) (fault_at line BadFlag) refl (omega arith),
+  lower-cause dic_cause_number (fault_at line EmptyWord) (fault_at line BadFlag) refl (omega arith),
   tt,
 )
 flags-behind-word line (Err Wanting) = (
-  lower-cause cause_number (fault_at line EmptyWord) (fault_at line BadFlag) refl (omega arith),
+  lower-cause dic_cause_number (fault_at line EmptyWord) (fault_at line BadFlag) refl (omega arith),
   tt,
 )
 
 -- ---- what is read, or the fault, taken apart
 
-pub read-fault : {A : Type 0} (due : Option Fault) (said made : A) → unless_fault due said ≡ Ok made
+pub read-fault : {A : Type 0} (due : Option DicFaultAtLine) (said made : A)
+    → unless_fault due said ≡ Ok made
     → due ≡ None
 read-fault None said made is = refl
 read-fault (Some fault) said made is = absurd cc
 
-pub read-said : {A : Type 0} (due : Option Fault) (said made : A) → unless_fault due said ≡ Ok made
+pub read-said : {A : Type 0} (due : Option DicFaultAtLine) (said made : A)
+    → unless_fault due said ≡ Ok made
     → made ≡ said
 read-said None said made is = cc
 read-said (Some fault) said made is = absurd cc
 
-pub told-fault : {A : Type 0} (due : Option Fault) (said : A) (fault : Fault)
+pub told-fault : {A : Type 0} (due : Option DicFaultAtLine) (said : A) (fault : DicFaultAtLine)
     → unless_fault due said ≡ Err fault → due ≡ Some fault
 told-fault None said fault is = absurd cc
 told-fault (Some own) said fault is = cc
 
 -- what the public call promises, from what is read
 pub reads-as-said : (affixes : Affixes) (bytes : List ℕ) (result : Result (List Entry) DicFault)
-    → IsRead (dic_read affixes bytes) result → IfOk result (DicReads affixes bytes)
+    → AreEntriesRead (dic_read affixes bytes) result → IfOk result (DicReads affixes bytes)
 unfolding dic_read
 reads-as-said affixes bytes (Err fault) is = tt
 reads-as-said affixes bytes (Ok entries) is =
     let passes = dic_passes affixes bytes in
-    let due = first_fault passes in
+    let due = first_dic_fault passes in
     let said = entries_said affixes bytes (good_lines bytes) in
     record {
-      no_fault = no-first cause_number passes (read-fault due said entries is);
+      no_fault = no-first dic_cause_number passes (read-fault due said entries is);
       says = read-said due said entries is;
     }
 
 pub refuses-at-first : (affixes : Affixes) (bytes : List ℕ) (result : Result (List Entry) DicFault)
-    → IsRead (dic_read affixes bytes) result → IfErr result (DicRefuses affixes bytes)
+    → AreEntriesRead (dic_read affixes bytes) result → IfErr result (DicRefuses affixes bytes)
 unfolding dic_read
 refuses-at-first affixes bytes (Ok entries) is = tt
 refuses-at-first affixes bytes (Err NoMemory) is = tt
 refuses-at-first affixes bytes (Err (At line why)) is =
     let passes = dic_passes affixes bytes in
     let said = entries_said affixes bytes (good_lines bytes) in
-    first-least cause_number passes (fault_at line why)
-    (told-fault (first_fault passes) said (fault_at line why) is)
+    first-least dic_cause_number passes (fault_at line why)
+    (told-fault (first_dic_fault passes) said (fault_at line why) is)

@@ -10,14 +10,16 @@ use Rattle.dic_reader.specs.declared.faults.DicWhy.TheVariants.{NotUtf8, BadCoun
 use Rattle.text_lines.specs.Texts.{texts_in}
 use Rattle.text_lines.specs.Laws.{no-texts}
 use Rattle.dic_reader.specs.Entries.{listed, is_count, AreLinesOf}
-use Rattle.dic_reader.specs.Faults.{Fault, cause_number, bad_faults, least_of, first_fault}
+use Rattle.dic_reader.specs.Faults.{DicFaultAtLine, dic_cause_number, bad_faults, least_dic_fault}
+use Rattle.dic_reader.specs.Faults.{first_dic_fault}
 use Rattle.dic_reader.specs.Faults.{entry_limit, entries_faults, lines_faults, entry_said}
-use Rattle.dic_reader.specs.Faults.{entries_said, entries_read, lines_read, dic_read, IsRead}
+use Rattle.dic_reader.specs.Faults.{entries_said, entries_read, lines_read, dic_read}
+use Rattle.dic_reader.specs.Faults.{AreEntriesRead}
 use Rattle.line_faults.specs.Faults.{is_before, fault_at, unless_fault}
 use Rattle.line_faults.specs.Laws.{NoneBefore, higher-line, none-before-stays}
 use Rattle.dic_reader.proofs.OrderLemmas.{AreBehind, AreNumbered, rising, first-behind}
 use Rattle.dic_reader.proofs.OrderLemmas.{first-number, entries-behind-stay}
-use Rattle.lists.specs.Laws.{or-none}
+use Rattle.text_lines.specs.lists.Laws.{or-none}
 
 -- ---- the first line and those behind it
 
@@ -57,18 +59,18 @@ no-line-of bytes lines text are none = go lines (sym (no-texts text none) ∙ ar
 pub counted : (affixes : Affixes) (bytes : List ℕ) (lines later : List Line) (count : Line)
     (result : Result (List Entry) DicFault)
     → lines ≡ count ∷ later → is_count (text_of bytes count) ≡ true
-    → IsRead (entries_read affixes entry_limit (listed bytes later)) result
-    → IsRead (lines_read affixes bytes lines) result
+    → AreEntriesRead (entries_read affixes entry_limit (listed bytes later)) result
+    → AreEntriesRead (lines_read affixes bytes lines) result
 unfolding entries_read lines_read
 counted affixes bytes lines later count result is counts =
     let entries = listed bytes later in
     let said = map (entry_said affixes) entries in
-    subst (λ (read : Result (List Entry) Fault). IsRead read result)
+    subst (λ (read : Result (List Entry) DicFaultAtLine). AreEntriesRead read result)
     (sym
-    (ap (λ own. unless_fault (least_of (lines_faults affixes bytes own))
+    (ap (λ own. unless_fault (least_dic_fault (lines_faults affixes bytes own))
     (entries_said affixes bytes own)) is
     ∙ ap (λ b. unless_fault
-    (least_of (cond b [] (fault_at count.number BadCount ∷ [])
+    (least_dic_fault (cond b [] (fault_at count.number BadCount ∷ [])
     ++ entries_faults affixes entry_limit entries)) said) counts))
 
 -- where it does not, its fault goes before those of the entries
@@ -84,16 +86,16 @@ uncounted affixes bytes lines later count is numbered lacks =
     let own = subst (AreNumbered 1) is numbered in
     let behind : AreBehind count.number entries =
     first-behind bytes count later (rising 1 (count ∷ later) own) in
-    let none : NoneBefore cause_number fault (entries_faults affixes entry_limit entries) =
-    entries-behind-stay affixes (λ other. is_before cause_number other fault ≡ false) count.number
-    (λ other above. higher-line cause_number fault other above) entry_limit entries behind in
-    ap (λ all. unless_fault (least_of (lines_faults affixes bytes all))
+    let none : NoneBefore dic_cause_number fault (entries_faults affixes entry_limit entries) =
+    entries-behind-stay affixes (λ other. is_before dic_cause_number other fault ≡ false) count.number
+    (λ other above. higher-line dic_cause_number fault other above) entry_limit entries behind in
+    ap (λ all. unless_fault (least_dic_fault (lines_faults affixes bytes all))
     (entries_said affixes bytes all)) is
     ∙ ap (λ b. unless_fault
-    (least_of (cond b [] (fault ∷ []) ++ entries_faults affixes entry_limit entries)) said)
+    (least_dic_fault (cond b [] (fault ∷ []) ++ entries_faults affixes entry_limit entries)) said)
     lacks
     ∙ ap (λ o. unless_fault o said)
-    (none-before-stays cause_number fault (entries_faults affixes entry_limit entries) none)
+    (none-before-stays dic_cause_number fault (entries_faults affixes entry_limit entries) none)
     ∙ ap (λ n. Err (fault_at n BadCount)) (first-number count later own)
 
 pub no-lines : (affixes : Affixes) (bytes : List ℕ) (lines : List Line) → length lines ≡ 0
@@ -109,20 +111,21 @@ pub bad-told : (affixes : Affixes) (bytes : List ℕ) (line : ℕ) → bad_line 
 unfolding dic_read
 bad-told affixes bytes line bad =
     ap (λ b. unless_fault
-    (first_fault (bad_faults b ∷ lines_faults affixes bytes (good_lines bytes) ∷ []))
+    (first_dic_fault (bad_faults b ∷ lines_faults affixes bytes (good_lines bytes) ∷ []))
     (entries_said affixes bytes (good_lines bytes))) bad
 
 pub of-lines : (affixes : Affixes) (bytes : List ℕ) (lines : List Line)
     (result : Result (List Entry) DicFault)
     → lines ≡ good_lines bytes → bad_line bytes ≡ None
-    → IsRead (lines_read affixes bytes lines) result → IsRead (dic_read affixes bytes) result
+    → AreEntriesRead (lines_read affixes bytes lines) result
+    → AreEntriesRead (dic_read affixes bytes) result
 unfolding lines_read dic_read
 of-lines affixes bytes lines result is none =
     let good = good_lines bytes in
     let said = entries_said affixes bytes good in
-    subst (λ (read : Result (List Entry) Fault). IsRead read result)
-    (ap (λ all. unless_fault (least_of (lines_faults affixes bytes all))
+    subst (λ (read : Result (List Entry) DicFaultAtLine). AreEntriesRead read result)
+    (ap (λ all. unless_fault (least_dic_fault (lines_faults affixes bytes all))
     (entries_said affixes bytes all)) is
-    ∙ ap (λ o. unless_fault o said) (sym (or-none (least_of (lines_faults affixes bytes good))))
-    ∙ sym (ap (λ b. unless_fault (first_fault (bad_faults b ∷ lines_faults affixes bytes good ∷ []))
+    ∙ ap (λ o. unless_fault o said) (sym (or-none (least_dic_fault (lines_faults affixes bytes good))))
+    ∙ sym (ap (λ b. unless_fault (first_dic_fault (bad_faults b ∷ lines_faults affixes bytes good ∷ []))
     said) none))

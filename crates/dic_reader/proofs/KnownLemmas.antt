@@ -13,7 +13,7 @@ use Rattle.spell_types.specs.Flags.{AreOrdinary}
 use Rattle.spell_types.specs.Sanity.{HasOrdinaryFlags}
 use Rattle.dic_reader.specs.declared.known_sets.Flags.{Flags}
 use Rattle.dic_reader.specs.declared.known_sets.Flags.TheVariants.{Like, New}
-use Rattle.dic_reader.specs.KnownSets.{IsSetOf, HasFlagsOf, AreKnown, AreFlagsOf, IsPlaced}
+use Rattle.dic_reader.specs.KnownSets.{IsSetOf, HasFlagsOf, AreKnown, AreFlagsOf, IsLikePlaced}
 use Rattle.dic_reader.specs.KnownSets.{flags_in}
 
 abbrev same_text : Bor (List ℕ) → Bor (List ℕ) → Bool
@@ -47,7 +47,7 @@ known-stay affixes entries now entry known is are text place at =
 
 -- ---- the flags that were found
 pub flags-placed : (affixes : Affixes) (entries : List Entry) (text : List ℕ) (flags : Flags)
-    → AreFlagsOf affixes entries text flags → IsPlaced entries flags
+    → AreFlagsOf affixes entries text flags → IsLikePlaced entries flags
 flags-placed affixes entries text (Like place) has =
     slice_get_within entries place has.entry has.at
 flags-placed affixes entries text (New own set) is = tt

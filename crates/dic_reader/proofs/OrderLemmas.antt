@@ -12,27 +12,28 @@ use Rattle.text_lines.specs.declared.found.Line.{Line}
 use Rattle.text_lines.specs.Lines.{text_of}
 use Rattle.spell_types.specs.declared.Affixes.{Affixes}
 use Rattle.dic_reader.specs.declared.faults.DicWhy.TheVariants.{TooMany}
-use Rattle.dic_reader.specs.Entries.{Listed, entry_at, entry_of, is_passed_over, listed}
+use Rattle.dic_reader.specs.Entries.{Listed, entry_at, entry_of_line, is_passed_over, listed}
 use Rattle.line_faults.specs.Faults.{is_before, sooner, fault_at}
 use Rattle.line_faults.specs.Laws.{NoneBefore, BeforeEach, lower-line, higher-line, least_append}
 use Rattle.line_faults.specs.Laws.{each-least, none-before-stays, before-each-wins}
-use Rattle.lists.specs.Laws.{each-append, each-weaker, each-flat_map}
-use Rattle.dic_reader.specs.Faults.{Fault, cause_number, least_of, entry_faults, too_many}
+use Rattle.text_lines.specs.lists.Laws.{each-append, each-weaker, each-flat_map}
+use Rattle.dic_reader.specs.Faults.{DicFaultAtLine, dic_cause_number, least_dic_fault, entry_faults}
+use Rattle.dic_reader.specs.Faults.{too_many}
 use Rattle.dic_reader.specs.Faults.{many_faults, entries_faults}
 use Rattle.dic_reader.proofs.FaultLemmas.{too-many-last}
 use Rattle.dic_reader.proofs.EntryLemmas.{IsAtLine, faults-at}
 
 -- ---- the faults of entries at higher lines
 
-abbrev pub own_faults : Affixes → List Listed → List Fault
+abbrev pub own_faults : Affixes → List Listed → List DicFaultAtLine
 own_faults affixes entries = flat_map (entry_faults affixes) entries
 
 abbrev pub AreBehind : ℕ → List Listed → Type 0
 AreBehind number entries = AllByRecursion (λ (entry : Listed). number < entry.number) entries
 
 -- what holds of each fault at a higher line holds of the faults of entries at higher lines
-own-behind : (affixes : Affixes) (P : Fault → Type 0) (number : ℕ)
-    → ((fault : Fault) → number < fault.line → P fault)
+own-behind : (affixes : Affixes) (P : DicFaultAtLine → Type 0) (number : ℕ)
+    → ((fault : DicFaultAtLine) → number < fault.line → P fault)
     → (entries : List Listed) → AreBehind number entries
     → AllByRecursion P (own_faults affixes entries)
 own-behind affixes P number holds entries behind =
@@ -46,7 +47,8 @@ own-behind affixes P number holds entries behind =
         (λ fault same. holds fault (omega (arith, same, above)))
         (entry_faults affixes entry) (faults-at affixes entry)
 
-many-behind : (P : Fault → Type 0) (number : ℕ) → ((fault : Fault) → number < fault.line → P fault)
+many-behind : (P : DicFaultAtLine → Type 0) (number : ℕ)
+    → ((fault : DicFaultAtLine) → number < fault.line → P fault)
     → (limit : ℕ) (entries : List Listed) → AreBehind number entries
     → AllByRecursion P (many_faults limit entries)
 many-behind P number holds limit [] behind = tt
@@ -57,7 +59,7 @@ many-behind P number holds (suc limit) (entry ∷ more) behind =
 
 -- where earlier entries are not too many, the first that is one too many is this one or one behind
 -- it
-many-seam : (P : Fault → Type 0) (earlier : List Listed) (entry : Listed) (more : List Listed)
+many-seam : (P : DicFaultAtLine → Type 0) (earlier : List Listed) (entry : Listed) (more : List Listed)
     (limit : ℕ) → length earlier ≤ limit
     → P (fault_at entry.number TooMany) → ((left : ℕ) → AllByRecursion P (many_faults left more))
     → AllByRecursion P (many_faults limit (earlier ++ entry ∷ more))
@@ -79,34 +81,34 @@ own-seam affixes earlier entry more fine =
     ∙ ap (λ faults. faults ++ (entry_faults affixes entry ++ own_faults affixes more)) fine
 
 pub own-fault : (affixes : Affixes) (limit : ℕ) (earlier : List Listed) (entry : Listed)
-    (more : List Listed) (fault : Fault)
+    (more : List Listed) (fault : DicFaultAtLine)
     → own_faults affixes earlier ≡ [] → length earlier ≤ limit → AreBehind entry.number more
-    → least_of (entry_faults affixes entry) ≡ Some fault
-    → least_of (entries_faults affixes limit (earlier ++ entry ∷ more)) ≡ Some fault
+    → least_dic_fault (entry_faults affixes entry) ≡ Some fault
+    → least_dic_fault (entries_faults affixes limit (earlier ++ entry ∷ more)) ≡ Some fault
 own-fault affixes limit earlier entry more fault fine few behind own =
     let all = earlier ++ entry ∷ more in
     let here : fault.line ≡ entry.number =
-    each-least cause_number (IsAtLine entry.number) (entry_faults affixes entry) fault
+    each-least dic_cause_number (IsAtLine entry.number) (entry_faults affixes entry) fault
     (faults-at affixes entry) own in
     let holds =
-    λ (other : Fault) (above : entry.number < other.line). higher-line cause_number fault
+    λ (other : DicFaultAtLine) (above : entry.number < other.line). higher-line dic_cause_number fault
     other (omega (arith, here, above)) in
-    let later : NoneBefore cause_number fault (own_faults affixes more) =
-    own-behind affixes (λ other. is_before cause_number other fault ≡ false) entry.number
+    let later : NoneBefore dic_cause_number fault (own_faults affixes more) =
+    own-behind affixes (λ other. is_before dic_cause_number other fault ≡ false) entry.number
     holds more behind in
-    let many : NoneBefore cause_number fault (many_faults limit all) =
-    many-seam (λ other. is_before cause_number other fault ≡ false) earlier entry more limit few
+    let many : NoneBefore dic_cause_number fault (many_faults limit all) =
+    many-seam (λ other. is_before dic_cause_number other fault ≡ false) earlier entry more limit few
     (too-many-last fault entry.number here)
-    (λ left. many-behind (λ other. is_before cause_number other fault ≡ false) entry.number holds
+    (λ left. many-behind (λ other. is_before dic_cause_number other fault ≡ false) entry.number holds
     left more behind) in
-    let first : least_of (own_faults affixes all) ≡ Some fault =
-    ap least_of (own-seam affixes earlier entry more fine)
-    ∙ least_append cause_number (entry_faults affixes entry) (own_faults affixes more)
-    ∙ ap (λ o. sooner cause_number o (least_of (own_faults affixes more))) own
-    ∙ none-before-stays cause_number fault (own_faults affixes more) later in
-    least_append cause_number (own_faults affixes all) (many_faults limit all)
-    ∙ ap (λ o. sooner cause_number o (least_of (many_faults limit all))) first
-    ∙ none-before-stays cause_number fault (many_faults limit all) many
+    let first : least_dic_fault (own_faults affixes all) ≡ Some fault =
+    ap least_dic_fault (own-seam affixes earlier entry more fine)
+    ∙ least_append dic_cause_number (entry_faults affixes entry) (own_faults affixes more)
+    ∙ ap (λ o. sooner dic_cause_number o (least_dic_fault (own_faults affixes more))) own
+    ∙ none-before-stays dic_cause_number fault (own_faults affixes more) later in
+    least_append dic_cause_number (own_faults affixes all) (many_faults limit all)
+    ∙ ap (λ o. sooner dic_cause_number o (least_dic_fault (many_faults limit all))) first
+    ∙ none-before-stays dic_cause_number fault (many_faults limit all) many
 
 slice_get-seam : (entries : List Listed) (entry : Listed) (more : List Listed)
     → slice_get (entries ++ entry ∷ more) (length entries) ≡ Some entry
@@ -117,31 +119,31 @@ pub many-fault : (affixes : Affixes) (limit : ℕ) (earlier : List Listed) (entr
     (more : List Listed)
     → own_faults affixes earlier ≡ [] → length earlier ≡ limit → AreBehind entry.number more
     → entry_faults affixes entry ≡ []
-    → least_of (entries_faults affixes limit (earlier ++ entry ∷ more))
+    → least_dic_fault (entries_faults affixes limit (earlier ++ entry ∷ more))
     ≡ Some (fault_at entry.number TooMany)
 many-fault affixes limit earlier entry more fine full behind own =
     let all = earlier ++ entry ∷ more in
     let fault = fault_at entry.number TooMany in
-    let later : BeforeEach cause_number fault (own_faults affixes more) =
-    own-behind affixes (λ other. is_before cause_number fault other ≡ true) entry.number
-    (λ other above. lower-line cause_number fault other above) more behind in
+    let later : BeforeEach dic_cause_number fault (own_faults affixes more) =
+    own-behind affixes (λ other. is_before dic_cause_number fault other ≡ true) entry.number
+    (λ other above. lower-line dic_cause_number fault other above) more behind in
     let left : own_faults affixes all ≡ own_faults affixes more =
     own-seam affixes earlier entry more fine
     ∙ ap (λ faults. faults ++ own_faults affixes more) own in
     let many : many_faults limit all ≡ fault ∷ [] =
     ap (λ n. many_faults n all) (sym full)
     ∙ ap too_many (slice_get-seam earlier entry more) in
-    least_append cause_number (own_faults affixes all) (many_faults limit all)
-    ∙ ap (λ faults. sooner cause_number (least_of faults) (least_of (many_faults limit all))) left
-    ∙ ap (λ faults. sooner cause_number (least_of (own_faults affixes more)) (least_of faults)) many
-    ∙ before-each-wins cause_number fault (own_faults affixes more) later
+    least_append dic_cause_number (own_faults affixes all) (many_faults limit all)
+    ∙ ap (λ faults. sooner dic_cause_number (least_dic_fault faults) (least_dic_fault (many_faults limit all))) left
+    ∙ ap (λ faults. sooner dic_cause_number (least_dic_fault (own_faults affixes more)) (least_dic_fault faults)) many
+    ∙ before-each-wins dic_cause_number fault (own_faults affixes more) later
 
 pub no-fault : (affixes : Affixes) (limit : ℕ) (entries : List Listed)
     → own_faults affixes entries ≡ [] → length entries ≤ limit
-    → least_of (entries_faults affixes limit entries) ≡ None
+    → least_dic_fault (entries_faults affixes limit entries) ≡ None
 no-fault affixes limit entries fine few =
-    ap (λ faults. least_of (faults ++ many_faults limit entries)) fine
-    ∙ ap (λ o. least_of (too_many o)) (slice_get_past entries limit few)
+    ap (λ faults. least_dic_fault (faults ++ many_faults limit entries)) fine
+    ∙ ap (λ o. least_dic_fault (too_many o)) (slice_get_past entries limit few)
 
 -- ---- lines with rising numbers
 
@@ -164,7 +166,7 @@ listed-behind bytes number (line ∷ more) behind =
   where
     by-test : (b : Bool) → AreBehind number (listed bytes more)
         → AreBehind number
-        (cons_option (cond b None (Some (entry_at line.number (entry_of (text_of bytes line)))))
+        (cons_option (cond b None (Some (entry_at line.number (entry_of_line (text_of bytes line)))))
         (listed bytes more))
     by-test true rest = rest
     by-test false rest = (behind 0 line (omega arith), rest)
@@ -206,8 +208,8 @@ pub first-behind : (bytes : List ℕ) (line : Line) (more : List Line) → AreRi
 first-behind bytes line more rises =
     listed-behind bytes line.number more (lines-behind (line ∷ more) 0 line rises (omega arith))
 
-pub entries-behind-stay : (affixes : Affixes) (P : Fault → Type 0) (number : ℕ)
-    → ((fault : Fault) → number < fault.line → P fault)
+pub entries-behind-stay : (affixes : Affixes) (P : DicFaultAtLine → Type 0) (number : ℕ)
+    → ((fault : DicFaultAtLine) → number < fault.line → P fault)
     → (limit : ℕ) (entries : List Listed) → AreBehind number entries
     → AllByRecursion P (entries_faults affixes limit entries)
 entries-behind-stay affixes P number holds limit entries behind =

@@ -18,11 +18,11 @@ use Rattle.spell_types.specs.declared.Entry.{Entry}
 use Rattle.dic_reader.specs.declared.faults.DicFault.{DicFault}
 use Rattle.dic_reader.specs.declared.faults.DicFault.TheVariants.{At, NoMemory}
 use Rattle.dic_reader.specs.declared.faults.DicWhy.TheVariants.{TooMany}
-use Rattle.dic_reader.specs.Entries.{AreLinesOf, Listed, entry_at, entry_of, is_passed_over}
+use Rattle.dic_reader.specs.Entries.{AreLinesOf, Listed, entry_at, entry_of_line, is_passed_over}
 use Rattle.dic_reader.specs.Entries.{listed_in, listed}
 use Rattle.line_faults.specs.Faults.{fault_at, unless_fault}
 use Rattle.line_faults.specs.Laws.{least-none}
-use Rattle.dic_reader.specs.Faults.{cause_number, least_of, entry_faults, entries_faults}
+use Rattle.dic_reader.specs.Faults.{dic_cause_number, least_dic_fault, entry_faults, entries_faults}
 use Rattle.dic_reader.specs.Faults.{entry_said, entry_read, entries_read, IsTold}
 use Rattle.dic_reader.proofs.FaultLemmas.{read-fault, read-said, told-fault}
 use Rattle.dic_reader.proofs.OrderLemmas.{number-at, rising, own_faults, AreBehind, AreRising}
@@ -56,10 +56,10 @@ more-lines bytes lines place within =
 -- what a line has, by whether it is passed over
 line-says : (bytes : List ℕ) (line : Line) {text : List ℕ} {passed : Bool}
     → text ≡ text_of bytes line → is_passed_over text ≡ passed
-    → listed_in bytes line ≡ cond passed None (Some (entry_at line.number (entry_of text)))
+    → listed_in bytes line ≡ cond passed None (Some (entry_at line.number (entry_of_line text)))
 line-says bytes line {text} is tested =
-    ap (λ t. cond (is_passed_over t) None (Some (entry_at line.number (entry_of t)))) (sym is)
-    ∙ ap (λ b. cond b None (Some (entry_at line.number (entry_of text)))) tested
+    ap (λ t. cond (is_passed_over t) None (Some (entry_at line.number (entry_of_line t)))) (sym is)
+    ∙ ap (λ b. cond b None (Some (entry_at line.number (entry_of_line text)))) tested
 
 -- a place of the loop at which an entry stands
 pub record Turn (bytes : List ℕ) (lines : List Line) (place : ℕ) (entry : Listed) : Type 0 where
@@ -71,7 +71,7 @@ pub record Turn (bytes : List ℕ) (lines : List Line) (place : ℕ) (entry : Li
 pub turn-at : (bytes : List ℕ) (lines : List Line) (place : ℕ) {text own : List ℕ} → AreRising lines
     → place < length lines
     → text ≡ text_of bytes (get_or lines place no-line) → is_passed_over text ≡ false
-    → own ≡ entry_of text
+    → own ≡ entry_of_line text
     → Turn bytes lines place (entry_at (get_or lines place no-line).number own)
 turn-at bytes lines place {text} {own} rises within is has own_is =
     let line = get_or lines place no-line in
@@ -135,7 +135,7 @@ all-gone bytes lines place rest reached none =
 
 pub turn-here : (bytes : List ℕ) (lines : List Line) (place : ℕ) (text line behind own : List ℕ)
     → AreLinesOf bytes 2 lines text → Here bytes lines place line behind
-    → is_passed_over line ≡ false → own ≡ entry_of line
+    → is_passed_over line ≡ false → own ≡ entry_of_line line
     → Turn bytes lines place (entry_at (place + 1 + 1) own)
 turn-here bytes lines place text line behind own are here has is =
     let number : (get_or lines place no-line).number ≡ place + 1 + 1 = here.number ∙ omega arith in
@@ -163,8 +163,8 @@ own-none : (affixes : Affixes) (entry : Listed) (made : Entry) → entry_read af
     → entry_faults affixes entry ≡ []
 own-none affixes entry made read =
     let faults = entry_faults affixes entry in
-    least-none cause_number faults
-    (read-fault (least_of faults) (entry_said affixes entry) made read)
+    least-none dic_cause_number faults
+    (read-fault (least_dic_fault faults) (entry_said affixes entry) made read)
 
 -- a line without an entry
 pub read-past : (bytes : List ℕ) (lines : List Line) (place : ℕ) {affixes : Affixes} {limit : ℕ}
@@ -191,7 +191,7 @@ module _ {affixes : Affixes} {limit : ℕ} {bytes : List ℕ} {lines : List Line
       → AreRead affixes limit (listed bytes (take (place + 1) lines)) pushed
   read-more made pushed turn are read word room grown =
       let earlier = listed bytes (take place lines) in
-      let said = read-said (least_of (entry_faults affixes entry)) (entry_said affixes entry) made
+      let said = read-said (least_dic_fault (entry_faults affixes entry)) (entry_said affixes entry) made
       read in
       let next : AreRead affixes limit (earlier ++ entry ∷ []) (entries ++ made ∷ []) = record {
         same = ap (λ es. es ++ made ∷ []) are.same
@@ -217,10 +217,10 @@ module _ {affixes : Affixes} {limit : ℕ} {bytes : List ℕ} {lines : List Line
       let earlier = listed bytes (take place lines) in
       let fault = fault_at number why in
       let few : length earlier ≤ limit = omega (arith, are.few, count-read are) in
-      let own = told-fault (least_of (entry_faults affixes entry)) (entry_said affixes entry) fault
+      let own = told-fault (least_dic_fault (entry_faults affixes entry)) (entry_said affixes entry) fault
       told in
       ap (λ o. unless_fault o (map (entry_said affixes) (listed bytes lines)))
-      (ap (λ all. least_of (entries_faults affixes limit all)) turn.whole
+      (ap (λ all. least_dic_fault (entries_faults affixes limit all)) turn.whole
       ∙ own-fault affixes limit earlier entry (listed bytes (drop (place + 1) lines)) fault are.fine
       few turn.behind own)
 
@@ -234,7 +234,7 @@ module _ {affixes : Affixes} {limit : ℕ} {bytes : List ℕ} {lines : List Line
       let earlier = listed bytes (take place lines) in
       let more = listed bytes (drop (place + 1) lines) in
       ap (λ o. unless_fault o (map (entry_said affixes) (listed bytes lines)))
-      (ap (λ all. least_of (entries_faults affixes limit all)) turn.whole
+      (ap (λ all. least_dic_fault (entries_faults affixes limit all)) turn.whole
       ∙ many-fault affixes limit earlier entry more are.fine (count-read are ∙ full) turn.behind
       (own-none affixes entry made read))
 

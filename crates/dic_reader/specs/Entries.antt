@@ -44,8 +44,8 @@ abbrev pub without_trailing : List ℕ → List ℕ
 without_trailing text = take (length text - suffix_len is_space text) text
 
 -- the entry of a line, without spaces at its ends
-unfoldable pub entry_of : List ℕ → List ℕ
-entry_of line = without_trailing (without_leading (before_fields line))
+unfoldable pub entry_of_line : List ℕ → List ℕ
+entry_of_line line = without_trailing (without_leading (before_fields line))
 
 abbrev pub is_blank : ℕ → Bool
 is_blank c = is_space c || is_tab c
@@ -77,7 +77,7 @@ entry_at number text = record { number = number; text = text }
 abbrev pub listed_in : List ℕ → Line → Option Listed
 listed_in bytes line =
     let text = text_of bytes line in
-    if is_passed_over text then None else Some (entry_at line.number (entry_of text))
+    if is_passed_over text then None else Some (entry_at line.number (entry_of_line text))
 
 -- the entries of these lines
 abbrev pub listed : List ℕ → List Line → List Listed
@@ -96,18 +96,18 @@ word_text [] = []
 word_text (c ∷ more) = if is_slash c then c ∷ before_slash more else before_slash (c ∷ more)
 
 -- and its flags behind the slash
-abbrev pub flag_text : List ℕ → List ℕ
-flag_text [] = []
-flag_text (c ∷ more) = unwrap_or (behind_slash (if is_slash c then more else c ∷ more)) []
+abbrev pub flag_text_of_entry : List ℕ → List ℕ
+flag_text_of_entry [] = []
+flag_text_of_entry (c ∷ more) = unwrap_or (behind_slash (if is_slash c then more else c ∷ more)) []
 
 -- the word of an entry, with all its characters
 abbrev pub whole_word : List ℕ → List ℕ
 whole_word entry = chars (word_text entry)
 
 -- the word of an entry, without the characters to ignore
-abbrev pub word_of : Affixes → List ℕ → List ℕ
-word_of affixes entry = without_ignored affixes.ignore (whole_word entry)
+abbrev pub word_of_entry : Affixes → List ℕ → List ℕ
+word_of_entry affixes entry = without_ignored affixes.ignore (whole_word entry)
 
 -- the flags of an entry, or what is wrong with them
-abbrev pub flags_of : Affixes → List ℕ → Result (List Flag) FlagFault
-flags_of affixes entry = flag_field affixes.kind affixes.aliases (flag_text entry)
+abbrev pub flags_of_entry : Affixes → List ℕ → Result (List Flag) FlagFault
+flags_of_entry affixes entry = flag_field affixes.kind affixes.aliases (flag_text_of_entry entry)

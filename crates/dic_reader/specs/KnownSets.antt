@@ -13,7 +13,7 @@ use Rattle.spell_types.specs.Sanity.{HasOrdinaryFlags}
 use Rattle.flag_sets.specs.FlagTexts.{flag_field}
 use Rattle.dic_reader.specs.declared.known_sets.Flags.{Flags}
 use Rattle.dic_reader.specs.declared.known_sets.Flags.TheVariants.{Like, New}
-use Rattle.dic_reader.specs.declared.known_sets.Found.{Found}
+use Rattle.dic_reader.specs.declared.known_sets.FoundEntry.{FoundEntry}
 use Rattle.dic_reader.specs.declared.words.Word.{Word}
 use Rattle.dic_reader.specs.declared.words.Word.TheVariants.{Written, Made}
 
@@ -41,9 +41,9 @@ AreFlagsOf affixes entries text (Like place) = HasFlagsOf affixes entries text p
 AreFlagsOf affixes entries text (New own set) = (own.now ≡ text) × IsSetOf affixes text set
 
 -- an entry that others are like is there
-abbrev pub IsPlaced : List Entry → Flags → Type 0
-IsPlaced entries (Like place) = place < length entries
-IsPlaced entries (New own set) = Unit {0}
+abbrev pub IsLikePlaced : List Entry → Flags → Type 0
+IsLikePlaced entries (Like place) = place < length entries
+IsLikePlaced entries (New own set) = Unit {0}
 
 -- the flags that an entry was read with
 abbrev pub flags_in : List Entry → Flags → List Flag
@@ -56,6 +56,6 @@ bytes_of (Written word) = word.now
 bytes_of (Made word) = string_bytes word
 
 -- the entry that was read behind these
-abbrev pub entry_of_found : List Entry → Found → Entry
+abbrev pub entry_of_found : List Entry → FoundEntry → Entry
 entry_of_found entries found =
     record { word = chars (bytes_of found.word); flags = flags_in entries found.flags }

@@ -4,7 +4,7 @@ ghost use Rattle.std.specs.Prelude.{◌≡◌, ◌+◌, ◌<◌, ◌≤◌, leng
 ghost use Rattle.std.specs.List.{prefix_len, suffix_len, list_all};
 ghost use Rattle.dic_reader.specs.Entries.{is_space, is_blank, begins_field, ends_entry};
 ghost use Rattle.dic_reader.specs.Entries.{before_fields, without_leading, without_trailing};
-ghost use Rattle.dic_reader.specs.Entries.{entry_of, begins_with_tab, begins_with_digit};
+ghost use Rattle.dic_reader.specs.Entries.{entry_of_line, begins_with_tab, begins_with_digit};
 ghost use Rattle.dic_reader.specs.Entries.{is_passed_over, is_count};
 
 /// Whether the line begins, behind spaces, with a digit.
@@ -24,9 +24,9 @@ pub(crate) fn is_passed_over(line: &str) -> bool
 }
 
 /// The entry of a line, without spaces at its ends.
-#[tactic(auto, unfolding(crate::specs::Entries::entry_of))]
+#[tactic(auto, unfolding(crate::specs::Entries::entry_of_line))]
 pub(crate) fn entry_of(line: &str) -> &str
-    ensures { result.now ≡ entry_of line.now }
+    ensures { result.now ≡ entry_of_line line.now }
 {
     without_trailing(without_leading(before_fields(line)))
 }

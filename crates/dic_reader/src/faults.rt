@@ -1,10 +1,10 @@
 //! The causes of faults of .dic files.
 
 ghost use Rattle.std.specs.Prelude.{◌≡◌};
-ghost use Rattle.dic_reader.specs.Faults.{why_name};
+ghost use Rattle.dic_reader.specs.Faults.{dic_cause_name};
 ghost use Rattle.dic_reader.specs.declared.faults.DicFault.TheVariants.{NoMemory as OutOfMemory};
 
-use lists::NoMemory;
+use text_lines::lists::NoMemory;
 
 /// What is wrong with a line. Of two causes at one line the one that stands first here is told.
 #[derive(Clone, Copy, Debug, PartialEq, Eq)]
@@ -25,9 +25,9 @@ pub enum DicWhy {
 
 impl DicWhy {
     /// The name of the cause, as the program prints it.
-    #[tactic(auto, unfolding(crate::specs::Faults::why_name))]
+    #[tactic(auto, unfolding(crate::specs::Faults::dic_cause_name))]
     pub fn name(self) -> &'static str
-        ensures { result.now ≡ why_name self }
+        ensures { result.now ≡ dic_cause_name self }
     {
         match self {
             DicWhy::NotUtf8 => "NotUtf8",

@@ -4,14 +4,14 @@ ghost use Rattle.std.specs.Prelude.{◌≡◌, ◌≢◌, ◌++◌, ◌∷◌, [
 ghost use Rattle.spell_types.specs.declared.Affixes.{Affixes};
 ghost use Rattle.spell_types.specs.declared.Entry.{Entry};
 ghost use Rattle.flag_sets.specs.FlagTexts.{flag_field};
-ghost use Rattle.dic_reader.specs.KnownSets.{AreKnown, AreFlagsOf, IsPlaced, entry_of_found};
+ghost use Rattle.dic_reader.specs.KnownSets.{AreKnown, AreFlagsOf, IsLikePlaced, entry_of_found};
 
 use crate::words::Word;
 use flag_sets::{FlagFault, read_flags};
 use indexmap::IndexMap;
-use lists::NoMemory;
 use spell_types::{Affixes, Entries, FlagSet, alias_sets};
 use std::alloc::Global;
+use text_lines::lists::NoMemory;
 
 /// At each flag text that was read, the place of an entry that has its flags.
 pub(crate) type KnownSets<'a> = IndexMap<&'a str, usize>;
@@ -27,7 +27,7 @@ pub(crate) enum Flags<'a> {
 
 /// An entry that was read.
 #[derive(Drop)]
-pub(crate) struct Found<'a> {
+pub(crate) struct FoundEntry<'a> {
     pub(crate) word: Word<'a>,
     pub(crate) flags: Flags<'a>,
 }
@@ -56,16 +56,16 @@ pub(crate) fn flags_of<'a>(
 pub(crate) fn add<'a>(
     entries: &mut Entries,
     known: &mut KnownSets<'a>,
-    found: Found<'a>,
+    found: FoundEntry<'a>,
 ) -> Result<(), NoMemory>
-    requires { IsPlaced entries.old found.flags }
+    requires { IsLikePlaced entries.old found.flags }
     ensures added { OnOk result
         (entries.new ≡ entries.old ++ entry_of_found entries.old found.entry ∷ []) }
     ensures known { (affixes : Affixes) (text : List ℕ) → AreKnown affixes entries.old known.old
         → AreFlagsOf affixes entries.old text found.entry.flags
         → OnOk result (AreKnown affixes entries.new known.new) }
 {
-    let Found { word, flags } = found;
+    let FoundEntry { word, flags } = found;
     match flags {
         Flags::Like(place) => entries.push_like(word.as_str(), place),
         Flags::New(text, set) => {

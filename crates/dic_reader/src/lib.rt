@@ -13,9 +13,10 @@ ghost use Rattle.text_lines.specs.declared.found.Line.{Line};
 ghost use Rattle.spell_types.specs.declared.Affixes.{Affixes};
 ghost use Rattle.spell_types.specs.Sanity.{AreSaneEntries, HasOrdinaryFlags, HaveOrdinaryFlags};
 ghost use Rattle.dic_reader.specs.Entries.{listed, AreLinesOf};
-ghost use Rattle.dic_reader.specs.Faults.{Fault, entry_limit, dic_passes, first_fault};
-ghost use Rattle.dic_reader.specs.Faults.{entries_read, lines_read, dic_read, DicBad, IsLeast};
-ghost use Rattle.dic_reader.specs.Faults.{IsRead, DicReads, DicRefuses};
+ghost use Rattle.dic_reader.specs.Faults.{DicFaultAtLine, entry_limit, dic_passes, first_dic_fault};
+ghost use Rattle.dic_reader.specs.Faults.{entries_read, lines_read, dic_read, DicBad};
+ghost use Rattle.dic_reader.specs.Faults.{IsLeastDicFault};
+ghost use Rattle.dic_reader.specs.Faults.{AreEntriesRead, DicReads, DicRefuses};
 
 use crate::cutting::{entry_of, is_count, is_passed_over};
 use crate::known_sets::{KnownSets, add};
@@ -46,7 +47,7 @@ pub fn read_dic(alloc: Global, affixes: &Affixes, bytes: &[u8]) -> Result<Entrie
     ensures ordinary { HasOrdinaryFlags affixes.now → IfOk result HaveOrdinaryFlags }
 
     // The same as one value, so that a caller can go on with it.
-    ensures value { IsRead (dic_read affixes.now bytes.now) result }
+    ensures value { AreEntriesRead (dic_read affixes.now bytes.now) result }
 {
     read_file(alloc, affixes, bytes)
 }
@@ -54,17 +55,17 @@ pub fn read_dic(alloc: Global, affixes: &Affixes, bytes: &[u8]) -> Result<Entrie
 /// The fault that is told of a file is the least of those that the first pass with a fault has, and
 /// a file of which none is told has none.
 pub fn first_fault_is_least()
-    ensures none { (affixes : Affixes) (bytes : List ℕ) → first_fault (dic_passes affixes bytes)
+    ensures none { (affixes : Affixes) (bytes : List ℕ) → first_dic_fault (dic_passes affixes bytes)
         ≡ None
-        → (pass : ℕ) (fault : Fault) → ¬ DicBad affixes bytes pass fault }
-    ensures least { (affixes : Affixes) (bytes : List ℕ) (fault : Fault)
-        → first_fault (dic_passes affixes bytes) ≡ Some fault
-        → (pass : ℕ) × IsLeast (DicBad affixes bytes pass) fault }
+        → (pass : ℕ) (fault : DicFaultAtLine) → ¬ DicBad affixes bytes pass fault }
+    ensures least { (affixes : Affixes) (bytes : List ℕ) (fault : DicFaultAtLine)
+        → first_dic_fault (dic_passes affixes bytes) ≡ Some fault
+        → (pass : ℕ) × IsLeastDicFault (DicBad affixes bytes pass) fault }
 {}
 
 /// The entries of a file, or its first fault.
 fn read_file(alloc: Global, affixes: &Affixes, bytes: &[u8]) -> Result<Entries, DicFault>
-    ensures read { IsRead (dic_read affixes.now bytes.now) result }
+    ensures read { AreEntriesRead (dic_read affixes.now bytes.now) result }
     ensures sane { IfOk result AreSaneEntries }
     ensures few { IfOk result (λ entries. length entries ≤ entry_limit) }
     ensures ordinary { HasOrdinaryFlags affixes.now → IfOk result HaveOrdinaryFlags }
@@ -81,7 +82,7 @@ fn read_file(alloc: Global, affixes: &Affixes, bytes: &[u8]) -> Result<Entries, 
 /// The entries of a text whose first line has to count.
 fn read_text(alloc: Global, affixes: &Affixes, text: &str) -> Result<Entries, DicFault>
     ensures read { (bytes : List ℕ) (lines : List Line) → AreLinesOf bytes 1 lines text.now
-        → IsRead (lines_read affixes.now bytes lines) result }
+        → AreEntriesRead (lines_read affixes.now bytes lines) result }
     ensures sane { IfOk result AreSaneEntries }
     ensures few { IfOk result (λ entries. length entries ≤ entry_limit) }
     ensures ordinary { HasOrdinaryFlags affixes.now → IfOk result HaveOrdinaryFlags }
@@ -114,7 +115,7 @@ fn read_entries(
 ) -> Result<Entries, DicFault>
     requires few { limit < 2 ^ 32 }
     ensures read { (bytes : List ℕ) (lines : List Line) → AreLinesOf bytes 2 lines text.now
-        → IsRead (entries_read affixes.now limit (listed bytes lines)) result }
+        → AreEntriesRead (entries_read affixes.now limit (listed bytes lines)) result }
     ensures sane { IfOk result AreSaneEntries }
     ensures few { IfOk result (λ entries. length entries ≤ limit) }
     ensures ordinary { HasOrdinaryFlags affixes.now → IfOk result HaveOrdinaryFlags }

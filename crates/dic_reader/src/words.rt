@@ -4,17 +4,17 @@ ghost use Rattle.std.specs.Prelude.{◌≡◌, ◌++◌, ◌<◌, List, length, 
 ghost use Rattle.std.specs.Str.{chars};
 ghost use Rattle.spell_types.specs.declared.Entry.{Entry};
 ghost use Rattle.spell_types.specs.Conversions.{without_ignored};
-ghost use Rattle.dic_reader.specs.Entries.{entry_at, flag_text, whole_word};
+ghost use Rattle.dic_reader.specs.Entries.{entry_at, flag_text_of_entry, whole_word};
 ghost use Rattle.dic_reader.specs.Faults.{entry_read, told_at, IsTold};
 ghost use Rattle.dic_reader.specs.KnownSets.{AreKnown, AreFlagsOf, entry_of_found, bytes_of};
 
 use crate::faults::{DicFault, DicWhy};
-use crate::known_sets::{Found, KnownSets, flags_of};
+use crate::known_sets::{FoundEntry, KnownSets, flags_of};
 use conversions::{drop_ignored, has_no_ignored};
 use flag_sets::{FlagFault, push_before_slash, split_plain};
-use lists::{Items, NoMemory};
 use spell_types::{Affixes, Chars, text_of};
 use std::alloc::Global;
+use text_lines::lists::{Items, NoMemory};
 
 /// The word of an entry.
 #[derive(Drop)]
@@ -44,14 +44,14 @@ pub(crate) fn read_entry<'a>(
     known: &KnownSets<'a>,
     number: u64,
     text: &'a str,
-) -> Result<Found<'a>, DicFault>
+) -> Result<FoundEntry<'a>, DicFault>
     ensures read { (entries : List Entry) → AreKnown affixes.now entries known.now
         → IfOk result (λ found. entry_read affixes.now (entry_at number text.now)
         ≡ Ok (entry_of_found entries found)) }
     ensures fault { IfErr result (IsTold (entry_read affixes.now (entry_at number text.now))) }
     ensures word { IfOk result (λ found. 0 < length (chars (bytes_of found.word))) }
     ensures flags { (entries : List Entry) → AreKnown affixes.now entries known.now
-        → IfOk result (λ found. AreFlagsOf affixes.now entries (flag_text text.now) found.flags) }
+        → IfOk result (λ found. AreFlagsOf affixes.now entries (flag_text_of_entry text.now) found.flags) }
 {
     let (word, flag_text) = read_word(alloc, &affixes.ignore, text)?;
     if word.as_str().is_empty() {
@@ -61,7 +61,7 @@ pub(crate) fn read_entry<'a>(
         });
     }
     match flags_of(alloc, affixes, known, flag_text) {
-        Ok(flags) => Ok(Found { word, flags }),
+        Ok(flags) => Ok(FoundEntry { word, flags }),
         Err(fault) => Err(told_at(number, fault)),
     }
 }
@@ -87,7 +87,7 @@ fn read_word<'a>(
 ) -> Result<(Word<'a>, &'a str), NoMemory>
     ensures word { IfOk result (λ parts.
         chars (bytes_of parts.0) ≡ without_ignored ignore.now (whole_word entry.now)) }
-    ensures flags { IfOk result (λ parts. parts.1.now ≡ flag_text entry.now) }
+    ensures flags { IfOk result (λ parts. parts.1.now ≡ flag_text_of_entry entry.now) }
 {
     if let Some((word, flags)) = written_word(entry) {
         if has_no_ignored(ignore, word) {
@@ -104,7 +104,7 @@ fn read_word<'a>(
 /// answer where the entry begins with a slash or a backslash stands before its first one.
 fn written_word(entry: &str) -> Option<(&str, &str)>
     ensures word { IfSome result (λ parts. chars parts.0.now ≡ whole_word entry.now) }
-    ensures flags { IfSome result (λ parts. parts.1.now ≡ flag_text entry.now) }
+    ensures flags { IfSome result (λ parts. parts.1.now ≡ flag_text_of_entry entry.now) }
 {
     if entry.starts_with('/') {
         return None;
@@ -117,7 +117,7 @@ fn written_word(entry: &str) -> Option<(&str, &str)>
 /// the entry is one of its word.
 fn push_word<'a>(alloc: Global, word: &mut Chars, entry: &'a str) -> Result<&'a str, NoMemory>
     ensures word { OnOk result (word.new ≡ word.old ++ whole_word entry.now) }
-    ensures flags { IfOk result (λ flags. flags.now ≡ flag_text entry.now) }
+    ensures flags { IfOk result (λ flags. flags.now ≡ flag_text_of_entry entry.now) }
 {
     let mut rest = entry;
     if let Some(more) = entry.strip_prefix('/') {

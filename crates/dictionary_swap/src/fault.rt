@@ -7,8 +7,8 @@ ghost use Rattle.dictionary_swap.specs.declared.fault.LoadFault.TheVariants.{NoM
 use crate::causes::{aff_cause, dic_cause};
 use aff_lines::AffWhy;
 use dic_reader::DicWhy;
-use lists::NoMemory;
 use outside::FileFault;
+use outside::lists::NoMemory;
 use thiserror::Error;
 
 /// Why a dictionary is not loaded. The messages are for people; no line that the program prints is

@@ -2,10 +2,11 @@
 #![tactic(auto)]
 
 ghost use Rattle.std.specs.Prelude.{◌≡◌, ◌<◌, ◌≤◌, length, IfOk, IfSome, IsErrOf};
-ghost use Rattle.lists.specs.Answers.{GivesDue};
+ghost use Rattle.outside.specs.lists.Answers.{GivesDue};
 ghost use Rattle.spell_types.specs.Sanity.{IsSane, HasOrdinaryFlags, HaveOrdinaryFlags};
 ghost use Rattle.dic_reader.specs.Faults.{entry_limit};
-ghost use Rattle.dictionary_swap.specs.Loads.{DictionaryFiles, MayCome, lexicon_due, found_in};
+ghost use Rattle.dictionary_swap.specs.Loads.{DictionaryFiles, MayComeOfLoads, lexicon_due};
+ghost use Rattle.dictionary_swap.specs.Loads.{found_in};
 
 mod causes;
 mod fault;
@@ -31,8 +32,8 @@ pub fn load_lexicon<F: Files>(
 ) -> Result<Lexicon, LoadFault>
     // It is what is due of some files, which are those that are told, where some are.
     ensures found { (there : DictionaryFiles)
-        × GivesDue MayCome (λ lexicon. lexicon) (lexicon_due there) result }
-    ensures told { IfSome (F.told files.old) (λ folder. GivesDue MayCome (λ lexicon. lexicon)
+        × GivesDue MayComeOfLoads (λ lexicon. lexicon) (lexicon_due there) result }
+    ensures told { IfSome (F.told files.old) (λ folder. GivesDue MayComeOfLoads (λ lexicon. lexicon)
         (lexicon_due (found_in folder aff.now dic.now)) result) }
 
     // What every dictionary meets that is read.

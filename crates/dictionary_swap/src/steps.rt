@@ -1,11 +1,11 @@
 //! The steps of a load: a file's bytes, and what they say.
 
 ghost use Rattle.std.specs.Prelude.{◌≡◌, ◌<◌, ◌≤◌, ℕ, List, Option, length, IfSome, IfOk, IsErrOf};
-ghost use Rattle.lists.specs.Answers.{GivesDue};
+ghost use Rattle.outside.specs.lists.Answers.{GivesDue};
 ghost use Rattle.spell_types.specs.Sanity.{AreSaneAffixes, AreSaneEntries};
 ghost use Rattle.spell_types.specs.Sanity.{HasOrdinaryFlags, HaveOrdinaryFlags};
 ghost use Rattle.dic_reader.specs.Faults.{entry_limit};
-ghost use Rattle.dictionary_swap.specs.Loads.{MayCome, file_due, affixes_step, entries_step};
+ghost use Rattle.dictionary_swap.specs.Loads.{MayComeOfLoads, load_due, affixes_step, entries_step};
 ghost use Rattle.dictionary_swap.specs.Loads.{affixes_due, entries_due};
 ghost use Rattle.dictionary_swap.specs.declared.limits.TheConstants.{SIZE_LIMIT};
 
@@ -26,9 +26,9 @@ pub fn load_affixes<F: Files>(
     name: &str,
 ) -> Result<Affixes, LoadFault>
     ensures found { (file : Option (List ℕ))
-        × GivesDue MayCome (λ affixes. affixes) (affixes_due file) result }
+        × GivesDue MayComeOfLoads (λ affixes. affixes) (affixes_due file) result }
     ensures told { IfSome (F.told files.old) (λ folder.
-        GivesDue MayCome (λ affixes. affixes) (affixes_due (folder name.now)) result) }
+        GivesDue MayComeOfLoads (λ affixes. affixes) (affixes_due (folder name.now)) result) }
     ensures sane { IfOk result AreSaneAffixes }
     ensures ordinary { IfOk result HasOrdinaryFlags }
     ensures same { F.told files.new ≡ F.told files.old }
@@ -48,9 +48,9 @@ pub fn load_entries<F: Files>(
     name: &str,
 ) -> Result<Entries, LoadFault>
     ensures found { (file : Option (List ℕ))
-        × GivesDue MayCome (λ entries. entries) (entries_due affixes.now file) result }
+        × GivesDue MayComeOfLoads (λ entries. entries) (entries_due affixes.now file) result }
     ensures told { IfSome (F.told files.old) (λ folder.
-        GivesDue MayCome (λ entries. entries) (entries_due affixes.now (folder name.now)) result) }
+        GivesDue MayComeOfLoads (λ entries. entries) (entries_due affixes.now (folder name.now)) result) }
     ensures sane { IfOk result AreSaneEntries }
     ensures few { IfOk result (λ entries. length entries ≤ entry_limit) }
     ensures ordinary { HasOrdinaryFlags affixes.now → IfOk result HaveOrdinaryFlags }
@@ -63,12 +63,12 @@ pub fn load_entries<F: Files>(
 }
 
 /// The bytes of the file of this name.
-#[tactic(auto, unfolding(crate::specs::Loads::file_due))]
+#[tactic(auto, unfolding(crate::specs::Loads::load_due))]
 fn load_file<F: Files>(alloc: Global, files: &mut F, name: &str) -> Result<Vec<u8>, LoadFault>
     ensures found { (file : Option (List ℕ))
-        × GivesDue MayCome (λ bytes. bytes.items) (file_due SIZE_LIMIT file) result }
+        × GivesDue MayComeOfLoads (λ bytes. bytes.items) (load_due SIZE_LIMIT file) result }
     ensures told { IfSome (F.told files.old) (λ folder.
-        GivesDue MayCome (λ bytes. bytes.items) (file_due SIZE_LIMIT (folder name.now)) result) }
+        GivesDue MayComeOfLoads (λ bytes. bytes.items) (load_due SIZE_LIMIT (folder name.now)) result) }
     ensures same { F.told files.new ≡ F.told files.old }
     ensures failed { IsErrOf result LoadFault.Failed → F.faults files.old < F.faults files.new }
     ensures count { F.faults files.old ≤ F.faults files.new }
@@ -81,7 +81,7 @@ fn load_file<F: Files>(alloc: Global, files: &mut F, name: &str) -> Result<Vec<u
 /// What the bytes of an .aff file say.
 #[tactic(auto, unfolding(crate::specs::Loads::affixes_step))]
 fn read_affixes(alloc: Global, bytes: &[u8]) -> Result<Affixes, LoadFault>
-    ensures due { GivesDue MayCome (λ affixes. affixes) (affixes_step bytes.now) result }
+    ensures due { GivesDue MayComeOfLoads (λ affixes. affixes) (affixes_step bytes.now) result }
     ensures sane { IfOk result AreSaneAffixes }
     ensures ordinary { IfOk result HasOrdinaryFlags }
     ensures failed { ¬ (IsErrOf result LoadFault.Failed) }
@@ -96,7 +96,7 @@ fn read_affixes(alloc: Global, bytes: &[u8]) -> Result<Affixes, LoadFault>
 /// What the bytes of a .dic file say, where its flags are written as the affixes have them.
 #[tactic(auto, unfolding(crate::specs::Loads::entries_step))]
 fn read_entries(alloc: Global, affixes: &Affixes, bytes: &[u8]) -> Result<Entries, LoadFault>
-    ensures due { GivesDue MayCome (λ entries. entries)
+    ensures due { GivesDue MayComeOfLoads (λ entries. entries)
         (entries_step affixes.now bytes.now) result }
     ensures sane { IfOk result AreSaneEntries }
     ensures few { IfOk result (λ entries. length entries ≤ entry_limit) }

@@ -5,6 +5,7 @@ mod derivations;
 mod dictionaries;
 mod joints;
 mod loads;
+mod making;
 mod pattern_tables;
 mod real_files;
 mod replacements;

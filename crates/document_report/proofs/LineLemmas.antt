@@ -8,29 +8,29 @@ use Rattle.std.proofs.lemmas.Bool.Decides.{nat_tests}
 use Rattle.std.proofs.lemmas.List.{length-append, map-append, length-map}
 use Rattle.document_report.specs.declared.fault.DocumentFault.TheVariants.{LongParagraph}
 use Rattle.document_report.specs.declared.fault.DocumentFault.TheVariants.{TooManyParagraphs}
-use Rattle.document_report.specs.Documents.{is_long, unless_long, unless_many}
+use Rattle.document_report.specs.Documents.{is_long_paragraph, texts_unless_long, unless_many}
 use Rattle.document_report.specs.Texts.{lent}
 use Rattle.paragraph_text.specs.declared.limits.TheConstants.{MOST_PARAGRAPHS, MOST_BYTES}
 
 -- texts that are lent
-any-lent : (texts : List (Bor (List ℕ))) → list_any (λ text. is_long text.now) texts
-    ≡ list_any is_long (lent texts)
+any-lent : (texts : List (Bor (List ℕ))) → list_any (λ text. is_long_paragraph text.now) texts
+    ≡ list_any is_long_paragraph (lent texts)
 any-lent [] = refl
-any-lent (text ∷ texts) = ap (λ b. is_long text.now || b) (any-lent texts)
+any-lent (text ∷ texts) = ap (λ b. is_long_paragraph text.now || b) (any-lent texts)
 
 -- whether one of them is too long
 pub long-found : (texts : List (Bor (List ℕ))) (has_long : Bool)
-    → has_long ≡ list_any (λ text. is_long text.now) texts → has_long ≡ true
-    → unless_long (lent texts) ≡ Err (LongParagraph MOST_BYTES)
-unfolding unless_long
+    → has_long ≡ list_any (λ text. is_long_paragraph text.now) texts → has_long ≡ true
+    → texts_unless_long (lent texts) ≡ Err (LongParagraph MOST_BYTES)
+unfolding texts_unless_long
 long-found texts has_long is found =
     ap (λ b. cond b (Err (LongParagraph MOST_BYTES)) (Ok (lent texts)))
     (sym (any-lent texts) ∙ sym is ∙ found)
 
 pub long-none : (texts : List (Bor (List ℕ))) (has_long : Bool)
-    → has_long ≡ list_any (λ text. is_long text.now) texts → has_long ≡ false
-    → unless_long (lent texts) ≡ Ok (lent texts)
-unfolding unless_long
+    → has_long ≡ list_any (λ text. is_long_paragraph text.now) texts → has_long ≡ false
+    → texts_unless_long (lent texts) ≡ Ok (lent texts)
+unfolding texts_unless_long
 long-none texts has_long is none =
     ap (λ b. cond b (Err (LongParagraph MOST_BYTES)) (Ok (lent texts)))
     (sym (any-lent texts) ∙ sym is ∙ none)

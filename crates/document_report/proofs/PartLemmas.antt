@@ -7,15 +7,15 @@ use Rattle.std.specs.Str.{chars}
 use Rattle.std.specs.String.{string_bytes}
 use Rattle.std.proofs.lemmas.List.{length-map, map-append}
 use Rattle.std.proofs.lemmas.Grind.{flat_map-append}
-use Rattle.spell_types.specs.declared.Lexicon.{Lexicon}
+use Rattle.mark_types.specs.spell_types.declared.Lexicon.{Lexicon}
 use Rattle.mark_types.specs.Marks.{LocatedWord, located_words, in_paragraph, marks_of}
 use Rattle.document_report.specs.declared.printing.Output.{Output}
 use Rattle.document_report.specs.declared.printing.Output.TheVariants.{Marks, Summary}
 use Rattle.document_report.specs.declared.printing.Report.{Report}
-use Rattle.document_report.specs.Given.{listed}
-use Rattle.document_report.specs.Parts.{IsReport, each_from, numbered_marks, numbered_words}
+use Rattle.document_report.specs.Given.{lines_if_listed}
+use Rattle.document_report.specs.Parts.{IsReportOfParts, each_from, numbered_marks, numbered_words}
 use Rattle.document_report.specs.Parts.{paragraphs_of}
-use Rattle.document_report.specs.Reports.{line_of}
+use Rattle.document_report.specs.Reports.{line_of_mark}
 use Rattle.document_report.specs.Texts.{lent}
 
 -- what is found in paragraphs behind others has the numbers that follow theirs
@@ -32,7 +32,7 @@ each-append found number (paragraph ∷ front) back =
     ∙ ap (λ n. (here ++ behind) ++ each_from found n back) next
 
 listed-append : (output : Output) (front back : List ℕ)
-    → listed output (front ++ back) ≡ listed output front ++ listed output back
+    → lines_if_listed output (front ++ back) ≡ lines_if_listed output front ++ lines_if_listed output back
 listed-append Marks front back = refl
 listed-append (Summary entries) front back = refl
 
@@ -53,11 +53,11 @@ module _ (first : ℕ) (front back : List (Bor (List ℕ))) where
       ++ each_from found (first + n) (paragraphs_of back)) count
 
   pub counted-both : (output : Output) (lexicon : Lexicon) {earlier later all : Report}
-      → IsReport output lexicon first front earlier
-      → IsReport output lexicon (first + length front) back later
+      → IsReportOfParts output lexicon first front earlier
+      → IsReportOfParts output lexicon (first + length front) back later
       → string_bytes all.text ≡ string_bytes earlier.text ++ string_bytes later.text
       → all.marks ≡ earlier.marks + later.marks → all.words ≡ earlier.words + later.words
-      → IsReport output lexicon first (front ++ back) all
+      → IsReportOfParts output lexicon first (front ++ back) all
   counted-both output lexicon {earlier} {later} {all} one other text marks words =
       let behind = first + length front in
       let marked = each-both (λ paragraph. marks_of lexicon (paragraph ∷ [])) in
@@ -66,14 +66,14 @@ module _ (first : ℕ) (front back : List (Bor (List ℕ))) where
       record {
         text = text
             ∙ (ap (λ lines. lines ++ string_bytes later.text) one.text
-            ∙ ap (λ lines. listed output (flat_map line_of (numbered_marks lexicon first front))
+            ∙ ap (λ lines. lines_if_listed output (flat_map line_of_mark (numbered_marks lexicon first front))
             ++ lines)
             other.text
-            ∙ sym (listed-append output (flat_map line_of (numbered_marks lexicon first front))
-            (flat_map line_of (numbered_marks lexicon behind back)))
-            ∙ ap (listed output)
-            (sym (ap (flat_map line_of) marked
-            ∙ flat_map-append line_of (numbered_marks lexicon first front)
+            ∙ sym (listed-append output (flat_map line_of_mark (numbered_marks lexicon first front))
+            (flat_map line_of_mark (numbered_marks lexicon behind back)))
+            ∙ ap (lines_if_listed output)
+            (sym (ap (flat_map line_of_mark) marked
+            ∙ flat_map-append line_of_mark (numbered_marks lexicon first front)
             (numbered_marks lexicon behind back))));
         marks = omega (
           arith,

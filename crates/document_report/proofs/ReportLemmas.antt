@@ -6,7 +6,7 @@ use Rattle.std.specs.List.{flat_map}
 use Rattle.std.specs.Str.{chars}
 use Rattle.std.proofs.lemmas.List.{length-map}
 use Rattle.std.proofs.lemmas.Grind.{flat_map-append}
-use Rattle.spell_types.specs.declared.Lexicon.{Lexicon}
+use Rattle.mark_types.specs.spell_types.declared.Lexicon.{Lexicon}
 use Rattle.mark_types.specs.Handed.{mark_of}
 use Rattle.mark_types.specs.Words.{words_of}
 use Rattle.mark_types.specs.Marks.{LocatedWord, located_at, located_words, in_paragraph}
@@ -14,20 +14,20 @@ use Rattle.mark_types.specs.Marks.{marks_of}
 use Rattle.paragraph_marks.specs.Paragraphs.{marks_in}
 use Rattle.document_report.specs.declared.printing.Output.{Output}
 use Rattle.document_report.specs.declared.printing.Output.TheVariants.{Marks, Summary}
-use Rattle.document_report.specs.Given.{listed}
-use Rattle.document_report.specs.Reports.{line_of, lines_of, paragraph_lines}
+use Rattle.document_report.specs.Given.{lines_if_listed}
+use Rattle.document_report.specs.Reports.{line_of_mark, mark_lines, paragraph_lines}
 use Rattle.document_report.specs.Parts.{each_from}
 use Rattle.document_report.specs.Texts.{lent}
 
-located-lines : (number : ℕ) (words : List LocatedWord) → lines_of number (map mark_of words)
-    ≡ flat_map line_of (map (in_paragraph number) words)
+located-lines : (number : ℕ) (words : List LocatedWord) → mark_lines number (map mark_of words)
+    ≡ flat_map line_of_mark (map (in_paragraph number) words)
 located-lines number [] = refl
 located-lines number (word ∷ words) =
-    ap (λ lines. line_of (in_paragraph number word) ++ lines) (located-lines number words)
+    ap (λ lines. line_of_mark (in_paragraph number word) ++ lines) (located-lines number words)
 
 -- the lines of a paragraph's marks, and how many these are
 pub lines-of-marks : (lexicon : Lexicon) (number : ℕ) (paragraph : List ℕ)
-    → lines_of number (marks_in lexicon paragraph) ≡ paragraph_lines lexicon number paragraph
+    → mark_lines number (marks_in lexicon paragraph) ≡ paragraph_lines lexicon number paragraph
 unfolding marks_in
 lines-of-marks lexicon number paragraph = located-lines number (marks_of lexicon (paragraph ∷ []))
 
@@ -54,13 +54,13 @@ words_from lexicon (text ∷ texts) =
 
 pub lines-each : (lexicon : Lexicon) (number : ℕ) (texts : List (Bor (List ℕ)))
     → lines_from lexicon number texts
-    ≡ flat_map line_of
+    ≡ flat_map line_of_mark
     (each_from (λ paragraph. marks_of lexicon (paragraph ∷ [])) number (map chars (lent texts)))
 lines-each lexicon number [] = refl
 lines-each lexicon number (text ∷ texts) =
     let here = map (in_paragraph number) (marks_of lexicon (chars text.now ∷ [])) in
-    ap (λ rest. flat_map line_of here ++ rest) (lines-each lexicon (number + 1) texts)
-    ∙ sym (flat_map-append line_of here
+    ap (λ rest. flat_map line_of_mark here ++ rest) (lines-each lexicon (number + 1) texts)
+    ∙ sym (flat_map-append line_of_mark here
     (each_from (λ paragraph. marks_of lexicon (paragraph ∷ [])) (number + 1)
     (map chars (lent texts))))
 
@@ -108,6 +108,6 @@ words-each are_alone lexicon number (text ∷ texts) =
     ∙ sym (length-each (λ paragraph. located_words wordchars (paragraph ∷ [])) number paragraph
     (map chars (lent texts)))
 
-pub listed-none : (output : Output) → listed output [] ≡ []
+pub listed-none : (output : Output) → lines_if_listed output [] ≡ []
 listed-none Marks = refl
 listed-none (Summary entries) = refl

@@ -7,11 +7,11 @@ use Rattle.std.specs.List.{All, AllZip}
 use Rattle.std.specs.Prelude.{IfSome}
 use Rattle.std.specs.Borrow.{Bor}
 use Rattle.std.specs.String.{string_bytes}
-use Rattle.spell_types.specs.declared.Lexicon.{Lexicon}
+use Rattle.mark_types.specs.spell_types.declared.Lexicon.{Lexicon}
 use Rattle.document_report.specs.declared.printing.Output.{Output}
 use Rattle.document_report.specs.declared.printing.Report.{Report}
 use Rattle.document_report.specs.declared.sharing.Shares.{Shares}
-use Rattle.document_report.specs.Parts.{IsLimited, IsOfFront, IsOfShare, IsReport, share_at}
+use Rattle.document_report.specs.Parts.{IsLimited, IsOfFront, IsOfShare, IsReportOfParts, share_at}
 use Rattle.document_report.proofs.PartLemmas.{counted-both}
 
 -- one more, at the place behind the others
@@ -86,7 +86,7 @@ module _ (output : Output) (lexicon : Lexicon) (shares : Shares) (place : ℕ)
   one-share-more {all} text marks words =
       let count = taken (shares.size * place) texts inside in
       let back = share_at shares.size place texts in
-      let behind : IsReport output lexicon (shares.part.first + length front) back later =
+      let behind : IsReportOfParts output lexicon (shares.part.first + length front) back later =
       rw count other in
       rw more (counted-both shares.part.first front back output lexicon {earlier = earlier}
       {later = later} {all = all} one

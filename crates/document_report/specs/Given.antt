@@ -1,7 +1,7 @@
 -- What the code hands on, as the definitions see it.
 use Rattle.std.specs.Prelude.{ℕ, List, []}
 use Rattle.std.specs.String.{string_bytes}
-use Rattle.spell_types.specs.declared.Lexicon.{Lexicon}
+use Rattle.mark_types.specs.spell_types.declared.Lexicon.{Lexicon}
 use Rattle.document_report.specs.declared.printing.Output.{Output}
 use Rattle.document_report.specs.declared.printing.Output.TheVariants.{Marks, Summary}
 use Rattle.document_report.specs.declared.printing.Report.{Report}
@@ -17,6 +17,6 @@ printed_as Marks = report_of
 printed_as (Summary entries) = summary_of entries
 
 -- lines that are printed only of marks
-abbrev pub listed : Output → List ℕ → List ℕ
-listed Marks lines = lines
-listed (Summary entries) lines = []
+abbrev pub lines_if_listed : Output → List ℕ → List ℕ
+lines_if_listed Marks lines = lines
+lines_if_listed (Summary entries) lines = []

@@ -7,12 +7,12 @@ use Rattle.std.specs.declared.vec.Vec.{Vec}
 use Rattle.std.specs.List.{flat_map, enumerate_from}
 use Rattle.std.specs.Str.{chars}
 use Rattle.std.specs.String.{string_bytes}
-use Rattle.spell_types.specs.declared.Lexicon.{Lexicon}
+use Rattle.mark_types.specs.spell_types.declared.Lexicon.{Lexicon}
 use Rattle.mark_types.specs.Marks.{LocatedWord, located_words, in_paragraph, marks_of}
-use Rattle.document_report.specs.Given.{listed}
-use Rattle.document_report.specs.Reports.{line_of}
+use Rattle.document_report.specs.Given.{lines_if_listed}
+use Rattle.document_report.specs.Reports.{line_of_mark}
 use Rattle.document_report.specs.Texts.{lent}
-use Rattle.document_report.specs.declared.counting.Part.{Part}
+use Rattle.document_report.specs.declared.counting.DocumentPart.{DocumentPart}
 use Rattle.document_report.specs.declared.sharing.Shares.{Shares}
 use Rattle.document_report.specs.declared.printing.Output.{Output}
 use Rattle.document_report.specs.declared.printing.Report.{Report}
@@ -39,23 +39,23 @@ numbered_words lexicon first texts =
     (paragraphs_of texts)
 
 -- a part is no longer than a document, and none of its paragraphs is too long
-abbrev pub IsLimited : Part → Type 0
+abbrev pub IsLimited : DocumentPart → Type 0
 IsLimited part = (part.first + length part.paragraphs.now ≤ MOST_PARAGRAPHS + 1)
     × All (λ paragraph. length paragraph.now ≤ MOST_BYTES) part.paragraphs.now
 
 -- the marks of paragraphs are listed, if marks are to be, and their marks and words are counted
-pub record IsReport
+pub record IsReportOfParts
     (output : Output) (lexicon : Lexicon) (first : ℕ) (texts : List (Bor (List ℕ)))
     (report : Report) : Type 0 where
   pub text : string_bytes report.text
-      ≡ listed output (flat_map line_of (numbered_marks lexicon first texts))
+      ≡ lines_if_listed output (flat_map line_of_mark (numbered_marks lexicon first texts))
   pub marks : report.marks ≡ length (numbered_marks lexicon first texts)
   pub words : report.words ≡ length (numbered_words lexicon first texts)
   pub few : report.words ≤ MOST_BYTES * length texts
   pub fewer : report.marks ≤ report.words
 
-abbrev pub IsCounted : Output → Lexicon → Part → Report → Type 0
-IsCounted output lexicon part = IsReport output lexicon part.first part.paragraphs.now
+abbrev pub IsPartCounted : Output → Lexicon → DocumentPart → Report → Type 0
+IsPartCounted output lexicon part = IsReportOfParts output lexicon part.first part.paragraphs.now
 
 -- the paragraphs of the share at this place, of shares of so many paragraphs
 abbrev pub share_at : ℕ → ℕ → List (Bor (List ℕ)) → List (Bor (List ℕ))
@@ -64,7 +64,7 @@ share_at size place texts = take size (drop (size * place) texts)
 -- a report on the share at this place
 abbrev pub IsOfShare : Output → Lexicon → Shares → ℕ → Report → Type 0
 IsOfShare output lexicon shares place =
-    IsReport output lexicon (shares.part.first + shares.size * place)
+    IsReportOfParts output lexicon (shares.part.first + shares.size * place)
     (share_at shares.size place shares.part.paragraphs.now)
 
 -- each of these reports is one on the share at its place
@@ -75,5 +75,5 @@ AreOfShares output lexicon shares reports = (place : ℕ)
 -- a report on so many first shares together
 abbrev pub IsOfFront : Output → Lexicon → Shares → ℕ → Report → Type 0
 IsOfFront output lexicon shares count =
-    IsReport output lexicon shares.part.first
+    IsReportOfParts output lexicon shares.part.first
     (take (shares.size * count) shares.part.paragraphs.now)

@@ -2,7 +2,7 @@
 use Rattle.std.specs.Prelude.{ℕ, List, [], ◌∷◌, ◌++◌, length, map, codes, encode_utf8_all}
 use Rattle.std.specs.List.{flat_map}
 use Rattle.std.specs.Fmt.{decimal}
-use Rattle.spell_types.specs.declared.Lexicon.{Lexicon}
+use Rattle.mark_types.specs.spell_types.declared.Lexicon.{Lexicon}
 use Rattle.mark_types.specs.Marks.{LocatedWord, located_words, in_paragraph, marks_of}
 use Rattle.mark_types.specs.declared.Mark.{Mark}
 
@@ -18,8 +18,8 @@ mark_line paragraph from to word =
     decimal paragraph
     ++ (space ∷ decimal from ++ (space ∷ decimal to ++ (space ∷ word ++ line_end)))
 
-abbrev pub line_of : LocatedWord → List ℕ
-line_of mark = mark_line mark.paragraph mark.from mark.to (encode_utf8_all mark.characters)
+abbrev pub line_of_mark : LocatedWord → List ℕ
+line_of_mark mark = mark_line mark.paragraph mark.from mark.to (encode_utf8_all mark.characters)
 
 -- how many of how many words are marked
 abbrev pub count_line : ℕ → ℕ → List ℕ
@@ -37,7 +37,7 @@ report_of lexicon paragraphs =
     let marks = marks_of lexicon paragraphs in
     let words = located_words lexicon.affixes.wordchars paragraphs in
     record {
-      text = flat_map line_of marks ++ count_line (length marks) (length words);
+      text = flat_map line_of_mark marks ++ count_line (length marks) (length words);
       marks = length marks;
       words = length words;
     }
@@ -65,8 +65,8 @@ summary_of entries lexicon paragraphs =
 -- the lines of the marks of one paragraph
 abbrev pub paragraph_lines : Lexicon → ℕ → List ℕ → List ℕ
 paragraph_lines lexicon number paragraph =
-    flat_map line_of (map (in_paragraph number) (marks_of lexicon (paragraph ∷ [])))
+    flat_map line_of_mark (map (in_paragraph number) (marks_of lexicon (paragraph ∷ [])))
 
 -- the lines of these marks of the paragraph with this number
-abbrev pub lines_of : ℕ → List Mark → List ℕ
-lines_of number marks = flat_map (λ mark. mark_line number mark.from mark.to mark.word) marks
+abbrev pub mark_lines : ℕ → List Mark → List ℕ
+mark_lines number marks = flat_map (λ mark. mark_line number mark.from mark.to mark.word) marks

@@ -6,13 +6,13 @@ ghost use Rattle.std.specs.Str.{chars};
 ghost use Rattle.std.specs.String.{string_bytes};
 ghost use Rattle.mark_types.specs.Marks.{marks_of};
 ghost use Rattle.mark_types.specs.Words.{words_of};
-ghost use Rattle.document_report.specs.Given.{listed};
-ghost use Rattle.document_report.specs.Parts.{IsCounted, IsLimited};
-ghost use Rattle.document_report.specs.Reports.{lines_of, mark_line, paragraph_lines};
+ghost use Rattle.document_report.specs.Given.{lines_if_listed};
+ghost use Rattle.document_report.specs.Parts.{IsPartCounted, IsLimited};
+ghost use Rattle.document_report.specs.Reports.{mark_lines, mark_line, paragraph_lines};
 ghost use Rattle.paragraph_text.specs.declared.limits.TheConstants.{MOST_BYTES};
 
 use crate::printing::{Output, Report};
-use lists::NoMemory;
+use mark_types::lists::NoMemory;
 use mark_types::{Asker, Judge, Mark, marks_are_local};
 use paragraph_marks::check_counted;
 use std::alloc::{AllocError, Global};
@@ -24,7 +24,7 @@ pub const VERDICTS: usize = 4_096;
 
 /// Paragraphs that stand one after another in a document, and the number of the first of them.
 #[derive(Clone, Copy)]
-pub struct Part<'a> {
+pub struct DocumentPart<'a> {
     pub first: u64,
     pub paragraphs: &'a [&'a str],
 }
@@ -34,10 +34,10 @@ pub fn count_alone<J: Judge + Drop>(
     alloc: Global,
     judge: &Arc<J>,
     output: Output,
-    part: Part<'_>,
+    part: DocumentPart<'_>,
 ) -> Result<Report, NoMemory>
     requires { IsLimited part }
-    ensures { IfOk result (IsCounted output (J.lexicon (arc_value judge.now)) part.entry) }
+    ensures { IfOk result (IsPartCounted output (J.lexicon (arc_value judge.now)) part.entry) }
 {
     let mut asker = Cached::new(alloc, Arc::try_clone(judge)?, VERDICTS)?;
     count(alloc, &mut asker, output, part)
@@ -48,10 +48,10 @@ pub fn count<K: Asker>(
     alloc: Global,
     asker: &mut K,
     output: Output,
-    part: Part<'_>,
+    part: DocumentPart<'_>,
 ) -> Result<Report, NoMemory>
     requires { IsLimited part }
-    ensures counted { IfOk result (IsCounted output (K.lexicon asker.old) part.entry) }
+    ensures counted { IfOk result (IsPartCounted output (K.lexicon asker.old) part.entry) }
     ensures same { K.lexicon asker.new ≡ K.lexicon asker.old }
 {
     marks_are_local();
@@ -90,7 +90,7 @@ impl Report {
         requires fewer { self.old.marks ≤ self.old.words }
         ensures text { OnOk result (string_bytes self.new.text
             ≡ string_bytes self.old.text
-            ++ listed output (paragraph_lines (K.lexicon asker.old) number (chars paragraph.now))) }
+            ++ lines_if_listed output (paragraph_lines (K.lexicon asker.old) number (chars paragraph.now))) }
         ensures marks { OnOk result
             (self.new.marks ≡ self.old.marks
             + length (marks_of (K.lexicon asker.old) (chars paragraph.now ∷ []))) }
@@ -135,7 +135,7 @@ fn push_listed(
 ) -> Result<(), AllocError>
     ensures { OnOk result
         (string_bytes text.new ≡ string_bytes text.old
-        ++ listed output (lines_of number marks.now)) }
+        ++ lines_if_listed output (mark_lines number marks.now)) }
 {
     match output {
         Output::Marks => push_marks(text, number, marks),
@@ -145,7 +145,7 @@ fn push_listed(
 
 fn push_marks(text: &mut String, number: u64, marks: &[Mark]) -> Result<(), AllocError>
     ensures { OnOk result
-        (string_bytes text.new ≡ string_bytes text.old ++ lines_of number marks.now) }
+        (string_bytes text.new ≡ string_bytes text.old ++ mark_lines number marks.now) }
 {
     for mark in marks {
         push_mark(text, number, mark)?;

@@ -3,7 +3,7 @@
 ghost use Rattle.std.specs.Prelude.{◌≡◌};
 ghost use Rattle.document_report.specs.declared.fault.DocumentFault.TheVariants.{NoMemory as OutOfMemory};
 
-use lists::NoMemory;
+use mark_types::lists::NoMemory;
 use std::alloc::AllocFailed;
 
 /// Why there is no report on a document.

@@ -6,8 +6,8 @@
 
 ghost use Rattle.std.specs.Prelude.{◌≡◌};
 ghost use Rattle.std.specs.Arc.{arc_value};
-ghost use Rattle.lists.specs.Answers.{GivesDue};
-ghost use Rattle.document_report.specs.Documents.{MayCome, document_due};
+ghost use Rattle.mark_types.specs.lists.Answers.{GivesDue};
+ghost use Rattle.document_report.specs.Documents.{MayComeOfDocuments, document_due};
 ghost use Rattle.document_report.specs.Given.{printed_by, printed_as};
 
 mod counting;
@@ -39,7 +39,7 @@ pub fn report<R: Threads + Sync, J: Judge + Drop + Send + Sync>(
     output: Output,
     document: &[u8],
 ) -> Result<Report, DocumentFault>
-    ensures due { GivesDue MayCome printed_by
+    ensures due { GivesDue MayComeOfDocuments printed_by
         (document_due (printed_as output) (J.lexicon (arc_value judge.now)) document.now)
         result }
 {

@@ -3,23 +3,24 @@
 
 ghost use Rattle.std.specs.Prelude.{◌≡◌, ◌≤◌, All, IfOk, OnOk, length};
 ghost use Rattle.std.specs.List.{list_any};
-ghost use Rattle.lists.specs.Answers.{GivesDue};
-ghost use Rattle.text_lines.specs.Lines.{bad_line, line_texts};
-ghost use Rattle.text_lines.specs.Texts.{texts_in};
-ghost use Rattle.document_report.specs.Documents.{MayCome, is_long, unless_bad};
-ghost use Rattle.document_report.specs.Documents.{unless_long, unless_many};
+ghost use Rattle.mark_types.specs.lists.Answers.{GivesDue};
+ghost use Rattle.mark_types.specs.text_lines.Lines.{bad_line, line_texts};
+ghost use Rattle.mark_types.specs.text_lines.Texts.{texts_in};
+ghost use Rattle.document_report.specs.Documents.{MayComeOfDocuments, is_long_paragraph};
+ghost use Rattle.document_report.specs.Documents.{texts_unless_bad};
+ghost use Rattle.document_report.specs.Documents.{texts_unless_long, unless_many};
 ghost use Rattle.document_report.specs.Texts.{lent};
 ghost use Rattle.paragraph_text.specs.declared.limits.TheConstants.{MOST_PARAGRAPHS, MOST_BYTES};
 
 use crate::fault::DocumentFault;
+use mark_types::text_lines::{first_line, text_of_file};
 use paragraph_text::{MOST_BYTES, MOST_PARAGRAPHS};
 use std::alloc::Global;
-use text_lines::{first_line, text_of_file};
 
 /// The text of a document, behind a byte order mark.
 pub fn text_of(document: &[u8]) -> Result<&str, DocumentFault>
-    ensures { GivesDue MayCome (λ text. texts_in text.now)
-        (unless_bad (bad_line document.now) (line_texts document.now)) result }
+    ensures { GivesDue MayComeOfDocuments (λ text. texts_in text.now)
+        (texts_unless_bad (bad_line document.now) (line_texts document.now)) result }
 {
     text_of_file(document).map_err(|line| DocumentFault::NotUtf8 { line })
 }
@@ -27,7 +28,7 @@ pub fn text_of(document: &[u8]) -> Result<&str, DocumentFault>
 /// The paragraphs of a text, which are its lines, if they are not too many.
 #[tactic(auto, unfolding(crate::specs::Documents::unless_many))]
 pub fn paragraphs_in<'a>(alloc: Global, text: &'a str) -> Result<Vec<&'a str>, DocumentFault>
-    ensures due { GivesDue MayCome (λ paragraphs. lent paragraphs.items)
+    ensures due { GivesDue MayComeOfDocuments (λ paragraphs. lent paragraphs.items)
         (unless_many (texts_in text.now)) result }
     ensures few { IfOk result (λ paragraphs. length paragraphs.items ≤ MOST_PARAGRAPHS) }
 {
@@ -47,10 +48,10 @@ pub fn paragraphs_in<'a>(alloc: Global, text: &'a str) -> Result<Vec<&'a str>, D
 }
 
 /// Whether no paragraph is too long.
-#[tactic(auto, unfolding(crate::specs::Documents::unless_long))]
+#[tactic(auto, unfolding(crate::specs::Documents::texts_unless_long))]
 pub fn check_lengths(paragraphs: &[&str]) -> Result<(), DocumentFault>
-    ensures due { GivesDue MayCome (λ _. lent paragraphs.now)
-        (unless_long (lent paragraphs.now)) result }
+    ensures due { GivesDue MayComeOfDocuments (λ _. lent paragraphs.now)
+        (texts_unless_long (lent paragraphs.now)) result }
     ensures short { OnOk result
         (All (λ paragraph. length paragraph.now ≤ MOST_BYTES) paragraphs.now) }
 {
@@ -63,7 +64,7 @@ pub fn check_lengths(paragraphs: &[&str]) -> Result<(), DocumentFault>
 }
 
 fn has_long(paragraphs: &[&str]) -> bool
-    ensures { result ≡ list_any (λ paragraph. is_long paragraph.now) paragraphs.now }
+    ensures { result ≡ list_any (λ paragraph. is_long_paragraph paragraph.now) paragraphs.now }
 {
     paragraphs
         .iter()

@@ -6,15 +6,15 @@ ghost use Rattle.std.specs.List.{flat_map};
 ghost use Rattle.std.specs.Str.{chars};
 ghost use Rattle.std.specs.String.{string_bytes};
 ghost use Rattle.mark_types.specs.Marks.{located_words, marks_of};
-ghost use Rattle.document_report.specs.Given.{listed, printed_by, printed_as};
-ghost use Rattle.document_report.specs.Reports.{count_line, line_of, number_line};
+ghost use Rattle.document_report.specs.Given.{lines_if_listed, printed_by, printed_as};
+ghost use Rattle.document_report.specs.Reports.{count_line, line_of_mark, number_line};
 ghost use Rattle.document_report.specs.Reports.{summary_lines};
 ghost use Rattle.document_report.specs.Texts.{lent};
 ghost use Rattle.paragraph_text.specs.declared.limits.TheConstants.{MOST_PARAGRAPHS, MOST_BYTES};
 
-use crate::counting::Part;
+use crate::counting::DocumentPart;
 use crate::sharing::count_in_threads;
-use lists::NoMemory;
+use mark_types::lists::NoMemory;
 use mark_types::{Judge, marks_are_local};
 use std::alloc::{AllocError, Global};
 use std::sync::Arc;
@@ -80,8 +80,8 @@ fn count_all<R: Threads + Sync, J: Judge + Drop + Send + Sync>(
     requires few { length paragraphs.now ≤ MOST_PARAGRAPHS }
     requires short { All (λ paragraph. length paragraph.now ≤ MOST_BYTES) paragraphs.now }
     ensures text { IfOk result (λ report. string_bytes report.text
-        ≡ listed output
-        (flat_map line_of
+        ≡ lines_if_listed output
+        (flat_map line_of_mark
         (marks_of (J.lexicon (arc_value judge.now)) (map chars (lent paragraphs.now))))) }
     ensures marks { IfOk result
         (λ report. report.marks
@@ -91,7 +91,7 @@ fn count_all<R: Threads + Sync, J: Judge + Drop + Send + Sync>(
         (map chars (lent paragraphs.now)))) }
 {
     marks_are_local();
-    let part = Part {
+    let part = DocumentPart {
         first: 1,
         paragraphs,
     };

@@ -4,14 +4,14 @@
 
 ghost use Rattle.std.specs.Prelude.{◌≡◌, ◌+◌, ◌*◌, ◌<◌, ◌≤◌, ℕ, All, IfOk, OnOk, length};
 ghost use Rattle.std.specs.Arc.{arc_value};
-ghost use Rattle.spell_types.specs.declared.Lexicon.{Lexicon};
-ghost use Rattle.document_report.specs.Parts.{AreOfShares, IsCounted, IsLimited, IsOfFront};
+ghost use Rattle.mark_types.specs.spell_types.declared.Lexicon.{Lexicon};
+ghost use Rattle.document_report.specs.Parts.{AreOfShares, IsPartCounted, IsLimited, IsOfFront};
 ghost use Rattle.document_report.specs.Parts.{share_at};
 
-use crate::counting::{Part, VERDICTS, count, count_alone};
+use crate::counting::{DocumentPart, VERDICTS, count, count_alone};
 use crate::printing::{Output, Report};
 use joined_tasks::{Task, perform_each};
-use lists::NoMemory;
+use mark_types::lists::NoMemory;
 use mark_types::{Asker, Judge};
 use std::alloc::Global;
 use std::sync::Arc;
@@ -28,13 +28,13 @@ const MOST_SHARED: u64 = 16;
 /// A part in shares of so many paragraphs, of which the last may have fewer.
 #[derive(Clone, Copy)]
 pub struct Shares<'a> {
-    pub part: Part<'a>,
+    pub part: DocumentPart<'a>,
     pub size: usize,
 }
 
 /// Shares that stand one after another.
 #[derive(Drop)]
-struct Run {
+struct ShareRun {
     /// The place of the next share that none has taken, if it is below the end.
     next: AtomicUsize,
     /// The place behind the last share.
@@ -42,7 +42,7 @@ struct Run {
 }
 
 /// What a thread gives: for each place the report on the share there, if the thread took it.
-type Taken = Result<Vec<Option<Report>>, NoMemory>;
+type TakenShares = Result<Vec<Option<Report>>, NoMemory>;
 
 /// The task of taking and counting shares, those of the run at a thread's place first.
 #[derive(Drop)]
@@ -51,9 +51,9 @@ struct Taker<'a, J> {
     judge: &'a Arc<J>,
     output: Output,
     shares: &'a Shares<'a>,
-    runs: &'a [Run],
+    runs: &'a [ShareRun],
     thread: usize,
-    taken: Taken,
+    taken: TakenShares,
 }
 
 impl<J: Judge + Drop> Task for Taker<'_, J> {
@@ -87,10 +87,10 @@ pub fn count_in_threads<R: Threads + Sync, J: Judge + Drop + Send + Sync>(
     judge: &Arc<J>,
     threads: u64,
     output: Output,
-    part: Part<'_>,
+    part: DocumentPart<'_>,
 ) -> Result<Report, NoMemory>
     requires { IsLimited part }
-    ensures { IfOk result (IsCounted output (J.lexicon (arc_value judge.now)) part.entry) }
+    ensures { IfOk result (IsPartCounted output (J.lexicon (arc_value judge.now)) part.entry) }
 {
     if threads < 2 {
         return count_alone(alloc, judge, output, part);
@@ -126,7 +126,7 @@ impl<'a> Shares<'a> {
     }
 
     /// The share at this place.
-    fn share(&self, place: usize) -> Part<'a>
+    fn share(&self, place: usize) -> DocumentPart<'a>
         requires limited { IsLimited self.now.part }
         requires inside { self.now.size * place < length self.now.part.paragraphs.now }
         ensures first { result.first ≡ self.now.part.first + self.now.size * place }
@@ -136,7 +136,7 @@ impl<'a> Shares<'a> {
     {
         let from = self.size * place;
         let left = &self.part.paragraphs[from..];
-        Part {
+        DocumentPart {
             first: self.part.first + from as u64,
             paragraphs: &left[..self.size.min(left.len())],
         }
@@ -149,7 +149,7 @@ fn takers_of<'a, J: Judge>(
     judge: &'a Arc<J>,
     output: Output,
     shares: &'a Shares<'a>,
-    runs: &'a [Run],
+    runs: &'a [ShareRun],
 ) -> Result<Vec<Taker<'a, J>>, NoMemory>
     ensures { IfOk result (λ takers. All (λ taker.
         (taker.output ≡ output) × (taker.judge.now ≡ judge.now) × (taker.shares.now ≡ shares.now))
@@ -172,14 +172,14 @@ fn takers_of<'a, J: Judge>(
 
 /// So many runs of shares one after another, or fewer, where there are fewer shares. They are nearly
 /// as long as each other.
-fn runs_of(alloc: Global, shares: usize, threads: u64) -> Result<Vec<Run>, NoMemory> {
+fn runs_of(alloc: Global, shares: usize, threads: u64) -> Result<Vec<ShareRun>, NoMemory> {
     let threads = shares.min(threads as usize);
     let mut runs = Vec::with_capacity(alloc, threads)?;
     let mut from = 0;
     for thread in 0..threads {
         let left = shares.saturating_sub(from);
         let end = from + left / (threads - thread);
-        runs.push(Run {
+        runs.push(ShareRun {
             next: AtomicUsize::new(from),
             end,
         })?;
@@ -195,9 +195,9 @@ fn take_shares<J: Judge + Drop>(
     judge: &Arc<J>,
     output: Output,
     shares: &Shares<'_>,
-    runs: &[Run],
+    runs: &[ShareRun],
     thread: usize,
-) -> Taken
+) -> TakenShares
     requires limited { IsLimited shares.now.part }
     requires some { 0 < shares.now.size }
     ensures { IfOk result (AreOfShares output (J.lexicon (arc_value judge.now)) shares.now) }
@@ -233,7 +233,7 @@ fn take_run<K: Asker>(
     asker: &mut K,
     output: Output,
     shares: &Shares<'_>,
-    run: &Run,
+    run: &ShareRun,
     reports: &mut Vec<Option<Report>>,
 ) -> Result<(), NoMemory>
     requires limited { IsLimited shares.now.part }
@@ -267,7 +267,7 @@ fn add_shares<J: Judge + Drop>(
     requires some { 0 < shares.now.size }
     requires taken { All (λ taker. IfOk taker.taken
         (AreOfShares output (J.lexicon (arc_value judge.now)) shares.now)) takers.now }
-    ensures { IfOk result (IsCounted output (J.lexicon (arc_value judge.now)) shares.now.part) }
+    ensures { IfOk result (IsPartCounted output (J.lexicon (arc_value judge.now)) shares.now.part) }
 {
     let mut all = Report::new(alloc);
     for place in 0..shares.count() {

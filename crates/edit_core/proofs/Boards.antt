@@ -1,6 +1,6 @@
 -- What is made of a valid board is valid.
 use Rattle.std.proofs.Common.{◌≡◌, ℕ, ◌+◌, ◌<◌, ◌≤◌, ◌^◌, List, length, arith}
-use Rattle.spell_types.specs.declared.Lexicon.{Lexicon}
+use Rattle.mark_types.specs.spell_types.declared.Lexicon.{Lexicon}
 use Rattle.paragraph_text.specs.Paragraphs.{Paragraph, AreValid}
 use Rattle.paragraph_text.specs.Edits.{next_id_after}
 use Rattle.paragraph_text.specs.declared.edits.Edit.{Edit}

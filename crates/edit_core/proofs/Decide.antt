@@ -5,16 +5,16 @@ use Rattle.std.proofs.Common.{None, Some, ltb, arith}
 use Rattle.std.specs.Option.{option_map, option_map_or, option_or}
 use Rattle.std.proofs.lemmas.Bool.{eqb-true, eq-eqb, false≢true}
 use Rattle.std.proofs.lemmas.Bool.Decides.{nat_tests}
-use Rattle.spell_types.specs.declared.Lexicon.{Lexicon}
+use Rattle.mark_types.specs.spell_types.declared.Lexicon.{Lexicon}
 use Rattle.paragraph_text.specs.Paragraphs.{Paragraph, AreValid}
-use Rattle.paragraph_text.specs.Edits.{IsOnlyOne, next_id_after, first_refusal as edit_refusal}
-use Rattle.paragraph_text.specs.Edits.{IsDecided as IsDecidedEdit}
+use Rattle.paragraph_text.specs.Edits.{IsOnlyOne, next_id_after, edit_refusal}
+use Rattle.paragraph_text.specs.Edits.{IsEditDecided}
 use Rattle.paragraph_text.specs.declared.edits.Edit.{Edit}
 use Rattle.paragraph_text.specs.declared.edits.EditRefusal.{EditRefusal}
 use Rattle.edit_core.specs.Seen.{Seen, IsValidBoard}
 use Rattle.edit_core.specs.Events.{SeenEvent, AnEdit, ALoad, AClaim, AFinish, APark, AnAsk}
 use Rattle.edit_core.specs.Steps.{Edits, IsAt, IsDecided, IsFit, IsFitCheck, Makes, MayClaim}
-use Rattle.edit_core.specs.Steps.{MayFinish, Moves, behind, claim_refusal, event_refusal}
+use Rattle.edit_core.specs.Steps.{MayFinish, Moves, refused_behind, claim_refusal, event_refusal}
 use Rattle.edit_core.specs.Steps.{finish_refusal, first_refusal, gone_or, is_open, kept_after}
 use Rattle.edit_core.specs.Steps.{not_parked, not_waiting, outdated, place_of, refusal_of, reloaded}
 use Rattle.edit_core.specs.Steps.{settled, unless}
@@ -29,7 +29,7 @@ use Rattle.edit_core.proofs.Found.{found-none, found-some, some-at}
 -- the law of edits
 abbrev pub EditsAreDecided : Type 0
 EditsAreDecided = (version next_id : ℕ) (paragraphs : List Paragraph) (edit : Edit)
-    → AreValid version next_id paragraphs → IsDecidedEdit version next_id paragraphs edit
+    → AreValid version next_id paragraphs → IsEditDecided version next_id paragraphs edit
 
 apart : {X Y : Type 0} (x : X) → None ≡ Some x → Y
 apart x is = cc
@@ -166,7 +166,7 @@ edited board edit paragraphs = record board {
 }
 
 edits : (board : Seen) (edit : Edit)
-    → IsDecidedEdit (board.text_version + 1) board.next_id board.paragraphs edit
+    → IsEditDecided (board.text_version + 1) board.next_id board.paragraphs edit
     → Settles (Edits board edit) (option_map refusal_of (edit_refusal board.paragraphs edit))
 edits board edit (inl (applies, free)) =
     inl (only-one, by (edit_refusal board.paragraphs edit) refl)
@@ -202,7 +202,7 @@ may-finish board id rev dict text lexicon fit place paragraph stands here =
     (λ p. let it = fit place paragraph stands here p.0 p.1.0 in
     record { current = p.0; in_force = p.1.0; free = p.1.1; text_is = it.0; lexicon_is = it.1 })
     (λ may. (may.current, (may.in_force, may.free)))
-    (both (behind rev paragraph) (option_or (outdated board dict) (settled paragraph.rev stands))
+    (both (refused_behind rev paragraph) (option_or (outdated board dict) (settled paragraph.rev stands))
     (paragraph.rev ≡ rev) ((board.dict_version ≡ dict) × (is_open stands ≡ true))
     (equal paragraph.rev rev (Behind paragraph.rev))
     (both (outdated board dict) (settled paragraph.rev stands) (board.dict_version ≡ dict)
@@ -230,7 +230,7 @@ settles law board (ALoad lexicon) valid fit =
     )
 settles law board (AClaim worker id rev) valid fit =
     moves board id (MayClaim rev) (standing.Held worker) (claim_refusal rev) valid.standings
-    (λ place paragraph stands here. both (behind rev paragraph) (not_waiting paragraph.rev stands)
+    (λ place paragraph stands here. both (refused_behind rev paragraph) (not_waiting paragraph.rev stands)
     (paragraph.rev ≡ rev) (stands ≡ standing.Waiting)
     (equal paragraph.rev rev (Behind paragraph.rev)) (waits paragraph.rev stands))
 settles law board (AFinish worker id rev dict text lexicon) valid fit =

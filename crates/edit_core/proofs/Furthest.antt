@@ -7,7 +7,7 @@ use Rattle.std.specs.Option.{option_map_or}
 use Rattle.std.proofs.lemmas.Bool.{false≢true}
 use Rattle.std.proofs.lemmas.Option.{none-some, same_Some}
 use Rattle.std.proofs.lemmas.List.Sums.{count_by-le-length, sum_by-cons, sum_by-insert}
-use Rattle.lists.specs.Changes.{Change, SetAt, InsertAt, RemoveAt, changed}
+use Rattle.mark_types.specs.lists.Changes.{Change, SetAt, InsertAt, RemoveAt, changed}
 use Rattle.paragraph_text.specs.Edits.{change_of, kept_after}
 use Rattle.paragraph_text.specs.Paragraphs.{Paragraph}
 use Rattle.paragraph_text.specs.declared.edits.Edit.{Edit}

@@ -3,7 +3,7 @@ use Rattle.std.proofs.Common.{◌≡◌, ◌∙◌, ◌⊎◌, inl, inr, refl, s
 use Rattle.std.proofs.Common.{List, [], ◌∷◌, ◌++◌, Some, arith}
 use Rattle.std.specs.List.{AllByRecursion, AllZip}
 use Rattle.std.proofs.lemmas.Option.{same_Some}
-use Rattle.lists.specs.Laws.{each-middle}
+use Rattle.mark_types.specs.lists.Laws.{each-middle}
 use Rattle.paragraph_text.specs.Paragraphs.{Paragraph, AreValid, HaveOwnIds, IsValidIn}
 use Rattle.paragraph_text.specs.Edits.{Applies, with_id, next_id_after}
 use Rattle.paragraph_text.specs.declared.edits.Edit.{Edit}

@@ -4,14 +4,14 @@ use Rattle.std.proofs.Common.{length, map, set, slice_get, Option, None, Some}
 use Rattle.std.specs.List.{AllZip}
 use Rattle.std.specs.Option.{option_map_or}
 use Rattle.std.proofs.lemmas.List.{map-set}
-use Rattle.lists.specs.Changes.{Change, changed}
-use Rattle.lists.specs.Laws.{map-changed}
-use Rattle.spell_types.specs.declared.Lexicon.{Lexicon}
+use Rattle.mark_types.specs.lists.Changes.{Change, changed}
+use Rattle.mark_types.specs.lists.Laws.{map-changed}
+use Rattle.mark_types.specs.spell_types.declared.Lexicon.{Lexicon}
 use Rattle.paragraph_text.specs.Paragraphs.{Paragraph, AreValid}
 use Rattle.paragraph_text.specs.Edits.{Applies, change_of, kept_after, next_id_after}
 use Rattle.paragraph_text.specs.Laws.{changes}
 use Rattle.paragraph_text.specs.declared.edits.Edit.{Edit}
-use Rattle.edit_core.specs.Seen.{Seen, IsValidBoard, IsTheirs, AreTheirs, standing_of}
+use Rattle.edit_core.specs.Seen.{Seen, IsValidBoard, IsCheckOfParagraph, AreTheirs, standing_of}
 use Rattle.edit_core.specs.Steps.{Edits, Loads, reloaded, reloaded_state}
 use Rattle.edit_core.specs.declared.state.State.{State}
 use Rattle.edit_core.specs.declared.state.State.TheVariants as state
@@ -63,8 +63,8 @@ map-kept {X} {Y} f new paragraphs kept edit = by (change_of paragraphs edit)
 -- ---- the states of a board
 -- a state that holds no check is right wherever it stands
 pub reloaded-theirs : {J : Type 0} (lexicon_of : J → Lexicon) (lexicon lexicon' : Lexicon)
-    (paragraph : Paragraph) (s : State J) → IsTheirs lexicon_of lexicon paragraph s
-    → IsTheirs lexicon_of lexicon' paragraph (reloaded_state s)
+    (paragraph : Paragraph) (s : State J) → IsCheckOfParagraph lexicon_of lexicon paragraph s
+    → IsCheckOfParagraph lexicon_of lexicon' paragraph (reloaded_state s)
 reloaded-theirs lexicon_of lexicon lexicon' paragraph state.Waiting is = tt
 reloaded-theirs lexicon_of lexicon lexicon' paragraph (state.Held worker) is = tt
 reloaded-theirs lexicon_of lexicon lexicon' paragraph state.Parked is = tt
@@ -89,7 +89,7 @@ states-long : {J : Type 0} (lexicon_of : J → Lexicon) (lexicon : Lexicon)
     → AreTheirs lexicon_of lexicon paragraphs states
     → length (map standing_of states) ≡ length paragraphs
 states-long lexicon_of lexicon paragraphs states theirs = map-long standing_of states
-    ∙ length-of-zip (IsTheirs lexicon_of lexicon) paragraphs states theirs
+    ∙ length-of-zip (IsCheckOfParagraph lexicon_of lexicon) paragraphs states theirs
 
 -- ---- one paragraph stands in another way
 pub kept-moved : {J : Type 0} (lexicon_of : J → Lexicon) (point text dict : ℕ) (judge judge' : J)
@@ -97,12 +97,12 @@ pub kept-moved : {J : Type 0} (lexicon_of : J → Lexicon) (point text dict : �
     (s : State J) → IsKept lexicon_of point text dict judge paragraphs states next_id
     → point < 2 ^ 62 → judge' ≡ judge → paragraphs' ≡ paragraphs → states' ≡ set states place s
     → ((paragraph : Paragraph) → slice_get paragraphs place ≡ Some paragraph
-    → IsTheirs lexicon_of (lexicon_of judge) paragraph s)
+    → IsCheckOfParagraph lexicon_of (lexicon_of judge) paragraph s)
     → IsKept lexicon_of (point + 1) text dict judge' paragraphs' states' next_id
 kept-moved {J} lexicon_of point text dict judge judge' paragraphs paragraphs' states states' next_id
     place s kept goes_on judge-is paragraphs-is states-is fits =
     let all : AreTheirs lexicon_of (lexicon_of judge) paragraphs (set states place s) =
-    zip-set (IsTheirs lexicon_of (lexicon_of judge)) paragraphs states place s kept.1
+    zip-set (IsCheckOfParagraph lexicon_of (lexicon_of judge)) paragraphs states place s kept.1
     fits in
     let long : length (map standing_of (set states place s)) ≡ length paragraphs =
     states-long lexicon_of (lexicon_of judge) paragraphs (set states place s) all in
@@ -145,7 +145,7 @@ kept-loaded {J} lexicon_of point text dict judge judge' paragraphs paragraphs' s
     next_id kept goes_on paragraphs-is states-is =
     let again = map reloaded_state states in
     let all : AreTheirs lexicon_of (lexicon_of judge') paragraphs again =
-    zip-map (IsTheirs lexicon_of (lexicon_of judge)) (IsTheirs lexicon_of (lexicon_of judge'))
+    zip-map (IsCheckOfParagraph lexicon_of (lexicon_of judge)) (IsCheckOfParagraph lexicon_of (lexicon_of judge'))
     reloaded_state paragraphs states
     (reloaded-theirs lexicon_of (lexicon_of judge) (lexicon_of judge')) kept.1 in
     let long : length (map standing_of again) ≡ length paragraphs =
@@ -194,7 +194,7 @@ kept-edited {J} lexicon_of point text dict judge judge' paragraphs paragraphs' s
     next_id edit kept goes_on judge-is applied made states-is =
     let behind : List (State J) = kept_after state.Waiting paragraphs states edit in
     let all : AreTheirs lexicon_of (lexicon_of judge) paragraphs' behind =
-    edit-zip (IsTheirs lexicon_of (lexicon_of judge)) state.Waiting states (λ paragraph. tt)
+    edit-zip (IsCheckOfParagraph lexicon_of (lexicon_of judge)) state.Waiting states (λ paragraph. tt)
     (changes (text + 1) next_id paragraphs paragraphs' edit kept.0.paragraphs.own_ids applied)
     kept.1 in
     let long : length (map standing_of behind) ≡ length paragraphs' =

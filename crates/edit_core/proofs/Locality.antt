@@ -8,14 +8,14 @@ use Rattle.std.specs.Str.{chars}
 use Rattle.std.proofs.lemmas.Bool.{eq-eqb, ne_eqb}
 use Rattle.std.proofs.lemmas.List.Elements.{filter-append}
 use Rattle.std.proofs.lemmas.Option.{none-some, same_Some, slice_get-map}
-use Rattle.spell_types.specs.declared.Lexicon.{Lexicon}
+use Rattle.mark_types.specs.spell_types.declared.Lexicon.{Lexicon}
 use Rattle.mark_types.specs.Handed.{mark_of}
 use Rattle.mark_types.specs.Marks.{LocatedWord, in_paragraph, marks_of, one_by_one}
 use Rattle.paragraph_marks.specs.Paragraphs.{marks_in}
 use Rattle.paragraph_text.specs.Paragraphs.{Paragraph}
-use Rattle.edit_core.specs.Seen.{Seen, IsTheirs, standing_of}
+use Rattle.edit_core.specs.Seen.{Seen, IsCheckOfParagraph, standing_of}
 use Rattle.edit_core.specs.Views.{Marked, marks_numbered, shown_alone, shown_as, shown_from}
-use Rattle.edit_core.specs.Views.{texts_of, Shows}
+use Rattle.edit_core.specs.Views.{texts_of_board, ShowsParagraph}
 use Rattle.edit_core.specs.declared.view.ParaView.{ParaView}
 use Rattle.edit_core.specs.declared.state.State.{State}
 use Rattle.edit_core.specs.declared.state.State.TheVariants as state
@@ -152,13 +152,14 @@ pub shown-kept : {J : Type 0} (lexicon_of : J → Lexicon) (board : Seen) (place
     → ((lexicon : Lexicon) (texts : List (List ℕ)) (place : ℕ) (text : List ℕ)
     → slice_get texts place ≡ Some text → marks_numbered lexicon texts (place + 1)
     ≡ marks_in lexicon text) → slice_get board.paragraphs place ≡ Some paragraph
-    → IsTheirs lexicon_of board.lexicon paragraph s → shown_as board (1 + place) (standing_of s)
+    → IsCheckOfParagraph lexicon_of board.lexicon paragraph s
+    → shown_as board (1 + place) (standing_of s)
     ≡ shown_alone lexicon_of s
 shown-kept lexicon_of board place paragraph state.Waiting local at theirs = refl
 shown-kept lexicon_of board place paragraph (state.Held worker) local at theirs = refl
 shown-kept lexicon_of board place paragraph state.Parked local at theirs = refl
 shown-kept lexicon_of board place paragraph (state.Finished checked) local at theirs =
-    let texts = texts_of board in
+    let texts = texts_of_board board in
     let there : slice_get texts place ≡ Some (chars paragraph.text) =
     slice_get-map (λ (p : Paragraph). chars p.text) board.paragraphs place
     ∙ ap (option_map (λ (p : Paragraph). chars p.text)) at in
@@ -169,5 +170,5 @@ shown-kept lexicon_of board place paragraph (state.Finished checked) local at th
 
 -- what is shown of a board is shown of what it is seen as
 pub shows-now : (board now : Seen) (place : ℕ) (view : ParaView) → board ≡ now
-    → Shows board place view → Shows now place view
-shows-now board now place view is shows = subst (λ (b : Seen). Shows b place view) is shows
+    → ShowsParagraph board place view → ShowsParagraph now place view
+shows-now board now place view is shows = subst (λ (b : Seen). ShowsParagraph b place view) is shows

@@ -1,7 +1,7 @@
 -- Texts that may open a history, and the board that they open it with.
 use Rattle.std.proofs.Common.{◌≡◌, ◌∙◌, refl, sym, ap, subst, ℕ, ◌+◌, ◌≤◌, ◌^◌}
 use Rattle.std.proofs.Common.{List, [], ◌∷◌, length, map, arith}
-use Rattle.spell_types.specs.declared.Lexicon.{Lexicon}
+use Rattle.mark_types.specs.spell_types.declared.Lexicon.{Lexicon}
 use Rattle.paragraph_text.specs.Paragraphs.{Paragraph, AreValid, numbered_from}
 use Rattle.paragraph_text.specs.Laws.{numbered-length}
 use Rattle.edit_core.specs.Seen.{IsValidBoard, AreTheirs, opening_of, standing_of}

@@ -7,7 +7,7 @@ use Rattle.std.specs.Option.{option_map, option_map_or}
 use Rattle.std.proofs.lemmas.Bool.Decides.{nat_tests}
 use Rattle.paragraph_text.specs.Paragraphs.{Paragraph}
 use Rattle.std.proofs.lemmas.Option.{none-some, same_Some}
-use Rattle.lists.specs.Changes.{Change, SetAt, InsertAt, RemoveAt, changed}
+use Rattle.mark_types.specs.lists.Changes.{Change, SetAt, InsertAt, RemoveAt, changed}
 use Rattle.paragraph_text.specs.Edits.{IsChanged, kept_after}
 use Rattle.paragraph_text.specs.declared.edits.Edit.{Edit}
 

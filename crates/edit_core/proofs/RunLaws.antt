@@ -4,7 +4,7 @@ use Rattle.std.proofs.Common.{true, false, cond, not, ◌&&◌, ltb, List, [], �
 use Rattle.std.proofs.Common.{slice_get, Some, zero-add, arith}
 use Rattle.std.specs.List.{AllByRecursion, count_by, range_with_len, sum_by}
 use Rattle.std.specs.Str.{chars}
-use Rattle.spell_types.specs.declared.Lexicon.{Lexicon}
+use Rattle.mark_types.specs.spell_types.declared.Lexicon.{Lexicon}
 use Rattle.paragraph_marks.specs.Paragraphs.{marks_in}
 use Rattle.paragraph_text.specs.Paragraphs.{Paragraph}
 use Rattle.std.specs.Option.{option_map}
@@ -12,13 +12,13 @@ use Rattle.std.proofs.lemmas.Bool.{lt-ltb}
 use Rattle.std.proofs.lemmas.Bool.Decides.{nat_tests}
 use Rattle.std.proofs.lemmas.List.Sums.{sum_by-append, sum_by-cons, sum_by_push}
 use Rattle.std.proofs.lemmas.Option.{slice_get-map}
-use Rattle.lists.specs.Laws.{range_more}
+use Rattle.mark_types.specs.lists.Laws.{range_more}
 use Rattle.edit_core.specs.Events.{kind_of}
-use Rattle.edit_core.specs.Runs.{AreQuiet, AreSteps, Entry, IsRun, Run, all_kinds, asked_by}
+use Rattle.edit_core.specs.Runs.{AreQuiet, AreSteps, Entry, IsRun, Run, all_kinds, events_asked_by}
 use Rattle.edit_core.specs.Runs.{asked_kinds, asked_of, entries_by, entries_of, entries_through}
 use Rattle.edit_core.specs.Runs.{is_entry, is_kind, is_quiet, is_workers, last_board}
 use Rattle.edit_core.specs.Seen.{Seen, IsValidBoard}
-use Rattle.edit_core.specs.Views.{Marked, marks_numbered, view_of, texts_of}
+use Rattle.edit_core.specs.Views.{Marked, marks_numbered, view_of, texts_of_board}
 use Rattle.edit_core.specs.declared.event.EventKind.{EventKind}
 use Rattle.edit_core.specs.declared.event.EventKind.TheVariants as kind
 use Rattle.edit_core.specs.declared.state.Standing.TheVariants.{Finished}
@@ -161,7 +161,7 @@ kinds-asked_of entries =
     (λ e. one-asked (λ b. cond b 1 0) refl (kind_of e.event))
 
 pub kinds-asked_by : (by : ℕ) (entries : List Entry)
-    → asked_by by entries ≡ sum_by (λ asked. entries_by asked by entries) asked_kinds
+    → events_asked_by by entries ≡ sum_by (λ asked. entries_by asked by entries) asked_kinds
 kinds-asked_by by entries =
     sum-over (λ asked e. cond (is_entry asked by e) 1 0) asked_kinds
     (λ e. cond (not (is_quiet e.event) && (e.by == by)) 1 0) entries
@@ -252,7 +252,7 @@ pub finished-local : ((lexicon : Lexicon) (texts : List (List ℕ)) (place : ℕ
     → slice_get (view_of board).shown place
     ≡ Some (Marked (marks_in board.lexicon (chars paragraph.text)))
 finished-local local board place paragraph at stands =
-    let texts = texts_of board in
+    let texts = texts_of_board board in
     shown-at board 1 board.standings place Finished stands
     ∙ ap (λ n. Some (Marked (marks_numbered board.lexicon texts n))) (one-on place)
     ∙ ap (λ ms. Some (Marked ms)) (local board.lexicon texts place (chars paragraph.text)

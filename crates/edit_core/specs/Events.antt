@@ -1,7 +1,7 @@
 -- What an event is seen as.
 use Rattle.std.specs.Prelude.{ℕ, List, Option, None, Some}
 use Rattle.std.specs.Arc.{arc_value}
-use Rattle.spell_types.specs.declared.Lexicon.{Lexicon}
+use Rattle.mark_types.specs.spell_types.declared.Lexicon.{Lexicon}
 use Rattle.paragraph_text.specs.declared.edits.Edit.{Edit}
 use Rattle.edit_core.specs.declared.event.Event.{Event}
 use Rattle.edit_core.specs.declared.event.Event.TheVariants as variant

@@ -4,3 +4,4 @@ pub mod Steps
 pub mod Views
 pub mod Laws
 pub mod Runs
+pub use Rattle.paragraph_text.specs as paragraph_text

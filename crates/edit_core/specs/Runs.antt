@@ -2,7 +2,7 @@
 use Rattle.std.specs.Prelude.{◌≡◌, ℕ, ◌+◌, ◌*◌, ◌≤◌, Bool, true, false, not, ◌&&◌, ◌==◌, ◌⊎◌, List}
 use Rattle.std.specs.Prelude.{[], ◌∷◌, Some}
 use Rattle.std.specs.List.{AllZip, count_by}
-use Rattle.spell_types.specs.declared.Lexicon.{Lexicon}
+use Rattle.mark_types.specs.spell_types.declared.Lexicon.{Lexicon}
 use Rattle.paragraph_text.specs.Paragraphs.{Paragraph}
 use Rattle.paragraph_text.specs.Edits.{with_id}
 use Rattle.edit_core.specs.Events.{SeenEvent, ALoad, AFinish, kind_of}
@@ -149,8 +149,8 @@ abbrev pub asked_of : List Entry → ℕ
 asked_of entries = count_by (λ entry. not (is_quiet entry.event)) entries
 
 -- how many events of a history came through a number and are not of workers
-abbrev pub asked_by : ℕ → List Entry → ℕ
-asked_by by entries = count_by (λ entry. not (is_quiet entry.event) && (entry.by == by)) entries
+abbrev pub events_asked_by : ℕ → List Entry → ℕ
+events_asked_by by entries = count_by (λ entry. not (is_quiet entry.event) && (entry.by == by)) entries
 
 -- all events of a stretch are of workers
 abbrev pub AreQuiet : List Entry → Type 0

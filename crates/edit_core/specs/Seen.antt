@@ -3,7 +3,7 @@ use Rattle.std.specs.Prelude.{◌≡◌, ℕ, ◌+◌, ◌≤◌, ◌^◌, ◌==
 use Rattle.std.specs.Prelude.{nat_le, if◌then◌else◌, Option, None, Some}
 use Rattle.std.specs.List.{AllZip}
 use Rattle.std.specs.Option.{option_map, option_or}
-use Rattle.spell_types.specs.declared.Lexicon.{Lexicon}
+use Rattle.mark_types.specs.spell_types.declared.Lexicon.{Lexicon}
 use Rattle.paragraph_text.specs.Paragraphs.{Paragraph, AreValid, numbered_from}
 use Rattle.edit_core.specs.declared.state.Standing.{Standing}
 use Rattle.edit_core.specs.declared.state.Standing.TheVariants.{Waiting, Held, Parked, Finished}
@@ -45,16 +45,17 @@ pub record IsValidBoard (board : Seen) : Type 0 where
   pub point : board.point ≤ 2 ^ 62
 
 -- a check is of this paragraph's text, by this dictionary
-abbrev pub IsTheirs : {J : Type 0} → (J → Lexicon) → Lexicon → Paragraph → State J → Type 0
-IsTheirs lexicon_of lexicon paragraph (OfFinished checked) =
+abbrev pub IsCheckOfParagraph : {J : Type 0} → (J → Lexicon) → Lexicon → Paragraph → State J
+    → Type 0
+IsCheckOfParagraph lexicon_of lexicon paragraph (OfFinished checked) =
     (checked.text ≡ paragraph.text) × (lexicon_of checked.judge ≡ lexicon)
-IsTheirs lexicon_of lexicon paragraph _ = Unit {0}
+IsCheckOfParagraph lexicon_of lexicon paragraph _ = Unit {0}
 
 -- each paragraph that is finished has a check of its own text, by this dictionary
 abbrev pub AreTheirs : {J : Type 0} → (J → Lexicon) → Lexicon → List Paragraph → List (State J)
     → Type 0
 AreTheirs lexicon_of lexicon paragraphs states =
-    AllZip (IsTheirs lexicon_of lexicon) paragraphs states
+    AllZip (IsCheckOfParagraph lexicon_of lexicon) paragraphs states
 
 -- the board that a history opens with: texts that nothing has touched, and that all wait
 abbrev pub opening_of : Lexicon → List (List ℕ) → Seen
@@ -76,14 +77,14 @@ pub record IsOpening (board : Seen) : Type 0 where
 -- ---- why texts are no opening board
 
 -- a text at a place has too many bytes
-abbrev pub too_long : ℕ → ℕ → Option OpeningFault
-too_long place size = if nat_le size MOST_BYTES then None else Some (TooLong place size)
+abbrev pub opening_too_long : ℕ → ℕ → Option OpeningFault
+opening_too_long place size = if nat_le size MOST_BYTES then None else Some (TooLong place size)
 
 -- what is wrong with the text at a place
 abbrev pub text_fault : ℕ → List ℕ → Option OpeningFault
 text_fault place text =
     option_or (option_map (λ at. HasBreak place at) (position (λ byte. byte == 10) text))
-    (too_long place (length text))
+    (opening_too_long place (length text))
 
 -- what is wrong with the first of the texts, of which the first has this place, that is not right
 abbrev pub fault_from : ℕ → List (List ℕ) → Option OpeningFault

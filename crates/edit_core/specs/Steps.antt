@@ -3,11 +3,11 @@ use Rattle.std.specs.Prelude.{◌≡◌, ℕ, ◌+◌, ◌<◌, ◌^◌, Bool, t
 use Rattle.std.specs.Prelude.{find, nat_lt, slice_get, Option, None, Some}
 use Rattle.std.specs.List.{zip}
 use Rattle.std.specs.Option.{option_map, option_map_or, option_or}
-use Rattle.spell_types.specs.declared.Lexicon.{Lexicon}
+use Rattle.mark_types.specs.spell_types.declared.Lexicon.{Lexicon}
 use Rattle.paragraph_text.specs.Paragraphs.{Paragraph}
 pub use Rattle.paragraph_text.specs.Edits.{kept_after, place_of}
 use Rattle.paragraph_text.specs.Edits.{Applies, IsOnlyOne, next_id_after}
-use Rattle.paragraph_text.specs.Edits.{first_refusal as edit_refusal}
+use Rattle.paragraph_text.specs.Edits.{edit_refusal}
 use Rattle.paragraph_text.specs.declared.edits.Edit.{Edit}
 use Rattle.paragraph_text.specs.declared.edits.EditRefusal.{EditRefusal}
 use Rattle.paragraph_text.specs.declared.edits.EditRefusal.TheVariants as edits
@@ -121,7 +121,7 @@ found id board = find (λ row. row.0.id == id) (zip board.paragraphs board.stand
 
 -- the first paragraph with an id stands at a place, with a rev and in a way, and it is the one that
 -- is found
-pub record IsFoundAt (board : Seen) (id place rev : ℕ) (stands : Standing) : Type 0 where
+pub record IsBoardFoundAt (board : Seen) (id place rev : ℕ) (stands : Standing) : Type 0 where
   pub paragraph : Paragraph
   pub here : IsAt board id place paragraph stands
   pub rev_is : rev ≡ paragraph.rev
@@ -152,8 +152,8 @@ abbrev pub gone_or : ℕ → Seen → (Paragraph → Standing → Option Refusal
 gone_or id board asked = option_map_or (λ row. asked row.0 row.1) (found id board) (Some (Gone id))
 
 -- the paragraph has another rev
-abbrev pub behind : ℕ → Paragraph → Option Refusal
-behind rev paragraph = unless (paragraph.rev == rev) (Behind paragraph.rev)
+abbrev pub refused_behind : ℕ → Paragraph → Option Refusal
+refused_behind rev paragraph = unless (paragraph.rev == rev) (Behind paragraph.rev)
 
 -- the paragraph does not wait
 abbrev pub not_waiting : ℕ → Standing → Option Refusal
@@ -180,11 +180,11 @@ outdated board dict = unless (board.dict_version == dict) (Reloaded board.dict_v
 
 abbrev pub claim_refusal : ℕ → Paragraph → Standing → Option Refusal
 claim_refusal rev paragraph stands =
-    option_or (behind rev paragraph) (not_waiting paragraph.rev stands)
+    option_or (refused_behind rev paragraph) (not_waiting paragraph.rev stands)
 
 abbrev pub finish_refusal : Seen → ℕ → ℕ → Paragraph → Standing → Option Refusal
 finish_refusal board rev dict paragraph stands =
-    option_or (behind rev paragraph)
+    option_or (refused_behind rev paragraph)
     (option_or (outdated board dict) (settled paragraph.rev stands))
 
 -- the first refusal that a board shows for an event while its history goes on

@@ -4,7 +4,7 @@ use Rattle.std.specs.Prelude.{length, slice_get, Option, None, Some}
 use Rattle.std.specs.Arc.{arc_value}
 use Rattle.std.specs.List.{count_by}
 use Rattle.std.specs.Str.{chars}
-use Rattle.spell_types.specs.declared.Lexicon.{Lexicon}
+use Rattle.mark_types.specs.spell_types.declared.Lexicon.{Lexicon}
 use Rattle.mark_types.specs.Handed.{mark_of}
 use Rattle.mark_types.specs.Marks.{marks_of}
 use Rattle.mark_types.specs.declared.Mark.{Mark}
@@ -33,8 +33,8 @@ shown_in (Marks marks) = Marked marks.now
 shown_in (Pending parked held_by) = Unmarked parked held_by
 
 -- the texts of a board, as characters
-abbrev pub texts_of : Seen → List (List ℕ)
-texts_of board = map (λ paragraph. chars paragraph.text) board.paragraphs
+abbrev pub texts_of_board : Seen → List (List ℕ)
+texts_of_board board = map (λ paragraph. chars paragraph.text) board.paragraphs
 
 -- the marks of the paragraph with a number, from 1, among the marks of all texts together
 unfoldable pub marks_numbered : Lexicon → List (List ℕ) → ℕ → List Mark
@@ -47,7 +47,7 @@ shown_as board number standing.Waiting = Unmarked false None
 shown_as board number (standing.Held worker) = Unmarked false (Some worker)
 shown_as board number standing.Parked = Unmarked true None
 shown_as board number standing.Finished =
-    Marked (marks_numbered board.lexicon (texts_of board) number)
+    Marked (marks_numbered board.lexicon (texts_of_board board) number)
 
 -- what is shown of a paragraph that is kept so, by its own check
 abbrev pub shown_alone : {J : Type 0} → (J → Lexicon) → State J → ShownMarks
@@ -78,7 +78,7 @@ view_of board = record {
 }
 
 -- what is seen of the paragraph at a place, from 0
-pub record Shows (board : Seen) (place : ℕ) (view : ParaView) : Type 0 where
+pub record ShowsParagraph (board : Seen) (place : ℕ) (view : ParaView) : Type 0 where
   pub paragraph : Paragraph
   pub at : slice_get board.paragraphs place ≡ Some paragraph
   pub id : view.id ≡ paragraph.id

@@ -5,8 +5,8 @@ ghost use Rattle.std.specs.Arc.{arc_value};
 ghost use Rattle.edit_core.specs.Seen.{IsValidBoard};
 
 use crate::state::State;
-use lists::SharedItems;
 use mark_types::Judge;
+use mark_types::lists::SharedItems;
 use paragraph_text::Paragraphs;
 use std::marker::Model;
 use std::sync::Arc;

@@ -10,7 +10,8 @@ ghost use Rattle.paragraph_text.specs.Edits.{with_id};
 ghost use Rattle.edit_core.specs.Events.{SeenEvent, kind_of};
 ghost use Rattle.edit_core.specs.Runs.{AreFit, AreQuiet, AreSteps, Entry, IsOfBoard, IsQuiet};
 ghost use Rattle.edit_core.specs.Runs.{IsReplayed, IsRun, OnlyGrew, Replays, Run, all_kinds};
-ghost use Rattle.edit_core.specs.Runs.{asked_by, asked_kinds, asked_of, entries_by, entries_of};
+ghost use Rattle.edit_core.specs.Runs.{events_asked_by, asked_kinds, asked_of, entries_by};
+ghost use Rattle.edit_core.specs.Runs.{entries_of};
 ghost use Rattle.edit_core.specs.Runs.{entries_through, furthest_point, is_entry, is_kind};
 ghost use Rattle.edit_core.specs.Runs.{is_quiet, last_board};
 ghost use Rattle.edit_core.specs.Seen.{IsOpening, IsValidBoard, Seen};
@@ -133,7 +134,7 @@ pub fn kinds_add_up()
     ensures asked_of { (entries : List Entry)
         → asked_of entries ≡ sum_by (λ asked. entries_of asked entries) asked_kinds }
     ensures asked_by { (by : ℕ) (entries : List Entry)
-        → asked_by by entries ≡ sum_by (λ asked. entries_by asked by entries) asked_kinds }
+        → events_asked_by by entries ≡ sum_by (λ asked. entries_by asked by entries) asked_kinds }
 {}
 
 /// How many entries came through a number, and how many are asked: those of a history's parts
@@ -143,18 +144,18 @@ pub fn numbers_add_up()
     ensures through { (by : ℕ) (front back : List Entry)
         → entries_through by (front ++ back) ≡ entries_through by front + entries_through by back }
     ensures asked_by { (by : ℕ) (front back : List Entry)
-        → asked_by by (front ++ back) ≡ asked_by by front + asked_by by back }
+        → events_asked_by by (front ++ back) ≡ events_asked_by by front + events_asked_by by back }
     ensures asked_of { (front back : List Entry)
         → asked_of (front ++ back) ≡ asked_of front + asked_of back }
     ensures front_through { (by : ℕ) (front back : List Entry)
         → entries_through by front ≤ entries_through by (front ++ back) }
     ensures front_asked_by { (by : ℕ) (front back : List Entry)
-        → asked_by by front ≤ asked_by by (front ++ back) }
+        → events_asked_by by front ≤ events_asked_by by (front ++ back) }
     ensures front_asked_of { (front back : List Entry) → asked_of front ≤ asked_of (front ++ back) }
     ensures one_through { (by : ℕ) (entry : Entry)
         → entries_through by (entry ∷ []) ≡ (if entry.by == by then 1 else 0) }
     ensures one_asked_by { (by : ℕ) (entry : Entry)
-        → asked_by by (entry ∷ [])
+        → events_asked_by by (entry ∷ [])
         ≡ (if not (is_quiet entry.event) && (entry.by == by) then 1 else 0) }
     ensures one_asked_of { (entry : Entry)
         → asked_of (entry ∷ []) ≡ (if not (is_quiet entry.event) then 1 else 0) }

@@ -22,6 +22,7 @@ pub use laws::{
 };
 pub use limits::{MOST_MOVED, moves_are_bounded};
 pub use opening::OpeningFault;
+pub use paragraph_text;
 pub use refusal::Refusal;
 pub use state::{Standing, State};
 pub use view::{ParaView, Progress, Shown, Versions, shown_marks_are_local};

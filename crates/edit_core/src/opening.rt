@@ -4,21 +4,21 @@ ghost use Rattle.std.specs.Prelude.{◌≡◌, ◌≤◌, ◌==◌, None, Some, 
 ghost use Rattle.std.specs.Prelude.{OnOk};
 ghost use Rattle.std.specs.Arc.{arc_value};
 ghost use Rattle.std.specs.List.{AllByRecursion};
-ghost use Rattle.lists.specs.Answers.{IsDueOr};
+ghost use Rattle.mark_types.specs.lists.Answers.{IsDueOr};
 ghost use Rattle.paragraph_text.specs.Paragraphs.{HasNoBreak};
-ghost use Rattle.edit_core.specs.Seen.{opening_fault, opening_of, text_fault, too_long};
+ghost use Rattle.edit_core.specs.Seen.{opening_fault, opening_of, text_fault, opening_too_long};
 ghost use Rattle.edit_core.specs.declared.opening.OpeningFault.TheVariants.{NoMemory as OutOfMemory};
 ghost use Rattle.edit_core.specs.declared.state.State.TheVariants.{Waiting as OfWaiting};
 ghost use Rattle.paragraph_text.specs.declared.limits.TheConstants.{MOST_BYTES, MOST_PARAGRAPHS};
 
 use crate::board::Board;
 use crate::state::State;
-use lists::{NoMemory, SharedItems};
 use mark_types::Judge;
+use mark_types::lists::{NoMemory, SharedItems};
+use mark_types::text_lines::Text;
 use paragraph_text::{MOST_BYTES, MOST_PARAGRAPHS, Paragraphs, openings_are_valid};
 use std::alloc::{AllocError, Global};
 use std::sync::Arc;
-use text_lines::Text;
 
 /// Why texts are no opening board: that there are too many, or what is wrong with the first that is
 /// not right.
@@ -126,8 +126,8 @@ fn first_break(text: &str) -> Option<usize>
 /// Whether a paragraph may have so many bytes.
 fn check_length(place: u64, size: usize) -> Result<(), OpeningFault>
     ensures short { OnOk result (size ≤ MOST_BYTES) }
-    ensures right { OnOk result (too_long place size ≡ None) }
-    ensures refused { IfErr result (λ fault. too_long place size ≡ Some fault) }
+    ensures right { OnOk result (opening_too_long place size ≡ None) }
+    ensures refused { IfErr result (λ fault. opening_too_long place size ≡ Some fault) }
 {
     if size <= MOST_BYTES {
         Ok(())

@@ -4,7 +4,7 @@ ghost use Rattle.std.specs.Prelude.{◌≡◌};
 ghost use Rattle.edit_core.specs.Steps.{refusal_of};
 ghost use Rattle.edit_core.specs.declared.refusal.Refusal.TheVariants.{NoMemory as OutOfMemory};
 
-use lists::NoMemory;
+use mark_types::lists::NoMemory;
 use paragraph_text::EditRefusal;
 use std::alloc::AllocError;
 

@@ -8,8 +8,8 @@ ghost use Rattle.edit_core.specs.Steps.{IsFit};
 use crate::board::Board;
 use crate::event::Event;
 use crate::refusal::Refusal;
-use lists::NoMemory;
 use mark_types::Judge;
+use mark_types::lists::NoMemory;
 use std::alloc::Global;
 
 impl<J: Judge + Drop> Board<J> {

@@ -7,8 +7,8 @@ ghost use Rattle.edit_core.specs.Steps.{reloaded_state};
 ghost use Rattle.edit_core.specs.Views.{is_finished, is_parked, shown_alone, shown_in};
 
 use crate::view::Shown;
-use lists::{Copied, NoMemory};
 use mark_types::Judge;
+use mark_types::lists::{Copied, NoMemory};
 use paragraph_marks::Checked;
 use std::alloc::Global;
 

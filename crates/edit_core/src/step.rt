@@ -4,12 +4,12 @@ ghost use Rattle.std.specs.Prelude.{◌≡◌, ◌+◌, ◌<◌, ◌^◌, ◌==�
 ghost use Rattle.std.specs.Prelude.{map, set, slice_get, IfOk, IfErr, IfSome, OnOk, OnErr, IfNone};
 ghost use Rattle.std.specs.Arc.{arc_value};
 ghost use Rattle.std.specs.Option.{option_map};
-ghost use Rattle.lists.specs.Answers.{IsDueOr};
+ghost use Rattle.mark_types.specs.lists.Answers.{IsDueOr};
 ghost use Rattle.paragraph_text.specs.Paragraphs.{Paragraph};
-ghost use Rattle.paragraph_text.specs.Edits.{first_refusal as edit_refusal, next_id_after};
-ghost use Rattle.edit_core.specs.Seen.{IsTheirs, standing_of};
+ghost use Rattle.paragraph_text.specs.Edits.{edit_refusal, next_id_after};
+ghost use Rattle.edit_core.specs.Seen.{IsCheckOfParagraph, standing_of};
 ghost use Rattle.edit_core.specs.Events.{event_of};
-ghost use Rattle.edit_core.specs.Steps.{Edits, IsFit, IsFitCheck, IsFoundAt, Loads, MayClaim};
+ghost use Rattle.edit_core.specs.Steps.{Edits, IsFit, IsFitCheck, IsBoardFoundAt, Loads, MayClaim};
 ghost use Rattle.edit_core.specs.Steps.{MayFinish, Moves, Step, claim_refusal, finish_refusal};
 ghost use Rattle.edit_core.specs.Steps.{first_refusal, found, gone_or, is_open, not_parked};
 ghost use Rattle.edit_core.specs.Steps.{not_waiting, outdated, refusal_of, reloaded_state, settled};
@@ -23,8 +23,8 @@ use crate::board::Board;
 use crate::event::Event;
 use crate::refusal::Refusal;
 use crate::state::{Standing, State};
-use lists::{Copied, NoMemory, SharedItems};
 use mark_types::Judge;
+use mark_types::lists::{Copied, NoMemory, SharedItems};
 use paragraph_marks::Checked;
 use paragraph_text::{Edit, apply_near, kept_beside};
 use std::alloc::Global;
@@ -35,7 +35,7 @@ const LAST_POINT: u64 = 1 << 62;
 
 /// Where a paragraph stands on a board, with its rev and how it stands.
 #[derive(Clone, Copy, Debug)]
-struct Found {
+struct FoundParagraph {
     place: usize,
     rev: u64,
     standing: Standing,
@@ -207,8 +207,8 @@ impl<J: Judge + Drop> Board<J> {
 
     /// Where the paragraph with an id stands, or that it is gone. It is looked for at a place
     /// first.
-    fn current(&self, id: u64, near: usize) -> Result<Found, Refusal>
-        ensures found { IfOk result (λ row. IsFoundAt self.now id row.place row.rev row.standing) }
+    fn current(&self, id: u64, near: usize) -> Result<FoundParagraph, Refusal>
+        ensures found { IfOk result (λ row. IsBoardFoundAt self.now id row.place row.rev row.standing) }
         ensures inside { IfOk result (λ row. row.place < length self.now.standings) }
         ensures gone { IfErr result (λ refusal. refusal ≡ Gone id) }
         ensures none { OnErr result (found id self.now ≡ None) }
@@ -220,10 +220,10 @@ impl<J: Judge + Drop> Board<J> {
     }
 
     /// Where the paragraph with an id stands.
-    fn found(&self, id: u64, near: usize) -> Option<Found>
+    fn found(&self, id: u64, near: usize) -> Option<FoundParagraph>
         ensures none { IfNone result (found id self.now ≡ None) }
         ensures found { IfSome result
-            (λ row. IsFoundAt self.now id row.place row.rev row.standing) }
+            (λ row. IsBoardFoundAt self.now id row.place row.rev row.standing) }
         ensures inside { IfSome result (λ row. row.place < length self.now.standings) }
     {
         match self.paragraphs.place_near(id, near) {
@@ -232,7 +232,7 @@ impl<J: Judge + Drop> Board<J> {
                 None => None,
                 Some(para) => match self.states.get(place) {
                     None => None,
-                    Some(state) => Some(Found {
+                    Some(state) => Some(FoundParagraph {
                         place,
                         rev: para.rev,
                         standing: state.standing(),
@@ -261,7 +261,7 @@ impl<J: Judge + Drop> Board<J> {
         requires inside { place < length self.now.standings }
         requires theirs { (paragraph : Paragraph) → slice_get self.now.paragraphs place
             ≡ Some paragraph
-            → IsTheirs J.lexicon self.now.lexicon paragraph state }
+            → IsCheckOfParagraph J.lexicon self.now.lexicon paragraph state }
         ensures { IfOk result (λ after. after ≡ record self.now {
           point = self.now.point + 1;
           standings = set self.now.standings place (standing_of state);
@@ -280,7 +280,7 @@ impl<J: Judge + Drop> Board<J> {
     }
 }
 
-impl Found {
+impl FoundParagraph {
     /// Whether the paragraph has a rev.
     fn check_rev(&self, rev: u64) -> Result<(), Refusal>
         ensures current { OnOk result (self.now.rev ≡ rev) }

@@ -3,21 +3,22 @@
 ghost use Rattle.std.specs.Prelude.{◌≡◌, ◌+◌, ◌≤◌, ℕ, List, None, Some, length, position};
 ghost use Rattle.std.specs.Prelude.{slice_get, IfNone, IfSome};
 ghost use Rattle.std.specs.List.{AllByRecursion, count_by};
-ghost use Rattle.spell_types.specs.declared.Lexicon.{Lexicon};
+ghost use Rattle.mark_types.specs.spell_types.declared.Lexicon.{Lexicon};
 ghost use Rattle.paragraph_marks.specs.Paragraphs.{marks_in};
 ghost use Rattle.edit_core.specs.Runs.{is_waiting};
 ghost use Rattle.edit_core.specs.Seen.{IsValidBoard, standing_of};
 ghost use Rattle.edit_core.specs.Steps.{place_of};
-ghost use Rattle.edit_core.specs.Views.{Shows, is_finished, is_parked, marks_numbered, progress_of};
+ghost use Rattle.edit_core.specs.Views.{ShowsParagraph, is_finished, is_parked, marks_numbered};
+ghost use Rattle.edit_core.specs.Views.{progress_of};
 ghost use Rattle.edit_core.specs.Views.{shown_in, versions_of};
 ghost use Rattle.edit_core.specs.declared.state.Standing.TheVariants.{Waiting};
 
 use crate::board::Board;
 use crate::state::State;
-use lists::SharedItems;
+use mark_types::lists::SharedItems;
+use mark_types::text_lines::Text;
 use mark_types::{Judge, Marks, marks_are_local};
 use std::sync::Arc;
-use text_lines::Text;
 
 /// What a board shows of one paragraph.
 #[derive(Clone, Copy, Debug)]
@@ -69,7 +70,7 @@ impl<J: Judge> Board<J> {
     /// those that it has among the marks of all texts of the board together.
     pub fn para(&self, place: usize) -> Option<ParaView<'_>>
         ensures none { IfNone result (length self.now.paragraphs ≤ place) }
-        ensures some { IfSome result (Shows self.now place) }
+        ensures some { IfSome result (ShowsParagraph self.now place) }
     {
         shown_marks_are_local();
         match self.paragraphs.get(place) {
@@ -92,7 +93,7 @@ impl<J: Judge> Board<J> {
     pub fn para_near(&self, id: u64, near: usize) -> Option<(usize, ParaView<'_>)>
         ensures none { IfNone result (place_of id self.now.paragraphs ≡ None) }
         ensures at { IfSome result (λ found. place_of id self.now.paragraphs ≡ Some found.0) }
-        ensures some { IfSome result (λ found. Shows self.now found.0 found.1) }
+        ensures some { IfSome result (λ found. ShowsParagraph self.now found.0 found.1) }
     {
         match self.paragraphs.place_near(id, near) {
             None => None,

@@ -2,19 +2,19 @@
 
 ghost use Rattle.std.specs.Prelude.{◌≡◌, IfErr, IfOk, OnErr, OnOk};
 ghost use Rattle.std.specs.Arc.{arc_value};
-ghost use Rattle.lists.specs.Answers.{IsDueOr};
-ghost use Rattle.edit_core.specs.Events.{ALoad, APark, AnAsk, AnEdit};
-ghost use Rattle.edit_core.specs.Steps.{first_refusal};
-ghost use Rattle.edit_core.specs.Views.{progress_of};
-ghost use Rattle.edit_core.specs.declared.refusal.Refusal.TheVariants.{NoMemory as OutOfMemory};
+ghost use Rattle.mark_types.specs.lists.Answers.{IsDueOr};
+ghost use Rattle.board_share.specs.edit_core.Events.{ALoad, APark, AnAsk, AnEdit};
+ghost use Rattle.board_share.specs.edit_core.Steps.{first_refusal};
+ghost use Rattle.board_share.specs.edit_core.Views.{progress_of};
+ghost use Rattle.board_share.specs.edit_core.declared.refusal.Refusal.TheVariants.{NoMemory as OutOfMemory};
 ghost use Rattle.board_share.specs.Events.{IsPublished};
 ghost use Rattle.board_share.specs.Eyes.{CountsNothing, CountsOne, IsLater, last_of};
 
+use board_share::edit_core::{Board, Event, Progress, Refusal};
+use board_share::paragraph_text::Edit;
 use board_share::{Desk, Eye, Naming, Told};
-use edit_core::{Board, Event, Progress, Refusal};
-use lists::NoMemory;
 use mark_types::Judge;
-use paragraph_text::Edit;
+use mark_types::lists::NoMemory;
 use std::alloc::Global;
 use std::sync::{Arc, Wait};
 

@@ -1,9 +1,9 @@
 -- What is due of a dictionary and of the list behind it, step by step.
 use Rattle.std.proofs.Common.{◌≡◌, ◌∙◌, inl, inr, ℕ, List, Option, Some, None, Result, Ok, IsErrAnd}
 use Rattle.std.proofs.Common.{refl, ap}
-use Rattle.lists.specs.AnswerLaws.{fails-then, gives-fault, gives-then}
-use Rattle.lists.specs.Answers.{failing, FailsAs, GivesDue}
-use Rattle.outside.specs.Files.{Folder, MayCome as FileMayCome}
+use Rattle.outside.specs.lists.AnswerLaws.{fails-then, gives-fault, gives-then}
+use Rattle.outside.specs.lists.Answers.{failing, FailsAs, GivesDue}
+use Rattle.outside.specs.Files.{Folder, MayComeOfFiles}
 use Rattle.outside.specs.declared.faults.FileFault.{FileFault}
 use Rattle.outside.specs.declared.faults.FileFault.TheVariants.{Failed as FileFailed}
 use Rattle.outside.specs.declared.faults.FileFault.TheVariants.{NoMemory as FileWanting}
@@ -11,12 +11,13 @@ use Rattle.std.specs.Option.{option_map}
 use Rattle.std.specs.Prelude.{is_some}
 use Rattle.spell_types.specs.declared.Affixes.{Affixes}
 use Rattle.spell_types.specs.declared.Lexicon.{Lexicon}
-use Rattle.personal_words.specs.declared.items.OwnItem.{OwnItem}
-use Rattle.personal_words.specs.Faults.{Fault as OwnLineFault, IsTold as ListTold}
-use Rattle.personal_words.specs.declared.faults.OwnFault.{OwnFault as ListFault}
-use Rattle.personal_words.specs.declared.faults.OwnFault.TheVariants.{At, NoMemory as ListWanting}
-use Rattle.personal_words.specs.Dictionaries.{OwnSeen}
-use Rattle.dictionary_swap.specs.Loads.{DictionaryFiles}
+use Rattle.own_dictionary.specs.personal_words.declared.items.OwnItem.{OwnItem}
+use Rattle.own_dictionary.specs.personal_words.Faults.{OwnFaultAtLine, IsOwnFaultTold}
+use Rattle.own_dictionary.specs.personal_words.declared.faults.OwnFault.{OwnFault as ListFault}
+use Rattle.own_dictionary.specs.personal_words.declared.faults.OwnFault.TheVariants.{At}
+use Rattle.own_dictionary.specs.personal_words.declared.faults.OwnFault.TheVariants.{NoMemory as ListWanting}
+use Rattle.own_dictionary.specs.personal_words.Dictionaries.{OwnSeen}
+use Rattle.own_dictionary.specs.dictionary_swap.Loads.{DictionaryFiles}
 use Rattle.console_board.specs.Transcripts.{IsThere}
 use Rattle.file_loading.specs.Due.{IsListThere, IsOwnThere, MayCome, OwnFiles, base_due}
 use Rattle.file_loading.specs.Due.{dictionary_due, own_due}
@@ -25,15 +26,15 @@ use Rattle.file_loading.specs.Operands.{DictionaryNamed}
 use Rattle.file_loading.specs.declared.failure.Failure.{Failure}
 use Rattle.file_loading.specs.DueLaws.{any-file, file_failure}
 
-pub file-comes : (limit : ℕ) (fault : FileFault) → FileMayCome fault
+pub file-comes : (limit : ℕ) (fault : FileFault) → MayComeOfFiles fault
     → MayCome (file_failure limit fault)
 file-comes limit FileFailed comes = tt
 file-comes limit FileWanting comes = tt
 file-comes limit _ comes = absurd comes
 
 -- what is told of a personal list is its fault, or that memory is wanting
-pub own-fails : (read : Result (List OwnItem) OwnLineFault) (fault : ListFault)
-    → ListTold read fault → FailsAs MayCome (failing own_failure read) (failure_of_own fault)
+pub own-fails : (read : Result (List OwnItem) OwnFaultAtLine) (fault : ListFault)
+    → IsOwnFaultTold read fault → FailsAs MayCome (failing own_failure read) (failure_of_own fault)
 own-fails read (At line why) is = inr (ap (failing own_failure) is)
 own-fails read ListWanting is = inl tt
 

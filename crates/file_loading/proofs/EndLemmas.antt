@@ -1,8 +1,10 @@
 -- No failure has the status 0.
 use Rattle.std.proofs.Common.{◌≡◌, ◌∙◌, ℕ, ◌==◌, false, List, Option, refl, ap}
-use Rattle.dictionary_swap.specs.declared.fault.LoadFault.TheVariants.{Failed as FailedLoad, Aff}
-use Rattle.dictionary_swap.specs.declared.fault.LoadFault.TheVariants.{Dic, Missing, TooLong}
-use Rattle.dictionary_swap.specs.declared.fault.LoadFault.TheVariants.{NoMemory as LoadWanting}
+use Rattle.own_dictionary.specs.dictionary_swap.declared.fault.LoadFault.TheVariants.{Failed as FailedLoad}
+use Rattle.own_dictionary.specs.dictionary_swap.declared.fault.LoadFault.TheVariants.{Aff}
+use Rattle.own_dictionary.specs.dictionary_swap.declared.fault.LoadFault.TheVariants.{Dic, Missing}
+use Rattle.own_dictionary.specs.dictionary_swap.declared.fault.LoadFault.TheVariants.{TooLong}
+use Rattle.own_dictionary.specs.dictionary_swap.declared.fault.LoadFault.TheVariants.{NoMemory as LoadWanting}
 use Rattle.document_report.specs.declared.fault.DocumentFault.TheVariants.{LongParagraph, NotUtf8}
 use Rattle.document_report.specs.declared.fault.DocumentFault.TheVariants.{TooManyParagraphs}
 use Rattle.document_report.specs.declared.fault.DocumentFault.TheVariants.{NoMemory as ReportWanting}

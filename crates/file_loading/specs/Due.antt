@@ -1,20 +1,21 @@
 -- What is due of the files that words name: what they say, or why the call fails.
 use Rattle.std.specs.Prelude.{◌≡◌, ℕ, List, [], Option, Some, None, is_some, Result, Ok}
 use Rattle.std.specs.Option.{option_map}
-use Rattle.lists.specs.Answers.{◌>>=◌, failing}
+use Rattle.outside.specs.lists.Answers.{◌>>=◌, failing}
 use Rattle.outside.specs.Files.{Folder, file_due}
 use Rattle.spell_types.specs.declared.Lexicon.{Lexicon}
 use Rattle.spell_types.specs.declared.Affixes.{Affixes}
-use Rattle.personal_words.specs.declared.items.OwnItem.{OwnItem}
-use Rattle.personal_words.specs.Faults.{own_read}
-use Rattle.personal_words.specs.Dictionaries.{OwnSeen, in_force}
-use Rattle.dictionary_swap.specs.Loads.{DictionaryFiles, found_in, lexicon_due, load_fault_of}
-use Rattle.dictionary_swap.specs.declared.fault.LoadFault.TheVariants.{Failed}
+use Rattle.own_dictionary.specs.personal_words.declared.items.OwnItem.{OwnItem}
+use Rattle.own_dictionary.specs.personal_words.Faults.{own_read}
+use Rattle.own_dictionary.specs.personal_words.Dictionaries.{OwnSeen, in_force}
+use Rattle.own_dictionary.specs.dictionary_swap.Loads.{DictionaryFiles, found_in, lexicon_due}
+use Rattle.own_dictionary.specs.dictionary_swap.Loads.{load_fault_of}
+use Rattle.own_dictionary.specs.dictionary_swap.declared.fault.LoadFault.TheVariants.{Failed}
 use Rattle.file_loading.specs.Failures.{failure_of, own_failure}
 use Rattle.file_loading.specs.Operands.{DictionaryNamed}
 use Rattle.file_loading.specs.declared.failure.Failure.{Failure}
 use Rattle.file_loading.specs.declared.failure.Failure.TheVariants.{Load, NoMemory}
-use Rattle.dictionary_swap.specs.declared.limits.TheConstants.{SIZE_LIMIT}
+use Rattle.own_dictionary.specs.dictionary_swap.declared.limits.TheConstants.{SIZE_LIMIT}
 
 -- what there is of the files of a dictionary and, where one is named, of a personal list: the bytes
 -- of each, if it is there
@@ -27,8 +28,8 @@ unfoldable pub base_due : DictionaryFiles → Result Lexicon Failure
 base_due files = failing failure_of (lexicon_due files)
 
 -- what is due of a file that may have so many bytes: nothing but its bytes
-unfoldable pub bytes_due : ℕ → Option (List ℕ) → Result (List ℕ) Failure
-bytes_due limit file =
+unfoldable pub bytes_due_of_file : ℕ → Option (List ℕ) → Result (List ℕ) Failure
+bytes_due_of_file limit file =
     failing (λ fault. failure_of (load_fault_of limit fault)) (file_due limit file)
 
 -- what is due of the bytes of a personal list, read by these affixes: its items
@@ -38,7 +39,7 @@ items_due affixes bytes = failing own_failure (own_read affixes bytes)
 -- what is due of the file of a personal list
 unfoldable pub list_due : Affixes → Option (List ℕ) → Result (List OwnItem) Failure
 list_due affixes file = do
-  bytes ← bytes_due SIZE_LIMIT file
+  bytes ← bytes_due_of_file SIZE_LIMIT file
   items_due affixes bytes
 
 -- where none is named, there are no items

@@ -2,19 +2,19 @@
 use Rattle.std.proofs.Common.{Bool, ◌≡◌, ◌⊎◌, inl, inr, ℕ, ◌<◌, true, List, [], Option, Some, None}
 use Rattle.std.proofs.Common.{IfSome, Result, Ok, Err, IfErr, IsErrAnd, refl, sym, subst}
 use Rattle.std.proofs.lemmas.Result.{IfErr-at_err}
-use Rattle.lists.specs.Answers.{◌>>=◌, failing, FailsAs}
+use Rattle.outside.specs.lists.Answers.{◌>>=◌, failing, FailsAs}
 use Rattle.outside.specs.Files.{Folder, file_due}
 use Rattle.outside.specs.declared.faults.FileFault.{FileFault}
 use Rattle.spell_types.specs.declared.Affixes.{Affixes}
-use Rattle.personal_words.specs.Faults.{own_read}
-use Rattle.dictionary_swap.specs.declared.limits.TheConstants.{SIZE_LIMIT}
-use Rattle.dictionary_swap.specs.Loads.{DictionaryFiles, MayCome as LoadMayCome, found_in}
-use Rattle.dictionary_swap.specs.Loads.{lexicon_due, load_fault_of}
-use Rattle.dictionary_swap.specs.declared.fault.LoadFault.{LoadFault}
-use Rattle.dictionary_swap.specs.declared.fault.LoadFault.TheVariants.{Failed as FailedLoad}
-use Rattle.dictionary_swap.specs.declared.fault.LoadFault.TheVariants.{NoMemory as LoadWanting}
+use Rattle.own_dictionary.specs.personal_words.Faults.{own_read}
+use Rattle.own_dictionary.specs.dictionary_swap.declared.limits.TheConstants.{SIZE_LIMIT}
+use Rattle.own_dictionary.specs.dictionary_swap.Loads.{DictionaryFiles, MayComeOfLoads, found_in}
+use Rattle.own_dictionary.specs.dictionary_swap.Loads.{lexicon_due, load_fault_of}
+use Rattle.own_dictionary.specs.dictionary_swap.declared.fault.LoadFault.{LoadFault}
+use Rattle.own_dictionary.specs.dictionary_swap.declared.fault.LoadFault.TheVariants.{Failed as FailedLoad}
+use Rattle.own_dictionary.specs.dictionary_swap.declared.fault.LoadFault.TheVariants.{NoMemory as LoadWanting}
 use Rattle.console_board.specs.Transcripts.{IsThere}
-use Rattle.file_loading.specs.Due.{IsFileThere, MayCome, OwnFiles, base_due, bytes_due}
+use Rattle.file_loading.specs.Due.{IsFileThere, MayCome, OwnFiles, base_due, bytes_due_of_file}
 use Rattle.file_loading.specs.Due.{dictionary_due, in_force_due, items_due, list_due, own_due}
 use Rattle.file_loading.specs.Failures.{failure_of, is_fault, own_failure}
 use Rattle.file_loading.specs.Forms.{IsCaused, Met}
@@ -31,7 +31,7 @@ comes-as (Load FailedLoad) comes = inl refl
 comes-as NoMemory comes = inr refl
 comes-as _ comes = absurd comes
 
-pub load-comes : (fault : LoadFault) → LoadMayCome fault → MayCome (failure_of fault)
+pub load-comes : (fault : LoadFault) → MayComeOfLoads fault → MayCome (failure_of fault)
 load-comes FailedLoad comes = tt
 load-comes LoadWanting comes = tt
 load-comes _ comes = absurd comes
@@ -67,8 +67,8 @@ then-told (Err failure) next told later = told
 abbrev pub file_failure : ℕ → FileFault → Failure
 file_failure limit fault = failure_of (load_fault_of limit fault)
 
-pub bytes-told : (limit : ℕ) (file : Option (List ℕ)) → IfErr (bytes_due limit file) IsTold
-unfolding bytes_due
+pub bytes-told : (limit : ℕ) (file : Option (List ℕ)) → IfErr (bytes_due_of_file limit file) IsTold
+unfolding bytes_due_of_file
 bytes-told limit file =
     failing-told (file_failure limit) (λ fault. load-told (load_fault_of limit fault))
     (file_due limit file)
@@ -80,7 +80,7 @@ items-told affixes bytes = failing-told own_failure (λ fault. inr refl) (own_re
 list-told : (affixes : Affixes) (file : Option (List ℕ)) → IfErr (list_due affixes file) IsTold
 unfolding list_due
 list-told affixes file =
-    then-told (bytes_due SIZE_LIMIT file) _ (bytes-told SIZE_LIMIT file) (items-told affixes)
+    then-told (bytes_due_of_file SIZE_LIMIT file) _ (bytes-told SIZE_LIMIT file) (items-told affixes)
 
 own-told : (affixes : Affixes) (there : Option (Option (List ℕ)))
     → IfErr (own_due affixes there) IsTold

@@ -3,7 +3,7 @@ use Rattle.std.proofs.Common.{Bool, ◌≡◌, ◌∙◌, ℕ, ◌<◌, true, fa
 use Rattle.outside.specs.Laws.{appends-front, appends-more}
 use Rattle.outside.specs.Sink.{Appends}
 use Rattle.file_loading.specs.Ends.{EndsAs, IsEndPut, IsPut, Whole, Cut}
-use Rattle.file_loading.specs.Forms.{IsCaused, Met, is_alone}
+use Rattle.file_loading.specs.Forms.{IsCaused, Met, is_the_only_line}
 use Rattle.file_loading.specs.declared.ending.End.{End}
 use Rattle.file_loading.specs.declared.ending.End.TheVariants.{Failed}
 use Rattle.file_loading.specs.declared.failure.Failure.TheVariants.{Input}
@@ -61,15 +61,15 @@ call-ends-weaker fails weak ends = record {
 
 -- an end that is not the only line, and is not that of a failed input, has no other cause
 pub goes-on : {has_form : Bool} {met : Met} {text : List ℕ} {end : End}
-    → is_alone end ≡ false
+    → is_the_only_line end ≡ false
     → (end ≡ Failed Input → met.reading.faults_before < met.reading.faults_after)
     → IsCaused has_form met text end
 goes-on {end = end} more input = record {
-  words = λ is. other (ap is_alone is);
-  files = λ is. other (ap is_alone is);
+  words = λ is. other (ap is_the_only_line is);
+  files = λ is. other (ap is_the_only_line is);
   input = input;
   alone = λ is. other is;
 }
   where
-    other : {A : Type 0} → is_alone end ≡ true → A
+    other : {A : Type 0} → is_the_only_line end ≡ true → A
     other is = let never : true ≡ false = sym is ∙ more in absurd (cc)

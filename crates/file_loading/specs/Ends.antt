@@ -1,6 +1,6 @@
 -- How a call may end: with which status, and what is written by then.
 use Rattle.std.specs.Prelude.{◌≡◌, ℕ, Bool, true, false, List, [], ◌++◌, Option, Some}
-use Rattle.lists.specs.Answers.{IsDueOr}
+use Rattle.outside.specs.lists.Answers.{IsDueOr}
 use Rattle.outside.specs.Sink.{Appends, AppendsFront}
 use Rattle.file_loading.specs.Failures.{last_line, status_of}
 use Rattle.file_loading.specs.declared.ending.End.{End}
@@ -14,9 +14,9 @@ status_at Marked = 1
 status_at (Failed failure) = status_of failure
 
 -- whether all was done, and nothing is marked
-abbrev pub is_quiet : End → Bool
-is_quiet Quiet = true
-is_quiet _ = false
+abbrev pub ends_without_marks : End → Bool
+ends_without_marks Quiet = true
+ends_without_marks _ = false
 
 -- the last line, if there is one
 abbrev pub tail_of : End → List ℕ

@@ -2,14 +2,17 @@
 use Rattle.std.specs.Prelude.{ℕ, Bool, true, false, List, ◌++◌, codes}
 use Rattle.std.specs.Fmt.{decimal}
 use Rattle.aff_lines.specs.Faults.{why_name as aff_why_name}
-use Rattle.dic_reader.specs.Faults.{why_name as dic_why_name}
-use Rattle.personal_words.specs.Faults.{Fault as OwnFault, why_name as own_why_name}
-use Rattle.personal_words.specs.declared.faults.OwnFault.{OwnFault as ListFault}
-use Rattle.personal_words.specs.declared.faults.OwnFault.TheVariants.{At, NoMemory as ListWanting}
-use Rattle.dictionary_swap.specs.declared.fault.LoadFault.{LoadFault}
-use Rattle.dictionary_swap.specs.declared.fault.LoadFault.TheVariants.{Failed, Missing, TooLong}
-use Rattle.dictionary_swap.specs.declared.fault.LoadFault.TheVariants.{Aff, Dic}
-use Rattle.dictionary_swap.specs.declared.fault.LoadFault.TheVariants.{NoMemory as LoadWanting}
+use Rattle.dic_reader.specs.Faults.{dic_cause_name}
+use Rattle.own_dictionary.specs.personal_words.Faults.{OwnFaultAtLine, own_cause_name}
+use Rattle.own_dictionary.specs.personal_words.declared.faults.OwnFault.{OwnFault as ListFault}
+use Rattle.own_dictionary.specs.personal_words.declared.faults.OwnFault.TheVariants.{At}
+use Rattle.own_dictionary.specs.personal_words.declared.faults.OwnFault.TheVariants.{NoMemory as ListWanting}
+use Rattle.own_dictionary.specs.dictionary_swap.declared.fault.LoadFault.{LoadFault}
+use Rattle.own_dictionary.specs.dictionary_swap.declared.fault.LoadFault.TheVariants.{Failed}
+use Rattle.own_dictionary.specs.dictionary_swap.declared.fault.LoadFault.TheVariants.{Missing}
+use Rattle.own_dictionary.specs.dictionary_swap.declared.fault.LoadFault.TheVariants.{TooLong}
+use Rattle.own_dictionary.specs.dictionary_swap.declared.fault.LoadFault.TheVariants.{Aff, Dic}
+use Rattle.own_dictionary.specs.dictionary_swap.declared.fault.LoadFault.TheVariants.{NoMemory as LoadWanting}
 use Rattle.document_report.specs.declared.fault.DocumentFault.{DocumentFault}
 use Rattle.document_report.specs.declared.fault.DocumentFault.TheVariants.{NotUtf8}
 use Rattle.document_report.specs.declared.fault.DocumentFault.TheVariants.{TooManyParagraphs}
@@ -62,7 +65,7 @@ load_line Failed = codes "files\n"
 load_line Missing = codes "missing\n"
 load_line (TooLong limit) = limit_line limit
 load_line (Aff line why) = fault_line (codes "aff") line (aff_why_name why)
-load_line (Dic line why) = fault_line (codes "dic") line (dic_why_name why)
+load_line (Dic line why) = fault_line (codes "dic") line (dic_cause_name why)
 load_line LoadWanting = codes "memory\n"
 
 abbrev pub document_line : DocumentFault → List ℕ
@@ -74,7 +77,7 @@ document_line ReportWanting = codes "memory\n"
 unfoldable pub last_line : Failure → List ℕ
 last_line Words = codes "affedit: words\n"
 last_line (Load fault) = load_line fault
-last_line (Own line why) = fault_line (codes "own") line (own_why_name why)
+last_line (Own line why) = fault_line (codes "own") line (own_cause_name why)
 last_line (Document fault) = document_line fault
 last_line (ManyForms limit) = limit_line limit
 last_line (Script line) = codes "script " ++ (decimal line ++ codes "\n")
@@ -92,7 +95,7 @@ failure_of (Aff line why) = Load (Aff line why)
 failure_of (Dic line why) = Load (Dic line why)
 failure_of LoadWanting = NoMemory
 
-abbrev pub own_failure : OwnFault → Failure
+abbrev pub own_failure : OwnFaultAtLine → Failure
 own_failure fault = Own fault.line fault.why
 
 -- the failure that a fault of a personal list is told as; want of memory is one thing

@@ -4,7 +4,7 @@ use Rattle.std.specs.Prelude.{◌≡◌, ℕ, ◌==◌, ◌<◌, Bool, true, fal
 use Rattle.std.specs.Bool.{OnFalse}
 use Rattle.outside.specs.Files.{Folder}
 use Rattle.edit_core.specs.Runs.{Run}
-use Rattle.dictionary_swap.specs.declared.fault.LoadFault.TheVariants.{Failed as FailedLoad}
+use Rattle.own_dictionary.specs.dictionary_swap.declared.fault.LoadFault.TheVariants.{Failed as FailedLoad}
 use Rattle.input_lines.specs.Ends.{Reading}
 use Rattle.input_lines.specs.declared.reading_end.ReadingEnd.TheVariants as reading
 use Rattle.file_loading.specs.declared.ending.End.{End}
@@ -44,21 +44,21 @@ IsClosedAfter opens status closed = is_some closed ≡ (opens && (status == 0))
 
 -- where words, files or a document are refused, or a dictionary has too many forms to be listed,
 -- that is the only line
-abbrev pub is_alone : End → Bool
-is_alone (Failed Words) = true
-is_alone (Failed (Load fault)) = true
-is_alone (Failed (Own line why)) = true
-is_alone (Failed (Document fault)) = true
-is_alone (Failed (ManyForms limit)) = true
-is_alone (Failed (Script line)) = true
-is_alone _ = false
+abbrev pub is_the_only_line : End → Bool
+is_the_only_line (Failed Words) = true
+is_the_only_line (Failed (Load fault)) = true
+is_the_only_line (Failed (Own line why)) = true
+is_the_only_line (Failed (Document fault)) = true
+is_the_only_line (Failed (ManyForms limit)) = true
+is_the_only_line (Failed (Script line)) = true
+is_the_only_line _ = false
 
 -- the causes of ends, of words that are of a form or of none
 pub record IsCaused (has_form : Bool) (met : Met) (text : List ℕ) (end : End) : Type 0 where
   pub words : end ≡ Failed Words → has_form ≡ false
   pub files : end ≡ Failed (Load FailedLoad) → met.files_before < met.files_after
   pub input : end ≡ Failed Input → met.reading.faults_before < met.reading.faults_after
-  pub alone : is_alone end ≡ true → text ≡ []
+  pub alone : is_the_only_line end ≡ true → text ≡ []
 
 -- what words may be answered: what their form may be, with its cause; what the form does not need
 -- stays untouched

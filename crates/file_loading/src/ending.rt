@@ -1,7 +1,7 @@
 //! How a call ends, and the writing of it.
 
 ghost use Rattle.std.specs.Prelude.{◌≡◌, ◌==◌, ◌<◌, ◌≤◌, false};
-ghost use Rattle.file_loading.specs.Ends.{IsEndPut, IsPut, is_quiet, status_at, tail_of};
+ghost use Rattle.file_loading.specs.Ends.{IsEndPut, IsPut, ends_without_marks, status_at, tail_of};
 
 use crate::failure::Failure;
 use outside::Sink;
@@ -49,7 +49,7 @@ impl End {
 pub fn put_end<K: Sink>(alloc: Global, out: &mut K, end: End) -> u8
     ensures puts { IsEndPut end (K.faults out.old < K.faults out.new) (K.written out.old)
         (K.written out.new) result }
-    ensures zero { (result == 0) ≡ is_quiet end }
+    ensures zero { (result == 0) ≡ ends_without_marks end }
     ensures count { K.faults out.old ≤ K.faults out.new }
 {
     match end {

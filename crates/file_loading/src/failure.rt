@@ -7,10 +7,10 @@ ghost use Rattle.file_loading.specs.Failures.{document_failure, document_line, d
 ghost use Rattle.file_loading.specs.Failures.{failure_of, failure_of_own, fault_line, last_line};
 ghost use Rattle.file_loading.specs.Failures.{limit_line, load_line, load_status, status_of};
 
-use dictionary_swap::LoadFault;
 use document_report::DocumentFault;
-use lists::NoMemory;
-use personal_words::{OwnFault, OwnWhy};
+use outside::lists::NoMemory;
+use own_dictionary::dictionary_swap::LoadFault;
+use own_dictionary::personal_words::{OwnFault, OwnWhy};
 use std::alloc::{AllocError, AllocFailed};
 
 /// Why a call failed. Lines count from 1.

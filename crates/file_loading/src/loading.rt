@@ -3,25 +3,25 @@
 ghost use Rattle.std.specs.Prelude.{◌≡◌, ◌<◌, ◌≤◌, ℕ, List, length, Option, IfOk, IsErrOf};
 ghost use Rattle.std.specs.Arc.{arc_value};
 ghost use Rattle.std.specs.Option.{option_copied};
-ghost use Rattle.lists.specs.Answers.{GivesDue};
+ghost use Rattle.outside.specs.lists.Answers.{GivesDue};
 ghost use Rattle.console_board.specs.Transcripts.{IsThere};
-ghost use Rattle.dictionary_swap.specs.Loads.{DictionaryFiles};
-ghost use Rattle.dictionary_swap.specs.declared.fault.LoadFault.TheVariants.{Failed};
-ghost use Rattle.dictionary_swap.specs.declared.limits.TheConstants.{SIZE_LIMIT};
-ghost use Rattle.personal_words.specs.Dictionaries.{IsBase, in_force};
+ghost use Rattle.own_dictionary.specs.dictionary_swap.Loads.{DictionaryFiles};
+ghost use Rattle.own_dictionary.specs.dictionary_swap.declared.fault.LoadFault.TheVariants.{Failed};
+ghost use Rattle.own_dictionary.specs.dictionary_swap.declared.limits.TheConstants.{SIZE_LIMIT};
+ghost use Rattle.own_dictionary.specs.personal_words.Dictionaries.{IsLoadedBase, in_force};
 ghost use Rattle.file_loading.specs.Due.{IsFileThere, IsListThere, IsOwnThere, MayCome, OwnFiles};
-ghost use Rattle.file_loading.specs.Due.{base_due, bytes_due, dictionary_due, in_force_due};
+ghost use Rattle.file_loading.specs.Due.{base_due, bytes_due_of_file, dictionary_due, in_force_due};
 ghost use Rattle.file_loading.specs.Due.{items_due, list_due, own_due};
 ghost use Rattle.file_loading.specs.declared.failure.Failure.TheVariants.{Load};
 
 use crate::failure::Failure;
 use crate::names::DictionaryNames;
 use affix_strip::Stems;
-use dictionary_swap::{LoadFault, SIZE_LIMIT, load_lexicon};
-use lists::NoMemory;
+use outside::lists::NoMemory;
 use outside::{Files, load_file};
 use own_dictionary::OwnDictionary;
-use personal_words::{OwnList, extend_with, read_own};
+use own_dictionary::dictionary_swap::{LoadFault, SIZE_LIMIT, load_lexicon};
+use own_dictionary::personal_words::{OwnList, extend_with, read_own};
 use spell_types::{Affixes, Lexicon};
 use std::alloc::Global;
 use std::marker::Model;
@@ -32,13 +32,13 @@ use word_verdict::Speller;
 /// What a dictionary is made of: its base, and the items of a personal list. Contracts see it as
 /// the dictionary.
 #[derive(Drop)]
-pub struct Parts {
+pub struct DictionaryParts {
     pub base: Lexicon,
     pub own: OwnList,
 }
 
-impl Model for Parts {
-    ghost use Rattle.personal_words.specs.Dictionaries.{OwnSeen};
+impl Model for DictionaryParts {
+    ghost use Rattle.own_dictionary.specs.personal_words.Dictionaries.{OwnSeen};
 
     ghost Value = { OwnSeen };
 
@@ -59,7 +59,7 @@ pub fn load_dictionary<F: Files>(
     ensures same { F.told files.new ≡ F.told files.old }
     ensures count { F.faults files.old ≤ F.faults files.new }
 {
-    let Parts { base, own } = load_parts(alloc, files, names)?;
+    let DictionaryParts { base, own } = load_parts(alloc, files, names)?;
     Ok(OwnDictionary::new(alloc, base, own)?)
 }
 
@@ -68,17 +68,17 @@ pub fn load_parts<F: Files>(
     alloc: Global,
     files: &mut F,
     names: &DictionaryNames<'_>,
-) -> Result<Parts, Failure>
+) -> Result<DictionaryParts, Failure>
     ensures due { (there : OwnFiles) × IsOwnThere (F.told files.old) names.now there
         × GivesDue MayCome (λ parts. parts) (dictionary_due there) result }
-    ensures base { IfOk result (λ parts. IsBase parts.base) }
+    ensures base { IfOk result (λ parts. IsLoadedBase parts.base) }
     ensures failed { IsErrOf result (Load Failed) → F.faults files.old < F.faults files.new }
     ensures same { F.told files.new ≡ F.told files.old }
     ensures count { F.faults files.old ≤ F.faults files.new }
 {
     let base = load_base(alloc, files, names.aff, names.dic)?;
     let own = load_own(alloc, files, &base.affixes, names.own)?;
-    Ok(Parts { base, own })
+    Ok(DictionaryParts { base, own })
 }
 
 /// The same, to be asked, which threads may share.
@@ -98,11 +98,11 @@ pub fn load_judge<F: Files>(
 }
 
 /// The dictionary that is made of these parts, to be asked.
-pub fn judge_made(alloc: Global, parts: Parts) -> Result<Arc<Speller>, NoMemory>
-    requires { IsBase parts.base }
+pub fn judge_made(alloc: Global, parts: DictionaryParts) -> Result<Arc<Speller>, NoMemory>
+    requires { IsLoadedBase parts.base }
     ensures { IfOk result (λ judge. arc_value judge ≡ in_force parts) }
 {
-    let Parts { base, own } = parts;
+    let DictionaryParts { base, own } = parts;
     let lexicon = extend_with(alloc, base, &own)?;
     let stems = Stems::new(alloc, lexicon)?;
     judge_of(alloc, stems)
@@ -113,12 +113,12 @@ pub fn judge_made(alloc: Global, parts: Parts) -> Result<Arc<Speller>, NoMemory>
 pub fn judge_in_threads<R: Threads + Sync>(
     rt: &R,
     alloc: Global,
-    parts: Parts,
+    parts: DictionaryParts,
 ) -> Result<Arc<Speller>, NoMemory>
-    requires { IsBase parts.base }
+    requires { IsLoadedBase parts.base }
     ensures { IfOk result (λ judge. arc_value judge ≡ in_force parts) }
 {
-    let Parts { base, own } = parts;
+    let DictionaryParts { base, own } = parts;
     let lexicon = extend_with(alloc, base, &own)?;
     let stems = Stems::in_threads(rt, alloc, lexicon)?;
     judge_of(alloc, stems)
@@ -148,7 +148,7 @@ pub fn load_base<F: Files>(
 ) -> Result<Lexicon, Failure>
     ensures due { (there : DictionaryFiles) × IsThere (F.told files.old) aff.now dic.now there
         × GivesDue MayCome (λ base. base) (base_due there) result }
-    ensures base { IfOk result IsBase }
+    ensures base { IfOk result IsLoadedBase }
     ensures failed { IsErrOf result (Load Failed) → F.faults files.old < F.faults files.new }
     ensures same { F.told files.new ≡ F.told files.old }
     ensures count { F.faults files.old ≤ F.faults files.new }
@@ -215,7 +215,7 @@ pub fn load_bytes<F: Files>(
     limit: u64,
 ) -> Result<Vec<u8>, Failure>
     ensures due { (file : Option (List ℕ)) × IsFileThere (F.told files.old) name.now file
-        × GivesDue MayCome (λ bytes. bytes.items) (bytes_due limit file) result }
+        × GivesDue MayCome (λ bytes. bytes.items) (bytes_due_of_file limit file) result }
     ensures bounded { IfOk result (λ bytes. length bytes.items ≤ limit) }
     ensures failed { IsErrOf result (Load Failed) → F.faults files.old < F.faults files.new }
     ensures same { F.told files.new ≡ F.told files.old }

@@ -95,7 +95,8 @@ one_flag kind text = option_and_then only_of (listed_flags kind text)
 
 -- how a reader of flags goes on in a text: it lists none, or this flag and then what a shorter rest
 -- lists
-abbrev pub GoesOn : (List ℕ → Option (List Flag)) → List ℕ → Option (Flag × Bor (List ℕ)) → Type 0
-GoesOn listed text None = listed text ≡ None
-GoesOn listed text (Some (flag, rest)) =
+abbrev pub FlagTextGoesOn : (List ℕ → Option (List Flag)) → List ℕ → Option (Flag × Bor (List ℕ))
+    → Type 0
+FlagTextGoesOn listed text None = listed text ≡ None
+FlagTextGoesOn listed text (Some (flag, rest)) =
     (listed text ≡ with_first flag (listed rest.now)) × (length rest.now < length text)

@@ -5,7 +5,7 @@ ghost use Rattle.std.specs.Char.{encode_utf8};
 ghost use Rattle.std.specs.Str.{chars};
 ghost use Rattle.spell_types.specs.Flags.{IsOrdinary};
 ghost use Rattle.flag_sets.specs.FlagTexts.{listed_flags, character_flags, long_flags};
-ghost use Rattle.flag_sets.specs.FlagTexts.{number_flags, flag_of_item, GoesOn};
+ghost use Rattle.flag_sets.specs.FlagTexts.{number_flags, flag_of_item, FlagTextGoesOn};
 
 use spell_types::{Flag, FlagKind};
 use text_lines::decimal;
@@ -16,7 +16,7 @@ const HIGHEST: u64 = 65000;
 /// The first flag that a text lists, and the rest of the text, which lists the others.
 pub(crate) fn first_flag(kind: FlagKind, text: &str) -> Option<(Flag, &str)>
     requires { 0 < length text.now }
-    ensures goes_on { GoesOn (listed_flags kind) text.now result }
+    ensures goes_on { FlagTextGoesOn (listed_flags kind) text.now result }
     ensures ordinary { IfSome result (λ found. IsOrdinary found.0) }
 {
     match kind {
@@ -28,7 +28,7 @@ pub(crate) fn first_flag(kind: FlagKind, text: &str) -> Option<(Flag, &str)>
 
 fn first_character(text: &str) -> Option<(Flag, &str)>
     requires { 0 < length text.now }
-    ensures goes_on { GoesOn character_flags text.now result }
+    ensures goes_on { FlagTextGoesOn character_flags text.now result }
     ensures ordinary { IfSome result (λ found. IsOrdinary found.0) }
 {
     let (character, rest) = next_character(text)?;
@@ -37,7 +37,7 @@ fn first_character(text: &str) -> Option<(Flag, &str)>
 
 fn first_pair(text: &str) -> Option<(Flag, &str)>
     requires { 0 < length text.now }
-    ensures goes_on { GoesOn long_flags text.now result }
+    ensures goes_on { FlagTextGoesOn long_flags text.now result }
     ensures ordinary { IfSome result (λ found. IsOrdinary found.0) }
 {
     let (first, more) = next_character(text)?;
@@ -48,7 +48,7 @@ fn first_pair(text: &str) -> Option<(Flag, &str)>
 
 fn first_number(text: &str) -> Option<(Flag, &str)>
     requires { 0 < length text.now }
-    ensures goes_on { GoesOn number_flags text.now result }
+    ensures goes_on { FlagTextGoesOn number_flags text.now result }
     ensures ordinary { IfSome result (λ found. IsOrdinary found.0) }
 {
     let Some((item, rest)) = text.split_once(',') else {

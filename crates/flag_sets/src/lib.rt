@@ -11,10 +11,10 @@ ghost use Rattle.flag_sets.specs.FlagTexts.{listed_flags, alias_of, alias_field,
 ghost use Rattle.flag_sets.specs.FlagTexts.{one_flag};
 
 use crate::first::first_flag;
-use lists::{Copied, NoMemory};
 use spell_types::{Flag, FlagKind, FlagSet, sets_have_their_flags};
 use std::alloc::Global;
 use text_lines::decimal;
+use text_lines::lists::{Copied, NoMemory};
 
 mod first;
 mod slashes;

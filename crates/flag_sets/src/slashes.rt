@@ -8,9 +8,9 @@ ghost use Rattle.std.specs.Str.{chars};
 ghost use Rattle.flag_sets.specs.Slashes.{IsWordPlain, is_plain, before_slash, behind_slash};
 
 use crate::first::next_character;
-use lists::{Items, NoMemory};
 use spell_types::Chars;
 use std::alloc::Global;
+use text_lines::lists::{Items, NoMemory};
 
 /// Adds the characters of a text up to its first slash that no backslash precedes, and gives the
 /// text behind that slash, if there is one. `\/` adds a slash. Where memory is wanting the word

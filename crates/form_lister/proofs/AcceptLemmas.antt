@@ -6,12 +6,12 @@ use Rattle.std.specs.List.{list_any, list_all}
 use Rattle.std.proofs.lemmas.Bool.{and_from, or_left, or_right}
 use Rattle.std.proofs.lemmas.Bool.Decides.{nat_tests}
 use Rattle.std.proofs.lemmas.Cmp.{nat_list_eq_equiv}
-use Rattle.lists.specs.Laws.{any-contains}
+use Rattle.spell_types.specs.lists.Laws.{any-contains}
 use Rattle.spell_types.specs.declared.Lexicon.{Lexicon}
 use Rattle.spell_types.specs.declared.breaks.Anchored.{Anchored}
 use Rattle.spell_types.specs.declared.licences.Case.TheVariants.{Same, Sharp, Other}
 use Rattle.spell_types.specs.Bases.{case_of, is_sharp_case, is_alone_in_case, is_right_spelling}
-use Rattle.spell_types.specs.Bases.{is_base, asked_for}
+use Rattle.spell_types.specs.Bases.{is_base, compound_question}
 use Rattle.spell_types.specs.Breaks.{is_broken, is_broken_within, ways_to_break}
 use Rattle.spell_types.specs.Cases.{is_same_word, covered_by}
 use Rattle.spell_types.specs.Compounds.{is_compound}
@@ -52,9 +52,9 @@ module _ (law : Members) (lexicon : Lexicon) (word : List ℕ) (is : IsForm lexi
       let sharps = lexicon.affixes.options.sharps in
       and_from (not (is_barred lexicon word))
       (is_derived (is_alone_in_case (case_of sharps word word)) lexicon word
-      || is_compound (asked_for lexicon word word) word) (ap not is.free)
+      || is_compound (compound_question lexicon word word) word) (ap not is.free)
       (or_left (is_derived (is_alone_in_case (case_of sharps word word)) lexicon word)
-      (is_compound (asked_for lexicon word word) word)
+      (is_compound (compound_question lexicon word word) word)
       (ap (λ case. is_derived (is_alone_in_case case) lexicon word) (own-case sharps word)
       ∙ stands))
 

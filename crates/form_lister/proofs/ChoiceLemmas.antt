@@ -14,22 +14,22 @@ use Rattle.std.proofs.lemmas.List.Elements.{Contains-push}
 use Rattle.std.proofs.lemmas.List.Folds.{list_any-append}
 use Rattle.std.proofs.lemmas.List.Sorted.{Contains-permutation}
 use Rattle.std.proofs.lemmas.Option.{same_Some, slice_get_within}
-use Rattle.lists.specs.Laws.{contains-map}
+use Rattle.spell_types.specs.lists.Laws.{contains-map}
 use Rattle.spell_types.specs.declared.flags.Flag.{Flag}
 use Rattle.spell_types.specs.declared.rules.Rule.{Rule}
 use Rattle.spell_types.specs.declared.rules.Side.{Side}
 use Rattle.spell_types.specs.Derivations.{is_same_side, rule_on}
 use Rattle.spell_types.specs.Flags.{has}
-use Rattle.form_lister.specs.Choices.{has_number, HasRowsOf, HasPlaces, HasRules, AreRows}
+use Rattle.form_lister.specs.Choices.{has_number, HasRowsOf, HasPlaces, HasRules, AreRowsOfRules}
 use Rattle.form_lister.specs.Choices.{HasAllowed, HasChoices}
-use Rattle.form_lister.specs.declared.choices.Row.{Row}
+use Rattle.form_lister.specs.declared.choices.RuleRow.{RuleRow}
 
 -- ---- the rows of rules
-abbrev row_of : Rule → ℕ → Row
+abbrev row_of : Rule → ℕ → RuleRow
 row_of rule place = record { flag = rule.flag.0; place = place }
 
 -- each rule of the side before a place has its row
-abbrev pub HasRulesBelow : List Rule → Side → ℕ → List Row → Type 0
+abbrev pub HasRulesBelow : List Rule → Side → ℕ → List RuleRow → Type 0
 HasRulesBelow rules side count rows = (place : ℕ) (rule : Rule) → place < count
     → rule_on rules side place ≡ Some rule → Contains rows (row_of rule place)
 
@@ -57,9 +57,9 @@ earlier place count below = by (ltb place count) refl
     by false is = inr (grind (arith, nat_tests, is, below))
 
 -- one rule more has its row, or is of the other side
-pub rules-more : (rules : List Rule) (side : Side) (count : ℕ) (item : Rule) (before now : List Row)
+pub rules-more : (rules : List Rule) (side : Side) (count : ℕ) (item : Rule) (before now : List RuleRow)
     → slice_get rules count ≡ Some item → HasRulesBelow rules side count before
-    → ((row : Row) → Contains before row → Contains now row)
+    → ((row : RuleRow) → Contains before row → Contains now row)
     → (is_same_side side item.side ≡ true → Contains now (row_of item count))
     → HasRulesBelow rules side (count + 1) now
 rules-more rules side count item before now at has kept new place rule below on =
@@ -76,7 +76,7 @@ rules-more rules side count item before now at has kept new place rule below on 
         (new (ap (λ r. is_same_side side r.side) same ∙ found.1)))
 
 -- once there are no more
-pub all-rules : (rules : List Rule) (side : Side) (rows : List Row)
+pub all-rules : (rules : List Rule) (side : Side) (rows : List RuleRow)
     → HasRulesBelow rules side (length rules) rows → HasRules rules side rows
 all-rules rules side rows has place rule on =
     has place rule
@@ -84,10 +84,10 @@ all-rules rules side rows has place rule on =
 
 -- ---- rows with a flag
 -- what stands between the places found by halves
-pub found-rows : (rows : List Row) (flag start end : ℕ)
-    → IsPartitionPoint (λ (row : Row). ltb row.flag flag ≡ true) (λ row. ltb row.flag flag ≡ false)
+pub found-rows : (rows : List RuleRow) (flag start end : ℕ)
+    → IsPartitionPoint (λ (row : RuleRow). ltb row.flag flag ≡ true) (λ row. ltb row.flag flag ≡ false)
     rows start
-    → IsPartitionPoint (λ (row : Row). leb row.flag flag ≡ true) (λ row. leb row.flag flag ≡ false)
+    → IsPartitionPoint (λ (row : RuleRow). leb row.flag flag ≡ true) (λ row. leb row.flag flag ≡ false)
     (drop start rows) end
     → HasRowsOf rows flag (take end (drop start rows))
 found-rows rows flag start end first last row (k, within, at) is =
@@ -108,7 +108,7 @@ found-rows rows flag start end first last row (k, within, at) is =
     above false is_low =
         let lower : k < start = grind (arith, nat_tests, is_low) in
         let less : ltb flag flag ≡ true =
-        sym (ap (λ n. ltb n flag) (ap (λ (r : Row). r.flag) at ∙ is))
+        sym (ap (λ n. ltb n flag) (ap (λ (r : RuleRow). r.flag) at ∙ is))
         ∙ first.0 k row (omega arith) lower in absurd (grind (arith, nat_tests, less))
 
     below : (b : Bool) → ltb (k - start) end ≡ b → k - start < length (drop start rows)
@@ -117,18 +117,18 @@ found-rows rows flag start end first last row (k, within, at) is =
     below false is_high inside here =
         let higher : end ≤ k - start = grind (arith, nat_tests, is_high) in
         let more : leb flag flag ≡ false =
-        sym (ap (λ n. leb n flag) (ap (λ (r : Row). r.flag) here ∙ is))
+        sym (ap (λ n. leb n flag) (ap (λ (r : RuleRow). r.flag) here ∙ is))
         ∙ last.1 (k - start) row higher inside in absurd (grind (arith, nat_tests, more))
 
 -- ---- places of rows with one of some flags
-abbrev named : Row → Option ℕ
+abbrev named : RuleRow → Option ℕ
 named row = Some row.place
 
-no-flag : (rows : List Row) (places : List (Option ℕ)) → HasPlaces rows [] places
+no-flag : (rows : List RuleRow) (places : List (Option ℕ)) → HasPlaces rows [] places
 no-flag rows places row inside has = absurd (true≢false (sym has))
 
 -- the places of the rows with one flag more
-pub places-more : (rows found : List Row) (flags : List Flag) (index : ℕ) (flag d : Flag)
+pub places-more : (rows found : List RuleRow) (flags : List Flag) (index : ℕ) (flag d : Flag)
     (before now : List (Option ℕ))
     → index < length flags → flag ≡ get_or flags index d → HasPlaces rows (take index flags) before
     → HasRowsOf rows flag.0 found → now ≡ before ++ map named found
@@ -154,16 +154,16 @@ places-more rows found flags index flag d before now within is has of added row 
         (contains-map named found row (of row inside (own same)))
 
 -- the places of rows that were sorted
-pub rows-moved : (rules : List Rule) (side : Side) (before now : List Row)
+pub rows-moved : (rules : List Rule) (side : Side) (before now : List RuleRow)
     → IsPermutation before now → HasRules rules side before → HasRules rules side now
 rows-moved rules side before now moved has place rule on =
     Contains-permutation before now (row_of rule place) moved (has place rule on)
 
 -- ---- the rules that flags allow
-pub rules-allowed : (rules : List Rule) (side : Side) (rows : List Row) (flags : List Flag)
+pub rules-allowed : (rules : List Rule) (side : Side) (rows : List RuleRow) (flags : List Flag)
     (places : List (Option ℕ))
-    → AreRows rules side rows
-    → (IsNonDecreasingBy (λ (row : Row). row.flag) rows → HasPlaces rows flags places)
+    → AreRowsOfRules rules side rows
+    → (IsNonDecreasingBy (λ (row : RuleRow). row.flag) rows → HasPlaces rows flags places)
     → HasAllowed rules side flags places
 rules-allowed rules side rows flags places are has place rule on allowed =
     has are.rising (row_of rule place) (are.has place rule on) allowed
@@ -181,9 +181,9 @@ choices-allowed rules side flags places now has added = record {
 
 -- an answer with the places of rows is one with the rules that are allowed
 pub answer-allowed : {V E : Type 0} (items : V → List (Option ℕ)) (result : Result V E)
-    (rules : List Rule) (side : Side) (rows : List Row) (flags : List Flag)
-    → AreRows rules side rows
-    → (IsNonDecreasingBy (λ (row : Row). row.flag) rows
+    (rules : List Rule) (side : Side) (rows : List RuleRow) (flags : List Flag)
+    → AreRowsOfRules rules side rows
+    → (IsNonDecreasingBy (λ (row : RuleRow). row.flag) rows
     → IfOk result (λ allowed. HasPlaces rows flags (items allowed)))
     → IfOk result (λ allowed. HasAllowed rules side flags (items allowed))
 answer-allowed items (Ok allowed) rules side rows flags are has =

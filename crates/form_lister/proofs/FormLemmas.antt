@@ -6,8 +6,9 @@ use Rattle.std.specs.List.{filter, filter_map, cons_option}
 use Rattle.std.specs.List.Sorted.{IsStrictlySortedBy}
 use Rattle.std.proofs.lemmas.Bool.{and_parts, and_from}
 use Rattle.std.proofs.lemmas.Bool.Decides.{nat_tests}
-use Rattle.lists.specs.Laws.{contains-head, contains-tail, contains-filter, filter-among}
-use Rattle.lists.specs.Laws.{filter-holds}
+use Rattle.spell_types.specs.lists.Laws.{contains-head, contains-tail, contains-filter}
+use Rattle.spell_types.specs.lists.Laws.{filter-among}
+use Rattle.spell_types.specs.lists.Laws.{filter-holds}
 use Rattle.spell_types.specs.declared.Lexicon.{Lexicon}
 use Rattle.spell_types.specs.declared.derivations.Derivation.{Derivation}
 use Rattle.spell_types.specs.Derivations.{Named, named, form_of, all_derivations}

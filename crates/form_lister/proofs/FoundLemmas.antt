@@ -23,7 +23,7 @@ use Rattle.indexmap.proofs.CallerLemmas.{Contains-insert_key}
 use Rattle.spell_types.specs.declared.Lexicon.{Lexicon}
 use Rattle.spell_types.specs.Licences.{is_barred}
 use Rattle.form_lister.specs.Forms.{by_characters, IsForm, forms_of}
-use Rattle.form_lister.specs.Found.{AreFound, HasAll, KeepsWords, HasForm, AreSorted}
+use Rattle.form_lister.specs.Found.{AreFound, HasAll, KeepsWords, HasForm, AreFormsSorted}
 use Rattle.form_lister.specs.declared.found.Found.{Found}
 use Rattle.form_lister.proofs.FormLemmas.{FormsLaw, are-forms}
 
@@ -143,7 +143,7 @@ by-order Greater other back above apart = absurd (true≢false (sym (ap is_lt ba
 
 pub in-order : (words list : List (List ℕ)) → IsDistinct (pointwise nat_eq) words
     → IsPermutation words list → IsSorted by_characters list
-    → AreSorted words list
+    → AreFormsSorted words list
 in-order words list unique moved sorted = record {
   rising = sorted_from_all_adjacent nat_list_cmp_total list [] (λ k within.
       let word = get_or list k [] in
@@ -163,7 +163,7 @@ in-order words list unique moved sorted = record {
 
 -- where all forms were found it is the list of the forms
 pub list-is : (lexicon : Lexicon) (limit : ℕ) (found : Found) (list : List (List ℕ)) → FormsLaw
-    → AreFound lexicon limit found → HasAll lexicon found → AreSorted found.words.keys list
+    → AreFound lexicon limit found → HasAll lexicon found → AreFormsSorted found.words.keys list
     → list ≡ forms_of lexicon
 list-is lexicon limit found list law are all sorted =
     are-forms law lexicon list sorted.rising (λ word. (

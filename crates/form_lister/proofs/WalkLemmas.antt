@@ -25,7 +25,7 @@ use Rattle.spell_types.specs.Licences.{is_licensed, is_alone}
 use Rattle.form_lister.specs.Choices.{HasAllowed, HasChoices}
 use Rattle.form_lister.specs.Found.{AreFound, HasAll, HasForm, KeepsWords}
 use Rattle.form_lister.specs.Walks.{flags_at, carried_at, IsUnderWay, Adds, AtSome, Each, IsFrom}
-use Rattle.form_lister.specs.Walks.{HasFirst, HasSuffixes, HasPair, IsAllowedBy, IsBehind}
+use Rattle.form_lister.specs.Walks.{HasFirst, HasSuffixes, HasPair, IsAllowedBy, IsOfEntryAndPrefix}
 use Rattle.form_lister.specs.declared.found.Found.{Found}
 use Rattle.form_lister.specs.declared.walk.Walk.{Walk}
 use Rattle.form_lister.proofs.ChoiceLemmas.{on-side, earlier}
@@ -507,9 +507,9 @@ pub behind-adds : (walk : Walk) (entry : ℕ) (prefix : Option ℕ) (firsts : Li
     (before now : Found)
     → HasAllowed walk.stems.now.affixes.rules Suffix (carried_at walk.stems.now prefix) firsts
     → Adds walk (AtSome (HasPair entry prefix) firsts) before now
-    → Adds walk (IsBehind walk.stems.now entry prefix) before now
+    → Adds walk (IsOfEntryAndPrefix walk.stems.now entry prefix) before now
 behind-adds walk entry prefix firsts before now allowed adds =
-    adds-less walk (AtSome (HasPair entry prefix) firsts) (IsBehind walk.stems.now entry prefix)
+    adds-less walk (AtSome (HasPair entry prefix) firsts) (IsOfEntryAndPrefix walk.stems.now entry prefix)
     before now adds
     (λ d alone is. record {
       item = d.first;
@@ -522,13 +522,13 @@ pub entry-adds : (walk : Walk) (entry : ℕ) (prefixes firsts : List (Option ℕ
     → HasChoices walk.stems.now.affixes.rules Prefix (flags_at walk.stems.now entry) prefixes
     → HasChoices walk.stems.now.affixes.rules Suffix (flags_at walk.stems.now entry) firsts
     → Adds walk (AtSome (HasFirst entry) firsts) a b
-    → Adds walk (AtSome (IsBehind walk.stems.now entry) prefixes) b c
+    → Adds walk (AtSome (IsOfEntryAndPrefix walk.stems.now entry) prefixes) b c
     → Adds walk (IsFrom entry) a c
 entry-adds walk entry prefixes firsts a b c own own_firsts adds more =
     adds-less walk
-    (λ d. AtSome (HasFirst entry) firsts d ⊎ AtSome (IsBehind lexicon entry) prefixes d)
+    (λ d. AtSome (HasFirst entry) firsts d ⊎ AtSome (IsOfEntryAndPrefix lexicon entry) prefixes d)
     (IsFrom entry) a c
-    (adds-both walk (AtSome (HasFirst entry) firsts) (AtSome (IsBehind lexicon entry) prefixes)
+    (adds-both walk (AtSome (HasFirst entry) firsts) (AtSome (IsOfEntryAndPrefix lexicon entry) prefixes)
     a b c adds more)
     (λ d alone from. by d from (first-by lexicon d (known lexicon d alone)))
   where
@@ -538,7 +538,7 @@ entry-adds walk entry prefixes firsts a b c own own_firsts adds more =
     by : (d : Derivation) → d.entry ≡ entry
         → Among walk.stems.now Suffix (flags_at walk.stems.now d.entry) d.first
         ⊎ FirstBy walk.stems.now d
-        → AtSome (HasFirst entry) firsts d ⊎ AtSome (IsBehind walk.stems.now entry) prefixes d
+        → AtSome (HasFirst entry) firsts d ⊎ AtSome (IsOfEntryAndPrefix walk.stems.now entry) prefixes d
     by d from (inl allowed) = inl (record {
       item = d.first;
       among = choice-listed lexicon Suffix (flags_at lexicon entry) firsts d.first own_firsts

@@ -7,7 +7,7 @@ use Rattle.spell_types.specs.declared.rules.Side.{Side}
 use Rattle.spell_types.specs.declared.rules.Side.TheVariants.{Prefix, Suffix}
 use Rattle.spell_types.specs.Derivations.{rule_on}
 use Rattle.spell_types.specs.Flags.{has}
-use Rattle.form_lister.specs.declared.choices.Row.{Row}
+use Rattle.form_lister.specs.declared.choices.RuleRow.{RuleRow}
 use Rattle.form_lister.specs.declared.choices.RulesByFlag.{RulesByFlag}
 
 -- whether a flag has this number
@@ -15,28 +15,28 @@ abbrev pub has_number : List Flag → ℕ → Bool
 has_number flags number = has flags (Some (record { 0 = number }))
 
 -- the rows with this flag are among these
-abbrev pub HasRowsOf : List Row → ℕ → List Row → Type 0
-HasRowsOf rows flag found = (row : Row) → Contains rows row → row.flag ≡ flag → Contains found row
+abbrev pub HasRowsOf : List RuleRow → ℕ → List RuleRow → Type 0
+HasRowsOf rows flag found = (row : RuleRow) → Contains rows row → row.flag ≡ flag → Contains found row
 
 -- the places of the rows that have one of the flags are among these
-abbrev pub HasPlaces : List Row → List Flag → List (Option ℕ) → Type 0
-HasPlaces rows flags named = (row : Row) → Contains rows row → has_number flags row.flag ≡ true
+abbrev pub HasPlaces : List RuleRow → List Flag → List (Option ℕ) → Type 0
+HasPlaces rows flags named = (row : RuleRow) → Contains rows row → has_number flags row.flag ≡ true
     → Contains named (Some row.place)
 
 -- each rule of the side has its row
-abbrev pub HasRules : List Rule → Side → List Row → Type 0
+abbrev pub HasRules : List Rule → Side → List RuleRow → Type 0
 HasRules rules side rows = (place : ℕ) (rule : Rule) → rule_on rules side place ≡ Some rule
     → Contains rows (record { flag = rule.flag.0; place = place })
 
 -- and the rows rise by their flags
-pub record AreRows (rules : List Rule) (side : Side) (rows : List Row) : Type 0 where
+pub record AreRowsOfRules (rules : List Rule) (side : Side) (rows : List RuleRow) : Type 0 where
   pub has : HasRules rules side rows
   pub rising : IsNonDecreasingBy (λ row. row.flag) rows
 
 -- these are the rules by their flags
 pub record AreByFlag (rules : List Rule) (table : RulesByFlag) : Type 0 where
-  pub prefixes : AreRows rules Prefix table.prefixes.items
-  pub suffixes : AreRows rules Suffix table.suffixes.items
+  pub prefixes : AreRowsOfRules rules Prefix table.prefixes.items
+  pub suffixes : AreRowsOfRules rules Suffix table.suffixes.items
 
 -- each rule of the side that one of the flags allows is among these
 abbrev pub HasAllowed : List Rule → Side → List Flag → List (Option ℕ) → Type 0

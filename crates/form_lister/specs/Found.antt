@@ -27,7 +27,7 @@ abbrev pub HasAll : Lexicon → Found → Type 0
 HasAll lexicon found = (word : List ℕ) → IsForm lexicon word → Contains found.words.keys word
 
 -- the list has the same words, and they rise
-pub record AreSorted (words list : List (List ℕ)) : Type 0 where
+pub record AreFormsSorted (words list : List (List ℕ)) : Type 0 where
   pub rising : IsStrictlySortedBy by_characters list
   pub same : (word : List ℕ) → Contains list word ↔ Contains words word
   pub long : length list ≡ length words

@@ -84,7 +84,7 @@ pub record IsAllowedBy (rules : List Rule) (side : Side) (flags : List Flag)
   pub flag : has flags (Some rule.flag) ≡ true
 
 -- it is from this entry and has this prefix, which allows its first suffix
-pub record IsBehind (lexicon : Lexicon) (entry : ℕ) (prefix : Option ℕ) (d : Derivation) : Type
+pub record IsOfEntryAndPrefix (lexicon : Lexicon) (entry : ℕ) (prefix : Option ℕ) (d : Derivation) : Type
     0 where
   pub from : d.entry ≡ entry
   pub prefix_is : d.prefix ≡ prefix

@@ -4,16 +4,17 @@ ghost use Rattle.std.specs.Prelude.{◌≡◌, ◌^◌, ◌<◌, ◌++◌, List,
 ghost use Rattle.std.specs.List.Sorted.{IsNonDecreasingBy};
 ghost use Rattle.spell_types.specs.declared.rules.Rule.{Rule};
 ghost use Rattle.spell_types.specs.Derivations.{is_same_side};
-ghost use Rattle.form_lister.specs.Choices.{HasRowsOf, HasPlaces, HasRules, AreRows, AreByFlag};
+ghost use Rattle.form_lister.specs.Choices.{HasRowsOf, HasPlaces, HasRules, AreRowsOfRules};
+ghost use Rattle.form_lister.specs.Choices.{AreByFlag};
 ghost use Rattle.form_lister.specs.Choices.{HasAllowed, HasChoices};
 
-use lists::NoMemory;
+use spell_types::lists::NoMemory;
 use spell_types::{Flag, Rule, Side};
 use std::alloc::Global;
 
 /// A rule, and the number of the flag of its class.
 #[derive(Clone, Copy, Drop)]
-struct Row {
+struct RuleRow {
     flag: u64,
     /// The place of the rule, from 0.
     place: u32,
@@ -23,8 +24,8 @@ struct Row {
 /// kept: an answer names them by their places, from 0, in the list that this was made of.
 #[derive(Drop)]
 pub(crate) struct RulesByFlag {
-    prefixes: Vec<Row>,
-    suffixes: Vec<Row>,
+    prefixes: Vec<RuleRow>,
+    suffixes: Vec<RuleRow>,
 }
 
 impl RulesByFlag {
@@ -71,7 +72,11 @@ impl RulesByFlag {
 }
 
 /// The places of the rows that have one of these flags, flag by flag.
-fn places_with(alloc: Global, rows: &[Row], flags: &[Flag]) -> Result<Vec<Option<u32>>, NoMemory>
+fn places_with(
+    alloc: Global,
+    rows: &[RuleRow],
+    flags: &[Flag],
+) -> Result<Vec<Option<u32>>, NoMemory>
     ensures { IsNonDecreasingBy (λ row. row.flag) rows.now
         → IfOk result (λ allowed. HasPlaces rows.now flags.now allowed.items) }
 {
@@ -83,7 +88,7 @@ fn places_with(alloc: Global, rows: &[Row], flags: &[Flag]) -> Result<Vec<Option
 }
 
 /// Adds the places of rows.
-fn add_places(places: &mut Vec<Option<u32>>, rows: &[Row]) -> Result<(), NoMemory>
+fn add_places(places: &mut Vec<Option<u32>>, rows: &[RuleRow]) -> Result<(), NoMemory>
     ensures { OnOk result (places.new.items ≡ places.old.items
         ++ map (λ row. Some row.place) rows.now) }
 {
@@ -95,7 +100,7 @@ fn add_places(places: &mut Vec<Option<u32>>, rows: &[Row]) -> Result<(), NoMemor
 
 /// The rows with a flag. They are found by halves, so that it does not matter how many rows there
 /// are.
-fn rows_with(rows: &[Row], flag: u64) -> &[Row]
+fn rows_with(rows: &[RuleRow], flag: u64) -> &[RuleRow]
     ensures { IsNonDecreasingBy (λ row. row.flag) rows.now → HasRowsOf rows.now flag result.now }
 {
     let start = rows.partition_point(|row| row.flag < flag);
@@ -106,9 +111,9 @@ fn rows_with(rows: &[Row], flag: u64) -> &[Row]
 }
 
 /// The rows of the rules of a side, rising by their flags.
-fn rows_of(alloc: Global, side: Side, rules: &[Rule]) -> Result<Vec<Row>, NoMemory>
+fn rows_of(alloc: Global, side: Side, rules: &[Rule]) -> Result<Vec<RuleRow>, NoMemory>
     requires { length rules.now < 2 ^ 32 }
-    ensures { IfOk result (λ rows. AreRows rules.now side rows.items) }
+    ensures { IfOk result (λ rows. AreRowsOfRules rules.now side rows.items) }
 {
     let mut rows = gathered(alloc, side, rules)?;
     rows.sort_unstable_by_key(|row| row.flag);
@@ -116,14 +121,14 @@ fn rows_of(alloc: Global, side: Side, rules: &[Rule]) -> Result<Vec<Row>, NoMemo
 }
 
 /// The rows of the rules of a side, in the order of the rules.
-fn gathered(alloc: Global, side: Side, rules: &[Rule]) -> Result<Vec<Row>, NoMemory>
+fn gathered(alloc: Global, side: Side, rules: &[Rule]) -> Result<Vec<RuleRow>, NoMemory>
     requires { length rules.now < 2 ^ 32 }
     ensures { IfOk result (λ rows. HasRules rules.now side rows.items) }
 {
     let mut rows = Vec::new(alloc);
     for (place, rule) in rules.iter().enumerate() {
         if is_on(side, rule) {
-            rows.push(Row {
+            rows.push(RuleRow {
                 flag: rule.flag.0,
                 place: place as u32,
             })?;

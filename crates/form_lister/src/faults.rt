@@ -3,7 +3,7 @@
 ghost use Rattle.std.specs.Prelude.{◌≡◌};
 ghost use Rattle.form_lister.specs.declared.faults.FormsFault.TheVariants.{NoMemory as OutOfMemory};
 
-use lists::NoMemory;
+use spell_types::lists::NoMemory;
 
 /// Why the forms of a dictionary are not listed.
 #[derive(Clone, Copy, Debug, PartialEq, Eq)]

@@ -4,14 +4,14 @@ ghost use Rattle.std.specs.Prelude.{◌≡◌, ◌≤◌, [], List, length, nat_
 ghost use Rattle.std.specs.Cmp.Lexicographic.{pointwise};
 ghost use Rattle.indexmap.specs.IndexSet.{insert_key};
 ghost use Rattle.form_lister.specs.Forms.{StandsAlone, forms_of, IsFaultOf};
-ghost use Rattle.form_lister.specs.Found.{AreFound, HasAll, KeepsWords, HasForm, AreSorted};
+ghost use Rattle.form_lister.specs.Found.{AreFound, HasAll, KeepsWords, HasForm, AreFormsSorted};
 
 use crate::faults::FormsFault;
 use crate::forms_are;
 use affix_strip::Stems;
 use indexmap::IndexSet;
-use lists::NoMemory;
 use spell_types::Chars;
+use spell_types::lists::NoMemory;
 use std::alloc::Global;
 
 /// The words that are found so far. Each is asked once whether it is forbidden.
@@ -69,7 +69,7 @@ impl Found {
 
     /// The forms, rising by their characters.
     pub(crate) fn into_list(self, alloc: Global) -> Result<Vec<Chars>, NoMemory>
-        ensures { IfOk result (λ list. AreSorted self.words.keys list.items) }
+        ensures { IfOk result (λ list. AreFormsSorted self.words.keys list.items) }
     {
         let mut list: Vec<Chars> = self.words.into_iter().collect(alloc)?;
         list.sort_unstable_by(|word, other| word.as_slice().cmp(other.as_slice()));

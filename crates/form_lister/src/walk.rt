@@ -7,13 +7,14 @@ ghost use Rattle.spell_types.specs.Derivations.{derivation_of, form_of};
 ghost use Rattle.form_lister.specs.Choices.{HasChoices};
 ghost use Rattle.form_lister.specs.Forms.{IsFaultOf};
 ghost use Rattle.form_lister.specs.Walks.{flags_at, carried_at, IsUnderWay, Adds, AtSome, Each};
-ghost use Rattle.form_lister.specs.Walks.{IsFrom, HasFirst, HasSuffixes, HasPair, IsBehind};
+ghost use Rattle.form_lister.specs.Walks.{IsFrom, HasFirst, HasSuffixes, HasPair};
+ghost use Rattle.form_lister.specs.Walks.{IsOfEntryAndPrefix};
 
 use crate::choices::RulesByFlag;
 use crate::faults::FormsFault;
 use crate::found::Found;
 use affix_strip::Stems;
-use lists::NoMemory;
+use spell_types::lists::NoMemory;
 use spell_types::{Derivation, Flag, Side, alone, entry_flags, form};
 use std::alloc::Global;
 
@@ -183,7 +184,7 @@ impl<'a> Walk<'a> {
     ) -> Result<(), FormsFault>
         requires { IsUnderWay self.now found.old }
         ensures adds { OnOk result
-            (Adds self.now (AtSome (IsBehind self.now.stems.now entry) prefixes.now) found.old
+            (Adds self.now (AtSome (IsOfEntryAndPrefix self.now.stems.now entry) prefixes.now) found.old
             found.new) }
         ensures fault { IfErr result (IsFaultOf self.now.stems.now self.now.limit) }
     {
@@ -202,7 +203,7 @@ impl<'a> Walk<'a> {
     ) -> Result<(), FormsFault>
         requires { IsUnderWay self.now found.old }
         ensures adds { OnOk result
-            (Adds self.now (IsBehind self.now.stems.now entry prefix) found.old found.new) }
+            (Adds self.now (IsOfEntryAndPrefix self.now.stems.now entry prefix) found.old found.new) }
         ensures fault { IfErr result (IsFaultOf self.now.stems.now self.now.limit) }
     {
         let carried = self.carried_by(prefix);

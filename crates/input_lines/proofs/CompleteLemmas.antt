@@ -8,10 +8,10 @@ use Rattle.std.proofs.lemmas.Bool.{cases_Bool}
 use Rattle.std.proofs.lemmas.List.{take-append-le}
 use Rattle.std.proofs.lemmas.List.Folds.{list_any-append}
 use Rattle.text_lines.specs.Lines.{line_texts}
-use Rattle.lists.specs.Laws.{each-middle}
+use Rattle.outside.specs.lists.Laws.{each-middle}
 use Rattle.input_lines.specs.Answers.{HasNoBreak}
 use Rattle.input_lines.specs.Ends.{HasEnded, HasLongLine, IsTooMuch, Reading}
-use Rattle.input_lines.specs.Laws.{Told}
+use Rattle.input_lines.specs.Laws.{AnswerRelation}
 use Rattle.input_lines.specs.Lines.{AreWhole, IsBounded, IsShort, QuitsEarly, before_quit}
 use Rattle.input_lines.specs.Turns.{behind}
 use Rattle.input_lines.specs.declared.reading_end.ReadingEnd.{ReadingEnd}
@@ -21,7 +21,7 @@ use Rattle.input_lines.specs.declared.reading_end.ReadingEnd.TheVariants.{NoMemo
 use Rattle.input_lines.proofs.LineLemmas.{lines-behind, no-break-parts, no-lines, quit-later}
 use Rattle.input_lines.proofs.LineLemmas.{raw_lines}
 use Rattle.outside.specs.Laws.{takes-front}
-use Rattle.outside.specs.Source.{IsGiven}
+use Rattle.outside.specs.Source.{IsToldBytes}
 use Rattle.input_lines.specs.declared.limits.TheConstants.{INPUT_LIMIT, LINE_LIMIT}
 
 -- bytes up to a line feed stand before the last line feed
@@ -65,13 +65,13 @@ quit-within {quits} {input} {lines} early whole = elim early.ends [
 ]
 
 -- an input of which not too much is read has not too many bytes
-too-much-not : {quits : List ℕ → Bool} {answered : Told} {reading : Reading} {input said : List ℕ}
+too-much-not : {quits : List ℕ → Bool} {answered : AnswerRelation} {reading : Reading} {input said : List ℕ}
     → reading.before ≡ Some input
     → IsBounded quits input → IsTooMuch quits answered reading said → ⊥
 too-much-not {reading} {input} tells bounded much =
     let rest = takes-front reading.before reading.after much.taken much.takes in
     let all : much.taken ++ rest.0 ≡ input =
-    subst (λ t. IsGiven t (much.taken ++ rest.0)) tells rest.1 in
+    subst (λ t. IsToldBytes t (much.taken ++ rest.0)) tells rest.1 in
     elim bounded [
       | inl few ↦ omega (arith, few, much.one_more, ap length all, length-append much.taken rest.0)
       | inr early ↦
@@ -86,7 +86,7 @@ too-much-not {reading} {input} tells bounded much =
     ]
 
 -- a line that is too long does not end the input, so it is among the lines before one that does
-long-not : {quits : List ℕ → Bool} {answered : Told} {input said : List ℕ}
+long-not : {quits : List ℕ → Bool} {answered : AnswerRelation} {input said : List ℕ}
     → ((line : List ℕ) → quits line ≡ true → IsShort line)
     → AllByRecursion IsShort (before_quit quits (line_texts input))
     → HasLongLine quits answered input said → ⊥
@@ -105,7 +105,7 @@ long-not {quits} {input} quits_short short has = elim (cases_Bool (quits has.lon
       omega (arith, fits, has.too_long)
 ]
 
-pub ended-complete : (quits : List ℕ → Bool) (answered : Told) (reading : Reading)
+pub ended-complete : (quits : List ℕ → Bool) (answered : AnswerRelation) (reading : Reading)
     (input said : List ℕ) (ended : ReadingEnd)
     → HasEnded quits answered reading ended said → reading.before ≡ Some input
     → IsBounded quits input

@@ -12,7 +12,7 @@ use Rattle.std.proofs.lemmas.List.Elements.{All-from_recursion}
 use Rattle.std.proofs.lemmas.List.Sums.{take_while-cons}
 use Rattle.std.proofs.lemmas.List.Splits.{slice_split_none, length-slice_split}
 use Rattle.std.proofs.lemmas.List.Splits.{join_with_byte-slice_split}
-use Rattle.lists.specs.Laws.{each-append}
+use Rattle.outside.specs.lists.Laws.{each-append}
 use Rattle.text_lines.specs.Lines.{first_place, is_line_feed, line_at, lines_from, lines_after}
 use Rattle.text_lines.specs.Lines.{line_texts, text_of}
 use Rattle.input_lines.specs.Answers.{HasNoBreak}

@@ -6,21 +6,23 @@ use Rattle.std.specs.String.{string_bytes}
 use Rattle.std.proofs.lemmas.Bool.{or_right}
 use Rattle.std.proofs.lemmas.List.{take_at}
 use Rattle.std.proofs.lemmas.List.Folds.{list_any-append}
-use Rattle.lists.specs.Laws.{each-append}
+use Rattle.outside.specs.lists.Laws.{each-append}
 use Rattle.outside.specs.Laws.{appends-front, appends-more, appends-none, takes-front, takes-more}
 use Rattle.outside.specs.Laws.{takes-none}
 use Rattle.outside.specs.Sink.{Appends, AppendsFront}
-use Rattle.outside.specs.Source.{IsGiven, Takes}
+use Rattle.outside.specs.Source.{IsToldBytes, Takes}
 use Rattle.text_lines.specs.Lines.{line_texts}
 use Rattle.input_lines.specs.Answers.{HasNoBreak}
 use Rattle.input_lines.specs.Ends.{AreAnswered, AreAnsweredFirst, AreAnsweredWhole, HasLongLine}
 use Rattle.input_lines.specs.Ends.{Reading}
-use Rattle.input_lines.specs.Laws.{Told}
+use Rattle.input_lines.specs.Laws.{AnswerRelation}
 use Rattle.input_lines.specs.Lines.{IsBounded, IsShort, before_quit, piece_text, unmarked}
-use Rattle.input_lines.specs.Turns.{GoesBy, Hears, IsAnswered, IsCut, IsGathered, IsHeard}
-use Rattle.input_lines.specs.Turns.{IsHeardAs, IsLeft, IsNotAnswered, IsNotKept, IsOver, IsTaken}
-use Rattle.input_lines.specs.Turns.{IsUnderWay, Leading, PutLeaves, Channel, Since, Midway, Stops}
-use Rattle.input_lines.specs.Turns.{WhyNot, line_of, read_between, midway, start}
+use Rattle.input_lines.specs.Turns.{GoesBy, Hears, IsLineAnswered, IsCut, IsGathered, IsHeard}
+use Rattle.input_lines.specs.Turns.{IsHeardAs, IsLeft, IsNotAnswered, IsNotKept, IsOver}
+use Rattle.input_lines.specs.Turns.{AreBytesTaken}
+use Rattle.input_lines.specs.Turns.{IsReadingUnderWay, Leading, PutLeaves, Channel, Since, Midway}
+use Rattle.input_lines.specs.Turns.{Stops}
+use Rattle.input_lines.specs.Turns.{WhyNot, line_heard_with, read_between, midway, start}
 use Rattle.input_lines.specs.declared.reading_end.ReadingEnd.{ReadingEnd}
 use Rattle.input_lines.specs.declared.reading_end.ReadingEnd.TheVariants.{Finished, Interrupted}
 use Rattle.input_lines.specs.declared.reading_end.ReadingEnd.TheVariants.{TooMuch, LongLine}
@@ -84,7 +86,7 @@ gathered-none {before} {now} empty is =
 
 -- ---- where reading ends
 
-module _ {quits : List ℕ → Bool} {answered : Told} {heard pending said : List ℕ} {is_first : Bool}
+module _ {quits : List ℕ → Bool} {answered : AnswerRelation} {heard pending said : List ℕ} {is_first : Bool}
     (hears : IsHeard quits answered heard pending is_first said)
     {input : List ℕ} (rest : List ℕ) (parts : input ≡ hears.front ++ rest) where
   -- the lines up to here are the first of an input
@@ -149,7 +151,7 @@ heard-as goes = record { on = goes }
 module _ {S B : Type 0} {quits : List ℕ → Bool} {Leads : Leading S B} where
   -- one line more is answered
   answered-on : {here there first : S × B} {line before after said : List ℕ} {lines : List (List ℕ)}
-      (is : IsAnswered quits Leads here there line before after)
+      (is : IsLineAnswered quits Leads here there line before after)
       → AreAnswered quits (Since Leads first here) lines said
       → AreAnswered quits (Since Leads first there) (lines ++ line ∷ []) (said ++ is.added)
   answered-on {first} {line} {said} {lines} is answers = record {
@@ -197,7 +199,7 @@ module _ {S B : Type 0} {quits : List ℕ → Bool} {Leads : Leading S B} where
   -- a line was answered
   pub line-on : {here : Midway S B} {there : S × B} (listener : Listener) (bytes : List ℕ)
       → HasNoBreak bytes
-      → IsAnswered quits Leads here.states there (line_of here.listener bytes)
+      → IsLineAnswered quits Leads here.states there (line_heard_with here.listener bytes)
       (string_bytes here.listener.answers) (string_bytes listener.answers)
       → listener.pending.items ≡ [] → listener.is_first ≡ false
       → IsHeardAs {T = Unit {0}} quits Leads here (midway there here.sink listener)
@@ -222,7 +224,7 @@ module _ {S B : Type 0} {quits : List ℕ → Bool} {Leads : Leading S B} where
   pub line-stops : {T : Type 0} {here : Midway S B} {there : S × B} {listener : Listener}
       {ended : ReadingEnd}
       {whole : List ℕ} (bytes behind : List ℕ) → whole ≡ bytes ++ 10 ∷ behind → HasNoBreak bytes
-      → IsNotAnswered quits Leads here.states there (line_of here.listener bytes)
+      → IsNotAnswered quits Leads here.states there (line_heard_with here.listener bytes)
       (string_bytes here.listener.answers) (string_bytes listener.answers) ended
       → IsHeardAs {T = T} quits Leads here (midway there here.sink listener) whole (Err ended)
   line-stops {here} {ended} {whole} bytes behind all no_more is =
@@ -298,7 +300,7 @@ GoesOn {S} {B} quits Leads here middle piece rest =
 
 -- ---- what was heard is put
 
-module _ {quits : List ℕ → Bool} {answered : Told} {before middle now : Channel}
+module _ {quits : List ℕ → Bool} {answered : AnswerRelation} {before middle now : Channel}
     {gathered left input : List ℕ}
     {ended : ReadingEnd} (stops : Stops quits answered before middle gathered input ended) where
   -- what is left where reading ended is put
@@ -321,7 +323,7 @@ module _ {quits : List ℕ → Bool} {answered : Told} {before middle now : Chan
       rw put.0 (record { said = stops.said; first = stops.first; ends = stops.first; left = left })
 
 -- whatever was heard, reading may end then
-may-end : {T : Type 0} {quits : List ℕ → Bool} {answered : Told} {before now : Channel}
+may-end : {T : Type 0} {quits : List ℕ → Bool} {answered : AnswerRelation} {before now : Channel}
     (listener : Listener) (heard : List ℕ)
     (result : Result T ReadingEnd) → Hears quits answered before now listener heard result
     → (rest : List ℕ)
@@ -374,9 +376,9 @@ module _ {S B T : Type 0} {quits : List ℕ → Bool} {Leads : Leading S B} {her
 -- ---- the end of an input
 
 -- nothing stands behind the last line feed
-pub ends-silent : {quits : List ℕ → Bool} {answered : Told} {before now : Channel}
+pub ends-silent : {quits : List ℕ → Bool} {answered : AnswerRelation} {before now : Channel}
     {listener : Listener} {heard : List ℕ}
-    → IsUnderWay quits answered before now listener heard → length heard ≤ INPUT_LIMIT
+    → IsReadingUnderWay quits answered before now listener heard → length heard ≤ INPUT_LIMIT
     → (length (unmarked listener.is_first listener.pending.items) == 0) ≡ true
     → Stops quits answered before now (string_bytes listener.answers) heard Finished
 ends-silent {quits} {listener} {heard} under few none =
@@ -395,11 +397,11 @@ ends-silent {quits} {listener} {heard} under few none =
 module _ {S B : Type 0} {quits : List ℕ → Bool} {Leads : Leading S B} {here there first : S × B}
     {before now : Channel}
     {listener : Listener} {heard text : List ℕ}
-    (under : IsUnderWay quits (Since Leads first here) before now listener heard)
+    (under : IsReadingUnderWay quits (Since Leads first here) before now listener heard)
     (few : length heard ≤ INPUT_LIMIT)
     (some : (length (unmarked listener.is_first listener.pending.items) == 0) ≡ false) where
   -- a last line was answered
-  pub ends-on : IsAnswered quits Leads here there
+  pub ends-on : IsLineAnswered quits Leads here there
       (piece_text listener.is_first listener.pending.items)
       (string_bytes listener.answers) text
       → Stops quits (Since Leads first there) before now text heard Finished
@@ -436,7 +438,7 @@ module _ {S B : Type 0} {quits : List ℕ → Bool} {Leads : Leading S B} {here 
 -- ---- how reading ends
 
 -- nothing was heard
-abbrev heard-none : {quits : List ℕ → Bool} {answered : Told} → answered [] []
+abbrev heard-none : {quits : List ℕ → Bool} {answered : AnswerRelation} → answered [] []
     → IsHeard quits answered [] [] true []
 heard-none starts = record {
   front = [];
@@ -446,11 +448,11 @@ heard-none starts = record {
   answers = rw no-lines (record { going = refl; short = tt; said_so = starts });
 }
 
-module _ {quits : List ℕ → Bool} {answered : Told} (starts : answered [] []) where
+module _ {quits : List ℕ → Bool} {answered : AnswerRelation} (starts : answered [] []) where
   -- memory was wanting before anything was heard
   pub over-before : (told written : Option (List ℕ))
       → (said : List ℕ)
-      × ((input : List ℕ) × IsGiven told input × AreAnsweredFirst quits answered input said)
+      × ((input : List ℕ) × IsToldBytes told input × AreAnsweredFirst quits answered input said)
       × Appends written written said
   over-before told written =
       let given = takes-front told told [] (takes-none told) in
@@ -460,7 +462,7 @@ module _ {quits : List ℕ → Bool} {answered : Told} (starts : answered [] [])
   pub taken-none : {before begun : Channel} {listener : Listener} → listener.pending.items ≡ []
       → listener.is_first ≡ true
       → string_bytes listener.answers ≡ []
-      → IsTaken quits answered before before listener begun begun 0
+      → AreBytesTaken quits answered before before listener begun begun 0
   taken-none {before} {begun} pending is_first none = record {
     heard = [];
     counted = refl;
@@ -479,11 +481,11 @@ module _ {quits : List ℕ → Bool} {answered : Told} (starts : answered [] [])
     };
   }
 
-module _ {quits : List ℕ → Bool} {answered : Told} {before now : Channel} where
+module _ {quits : List ℕ → Bool} {answered : AnswerRelation} {before now : Channel} where
   -- it has ended so on an input that is given
   pub over-stops : (reading : Reading) {gathered input : List ℕ} {ended : ReadingEnd}
       → Stops quits answered before now gathered input ended → gathered ≡ []
-      → IsGiven reading.before input
+      → IsToldBytes reading.before input
       → IsOver quits answered reading (before.faults < now.faults) before.bytes now.bytes ended
   over-stops reading {ended = SinkFailed} stops empty given =
       (stops.said, (_, given, stops.ends), (stops.left.failed, stops.left.front))
@@ -493,7 +495,7 @@ module _ {quits : List ℕ → Bool} {answered : Told} {before now : Channel} wh
       (stops.said, (_, given, stops.ends), gathered-none empty stops.left)
 
   module _ {listener : Listener} {begun source : Channel} {count : ℕ}
-      (taken : IsTaken quits answered before now listener begun source count) where
+      (taken : AreBytesTaken quits answered before now listener begun source count) where
     -- the lines that are whole in what was taken were answered
     whole-lines : AreAnsweredWhole quits answered taken.heard taken.under.said
     whole-lines =

@@ -1,7 +1,7 @@
 -- What comes of one line.
 use Rattle.std.specs.Prelude.{◌≡◌, ℕ, Bool, true, false, List, [], ◌∷◌, ◌++◌, Result, Ok, Err}
 use Rattle.std.specs.List.{AllByRecursion}
-use Rattle.lists.specs.declared.NoMemory.{NoMemory}
+use Rattle.outside.specs.lists.declared.NoMemory.{NoMemory}
 use Rattle.input_lines.specs.declared.responder.Flow.{Flow}
 use Rattle.input_lines.specs.declared.responder.Flow.TheVariants.{On, Quit}
 

@@ -3,7 +3,7 @@ use Rattle.std.specs.Prelude.{◌≡◌, ℕ, ◌+◌, ◌<◌, ◌≤◌, Bool,
 use Rattle.std.specs.Prelude.{Option}
 use Rattle.std.specs.List.{AllByRecursion, list_any}
 use Rattle.outside.specs.Sink.{Appends, AppendsFront}
-use Rattle.outside.specs.Source.{IsGiven, Takes}
+use Rattle.outside.specs.Source.{IsToldBytes, Takes}
 use Rattle.text_lines.specs.Lines.{line_texts}
 use Rattle.input_lines.specs.Lines.{AreWhole, EndsLine, IsBounded, IsShort, before_quit}
 use Rattle.input_lines.specs.declared.reading_end.ReadingEnd.{ReadingEnd}
@@ -95,7 +95,7 @@ EndsOn quits answered input SinkFailed said = AreAnsweredFirst quits answered in
 abbrev pub EndsOnSome : (List ℕ → Bool) → (List (List ℕ) → List ℕ → Type 0) → Reading → ReadingEnd
     → List ℕ → Type 0
 EndsOnSome quits answered reading ended said =
-    (input : List ℕ) × IsGiven reading.before input × EndsOn quits answered input ended said
+    (input : List ℕ) × IsToldBytes reading.before input × EndsOn quits answered input ended said
 
 -- how the reading of an input has ended, and what was answered by then
 abbrev pub HasEnded : (List ℕ → Bool) → (List (List ℕ) → List ℕ → Type 0) → Reading → ReadingEnd

@@ -7,17 +7,17 @@ use Rattle.input_lines.specs.declared.reading_end.ReadingEnd.TheVariants.{TooMuc
 use Rattle.input_lines.specs.declared.reading_end.ReadingEnd.TheVariants.{NoMemory, SinkFailed}
 
 -- what is said of lines and their answers
-abbrev pub Told : Type 1
-Told = List (List ℕ) → List ℕ → Type 0
+abbrev pub AnswerRelation : Type 1
+AnswerRelation = List (List ℕ) → List ℕ → Type 0
 
-answered-weaker : (quits : List ℕ → Bool) (strong weak : Told) (lines : List (List ℕ))
+answered-weaker : (quits : List ℕ → Bool) (strong weak : AnswerRelation) (lines : List (List ℕ))
     (said : List ℕ)
     → ((lines : List (List ℕ)) (said : List ℕ) → strong lines said → weak lines said)
     → AreAnswered quits strong lines said → AreAnswered quits weak lines said
 answered-weaker quits strong weak lines said weaker is =
     record { going = is.going; short = is.short; said_so = weaker lines said is.said_so }
 
-whole-weaker : (quits : List ℕ → Bool) (strong weak : Told) (bytes said : List ℕ)
+whole-weaker : (quits : List ℕ → Bool) (strong weak : AnswerRelation) (bytes said : List ℕ)
     → ((lines : List (List ℕ)) (said : List ℕ) → strong lines said → weak lines said)
     → AreAnsweredWhole quits strong bytes said → AreAnsweredWhole quits weak bytes said
 whole-weaker quits strong weak bytes said weaker is =
@@ -27,7 +27,7 @@ whole-weaker quits strong weak bytes said weaker is =
       answers = answered-weaker quits strong weak is.lines said weaker is.answers;
     }
 
-ends-weaker : (quits : List ℕ → Bool) (strong weak : Told) (input said : List ℕ)
+ends-weaker : (quits : List ℕ → Bool) (strong weak : AnswerRelation) (input said : List ℕ)
     (ended : ReadingEnd)
     → ((lines : List (List ℕ)) (said : List ℕ) → strong lines said → weak lines said)
     → EndsOn quits strong input ended said → EndsOn quits weak input ended said
@@ -63,7 +63,7 @@ ends-weaker quits strong weak input said SinkFailed weaker is = record {
 }
 
 -- how a reading has ended by one account of what was answered, it has ended by a weaker one
-pub ended-weaker : (quits : List ℕ → Bool) (strong weak : Told) (reading : Reading)
+pub ended-weaker : (quits : List ℕ → Bool) (strong weak : AnswerRelation) (reading : Reading)
     (ended : ReadingEnd) (said : List ℕ)
     → ((lines : List (List ℕ)) (said : List ℕ) → strong lines said → weak lines said)
     → HasEnded quits strong reading ended said → HasEnded quits weak reading ended said

@@ -8,7 +8,7 @@ use Rattle.text_lines.specs.Lines.{line_texts}
 use Rattle.input_lines.specs.Answers.{HasNoBreak, LeadsOn}
 use Rattle.input_lines.specs.Ends.{AreAnswered, AreAnsweredFirst, EndsOn, HasEnded, IsWritten}
 use Rattle.input_lines.specs.Ends.{Reading}
-use Rattle.input_lines.specs.Laws.{Told}
+use Rattle.input_lines.specs.Laws.{AnswerRelation}
 use Rattle.input_lines.specs.Lines.{IsShort, piece_text}
 use Rattle.input_lines.specs.declared.reading_end.ReadingEnd.{ReadingEnd}
 use Rattle.input_lines.specs.declared.reading_end.ReadingEnd.TheVariants.{Finished, LongLine}
@@ -24,7 +24,7 @@ pub data IsFront : List ℕ → Bool → Type 0 where
 
 -- Between two pieces: the lines that were whole in what was heard were answered, and the bytes
 -- behind them are kept.
-pub record IsHeard (quits : List ℕ → Bool) (answered : Told) (heard pending : List ℕ)
+pub record IsHeard (quits : List ℕ → Bool) (answered : AnswerRelation) (heard pending : List ℕ)
     (is_first : Bool) (said : List ℕ) : Type 0 where
   pub front : List ℕ
   pub parts : heard ≡ front ++ pending
@@ -54,7 +54,7 @@ pub record IsCut (before now : Channel) (gathered said : List ℕ) : Type 0 wher
   pub empty : gathered ≡ []
 
 -- reading is under way: this was heard and answered; the answers are written, or gathered
-pub record IsUnderWay (quits : List ℕ → Bool) (answered : Told) (before now : Channel)
+pub record IsReadingUnderWay (quits : List ℕ → Bool) (answered : AnswerRelation) (before now : Channel)
     (listener : Listener) (heard : List ℕ) : Type 0 where
   pub said : List ℕ
   pub hears : IsHeard quits answered heard listener.pending.items listener.is_first said
@@ -80,7 +80,7 @@ abbrev pub Leading : Type 0 → Type 0 → Type 1
 Leading S B = S → B → List (List ℕ) → List ℕ → S → B → Type 0
 
 -- a line was answered
-pub record IsAnswered {S B : Type 0} (quits : List ℕ → Bool) (Leads : Leading S B)
+pub record IsLineAnswered {S B : Type 0} (quits : List ℕ → Bool) (Leads : Leading S B)
     (here there : S × B) (line text_before text_after : List ℕ) : Type 0 where
   pub goes_on : quits line ≡ false
   pub short : IsShort line
@@ -89,8 +89,8 @@ pub record IsAnswered {S B : Type 0} (quits : List ℕ → Bool) (Leads : Leadin
   pub leads : LeadsOn Leads here.0 here.1 there.0 there.1 (line ∷ []) added
 
 -- the line that a listener has heard with these bytes
-abbrev pub line_of : Listener → List ℕ → List ℕ
-line_of listener bytes = piece_text listener.is_first (listener.pending.items ++ bytes)
+abbrev pub line_heard_with : Listener → List ℕ → List ℕ
+line_heard_with listener bytes = piece_text listener.is_first (listener.pending.items ++ bytes)
 
 -- a line was not answered, and reading ends with it
 pub record IsNotAnswered {S B : Type 0} (quits : List ℕ → Bool) (Leads : Leading S B)
@@ -103,7 +103,7 @@ pub record IsNotAnswered {S B : Type 0} (quits : List ℕ → Bool) (Leads : Lea
 abbrev pub Turns : {S B T : Type 0} → (List ℕ → Bool) → Leading S B → S × B → S × B
     → List ℕ → List ℕ → List ℕ → Result T ReadingEnd → Type 0
 Turns quits Leads here there line text_before text_after (Ok done) =
-    IsAnswered quits Leads here there line text_before text_after
+    IsLineAnswered quits Leads here there line text_before text_after
 Turns quits Leads here there line text_before text_after (Err ended) =
     IsNotAnswered quits Leads here there line text_before text_after ended
 
@@ -124,7 +124,7 @@ PutLeaves middle now gathered left (Err failed) = (failed ≡ SinkFailed)
     → IsLeft ended before middle gathered said → IsCut before now left said)
 
 -- reading ends so on an input, whose first lines were answered, and this is left of what was said
-pub record Stops (quits : List ℕ → Bool) (answered : Told) (before now : Channel)
+pub record Stops (quits : List ℕ → Bool) (answered : AnswerRelation) (before now : Channel)
     (gathered input : List ℕ) (ended : ReadingEnd) : Type 0 where
   pub said : List ℕ
   pub first : AreAnsweredFirst quits answered input said
@@ -133,16 +133,17 @@ pub record Stops (quits : List ℕ → Bool) (answered : Told) (before now : Cha
 
 -- what comes of bytes that were heard: reading is under way, or it ends so on whatever comes behind
 -- them
-abbrev pub Hears : {T : Type 0} → (List ℕ → Bool) → Told → Channel → Channel → Listener → List ℕ
+abbrev pub Hears : {T : Type 0} → (List ℕ → Bool) → AnswerRelation → Channel → Channel → Listener
+    → List ℕ
     → Result T ReadingEnd → Type 0
 Hears quits answered before now listener heard (Ok done) =
-    IsUnderWay quits answered before now listener heard
+    IsReadingUnderWay quits answered before now listener heard
 Hears quits answered before now listener heard (Err ended) =
     (rest : List ℕ) → Stops quits answered before now (string_bytes listener.answers)
     (heard ++ rest) ended
 
 -- what was said from the first states to those here
-abbrev pub Since : {S B : Type 0} → Leading S B → S × B → S × B → Told
+abbrev pub Since : {S B : Type 0} → Leading S B → S × B → S × B → AnswerRelation
 Since Leads first here = λ lines said. Leads first.0 first.1 lines said here.0 here.1
 
 -- where reading stands: with a responder and what stands beside it, a sink and a listener
@@ -159,7 +160,7 @@ abbrev pub GoesBy : {S B T : Type 0} → (List ℕ → Bool) → Leading S B →
     → List ℕ → Result T ReadingEnd → Type 0
 GoesBy {S} {B} quits Leads here there piece result =
     (first : S × B) (before : Channel) (heard : List ℕ) → length heard + length piece ≤ INPUT_LIMIT
-    → IsUnderWay quits (Since Leads first here.states) before here.sink here.listener heard
+    → IsReadingUnderWay quits (Since Leads first here.states) before here.sink here.listener heard
     → Hears quits (Since Leads first there.states) before there.sink there.listener (heard ++ piece)
     result
 
@@ -186,20 +187,21 @@ read_between begun source =
     }
 
 -- so many bytes were taken of an input and heard, and all that was answered is written
-pub record IsTaken (quits : List ℕ → Bool) (answered : Told) (before now : Channel)
+pub record AreBytesTaken (quits : List ℕ → Bool) (answered : AnswerRelation) (before now : Channel)
     (listener : Listener) (begun source : Channel) (count : ℕ) : Type 0 where
   pub heard : List ℕ
   pub counted : length heard ≡ count
   pub takes : Takes begun.bytes source.bytes heard
   pub since : begun.faults ≤ source.faults
   pub put : string_bytes listener.answers ≡ []
-  pub under : IsUnderWay quits answered before now listener heard
+  pub under : IsReadingUnderWay quits answered before now listener heard
 
 -- what comes of a turn: more bytes were taken and heard, or reading has ended
-abbrev pub Comes : (List ℕ → Bool) → Told → Channel → Channel → Listener → Channel → Channel → ℕ
+abbrev pub Comes : (List ℕ → Bool) → AnswerRelation → Channel → Channel → Listener → Channel
+    → Channel → ℕ
     → Result ℕ ReadingEnd → Type 0
 Comes quits answered before now listener begun source taken (Ok count) =
-    IsTaken quits answered before now listener begun source (taken + count)
+    AreBytesTaken quits answered before now listener begun source (taken + count)
 Comes quits answered before now listener begun source taken (Err ended) =
     IsOver quits answered (read_between begun source) (before.faults < now.faults) before.bytes
     now.bytes ended

@@ -5,16 +5,17 @@ ghost use Rattle.std.specs.Prelude.{IfErr};
 ghost use Rattle.std.specs.String.{string_bytes};
 ghost use Rattle.input_lines.specs.Answers.{HasNoBreak};
 ghost use Rattle.input_lines.specs.Lines.{unmarked};
-ghost use Rattle.input_lines.specs.Turns.{IsHeardAs, IsNotKept, IsUnderWay, PutLeaves, Channel};
-ghost use Rattle.input_lines.specs.Turns.{Since, Stops, Turns, line_of, channel, midway};
+ghost use Rattle.input_lines.specs.Turns.{IsHeardAs, IsNotKept, IsReadingUnderWay, PutLeaves};
+ghost use Rattle.input_lines.specs.Turns.{Channel};
+ghost use Rattle.input_lines.specs.Turns.{Since, Stops, Turns, line_heard_with, channel, midway};
 ghost use Rattle.input_lines.specs.declared.limits.TheConstants.{INPUT_LIMIT};
 
 use crate::limits::LINE_LIMIT;
 use crate::pieces::{piece_text, split_line, unmarked};
 use crate::reading_end::ReadingEnd;
 use crate::responder::{Flow, Responder};
-use lists::NoMemory;
 use outside::Sink;
+use outside::lists::NoMemory;
 use std::alloc::Global;
 use std::mem;
 
@@ -87,7 +88,7 @@ impl Listener {
         requires no_more { HasNoBreak self.old.pending.items }
         ensures ends { (first : R × B) (before : Channel) (heard : List ℕ)
             → length heard ≤ INPUT_LIMIT
-            → IsUnderWay R.quits (Since R.Leads first (responder.old, beside.old)) before
+            → IsReadingUnderWay R.quits (Since R.Leads first (responder.old, beside.old)) before
             (channel (K.written out.old) (K.faults out.old)) self.old heard
             → Stops R.quits (Since R.Leads first (responder.new, beside.new)) before
             (channel (K.written out.new) (K.faults out.new)) (string_bytes self.new.answers) heard
@@ -143,7 +144,7 @@ impl Listener {
         requires no_more { HasNoBreak self.old.pending.items }
         ensures ends { (first : R × B) (before now : Channel) (heard : List ℕ)
             → length heard ≤ INPUT_LIMIT
-            → IsUnderWay R.quits (Since R.Leads first (responder.old, beside.old)) before now
+            → IsReadingUnderWay R.quits (Since R.Leads first (responder.old, beside.old)) before now
             self.old heard
             → Stops R.quits (Since R.Leads first (responder.new, beside.new)) before now
             (string_bytes self.new.answers) heard result }
@@ -169,7 +170,7 @@ impl Listener {
         requires room { 1 ≤ R.room responder.old }
         ensures turns { Turns R.quits R.Leads (responder.old, beside.old)
             (responder.new, beside.new)
-            (line_of self.old bytes.now) (string_bytes self.old.answers)
+            (line_heard_with self.old bytes.now) (string_bytes self.old.answers)
             (string_bytes self.new.answers) result }
         ensures empty { OnOk result (self.new.pending.items ≡ []) }
         ensures later { OnOk result (self.new.is_first ≡ false) }

@@ -3,7 +3,8 @@
 ghost use Rattle.std.specs.Prelude.{◌≡◌, ◌+◌, ◌<◌, ◌≤◌, ℕ, length, IfOk, IfSome, OnOk};
 ghost use Rattle.input_lines.specs.Answers.{HasNoBreak};
 ghost use Rattle.input_lines.specs.Ends.{Reading};
-ghost use Rattle.input_lines.specs.Turns.{Comes, IsOver, IsTaken, Channel, Since, read_between};
+ghost use Rattle.input_lines.specs.Turns.{Comes, IsOver, AreBytesTaken, Channel, Since};
+ghost use Rattle.input_lines.specs.Turns.{read_between};
 ghost use Rattle.input_lines.specs.Turns.{channel};
 ghost use Rattle.input_lines.specs.declared.limits.TheConstants.{INPUT_LIMIT};
 
@@ -108,7 +109,7 @@ impl Listener {
         requires no_more { HasNoBreak self.old.pending.items }
         ensures comes { (first : R × B) (before begun : Channel) (taken : ℕ)
             → taken + length piece.old ≤ INPUT_LIMIT
-            → IsTaken R.quits (Since R.Leads first (responder.old, beside.old)) before
+            → AreBytesTaken R.quits (Since R.Leads first (responder.old, beside.old)) before
             (channel (K.written out.old) (K.Sink.faults out.old)) self.old
             begun (channel (S.left input.old) (S.Source.faults input.old)) taken
             → Comes R.quits (Since R.Leads first (responder.new, beside.new)) before
@@ -143,7 +144,7 @@ impl Listener {
         requires room { 1 ≤ R.room responder.old }
         requires no_more { HasNoBreak self.old.pending.items }
         ensures over { (first : R × B) (before begun : Channel)
-            → IsTaken R.quits (Since R.Leads first (responder.old, beside.old)) before
+            → AreBytesTaken R.quits (Since R.Leads first (responder.old, beside.old)) before
             (channel (K.written out.old) (K.Sink.faults out.old)) self.old
             begun (channel (S.left input.old) (S.Source.faults input.old)) INPUT_LIMIT
             → IsOver R.quits (Since R.Leads first (responder.new, beside.new))

@@ -5,7 +5,7 @@ ghost use Rattle.std.specs.String.{string_bytes};
 ghost use Rattle.input_lines.specs.Answers.{AnswersLine, HasNoBreak};
 ghost use Rattle.input_lines.specs.declared.limits.TheConstants.{LINE_LIMIT};
 
-use lists::NoMemory;
+use outside::lists::NoMemory;
 use std::alloc::Global;
 
 /// What a line does to the reading of its input.

@@ -8,8 +8,8 @@ use Rattle.spell_types.specs.Joints.{is_same_joint, is_written_joint, joint_of_r
 use Rattle.joint_checks.specs.declared.listing.Neighbours.{Neighbours}
 
 -- whether a joint is one of two parts
-abbrev pub is_of : Neighbours → WrittenJoint → Bool
-is_of two joint = is_written_joint two.lexicon.now two.x.now two.d.now two.y.now two.e.now joint
+abbrev pub is_joint_between : Neighbours → WrittenJoint → Bool
+is_joint_between two joint = is_written_joint two.lexicon.now two.x.now two.d.now two.y.now two.e.now joint
 
 -- whether a joint like this is among these
 abbrev pub is_listed : List WrittenJoint → WrittenJoint → Bool

@@ -2,12 +2,12 @@
 
 ghost use Rattle.std.specs.Prelude.{◌≡◌, IfOk, OnOk, fold};
 ghost use Rattle.spell_types.specs.Joints.{joints_of};
-ghost use Rattle.joint_checks.specs.Listing.{is_listed, is_of, with_joint, with_row};
+ghost use Rattle.joint_checks.specs.Listing.{is_listed, is_joint_between, with_joint, with_row};
 
 use crate::of_rows::{bare_joint, is_same, joint_of_row};
 use crate::written::is_written_joint;
-use lists::NoMemory;
 use smallvec::SmallVec;
+use spell_types::lists::NoMemory;
 use spell_types::{Derivation, JointPattern, Lexicon, WrittenJoint};
 use std::alloc::Global;
 
@@ -61,7 +61,7 @@ fn add_of_rows(
     found: &mut SmallVec<WrittenJoint, 4>,
 ) -> Result<(), NoMemory>
     ensures { OnOk result (found.new.items
-        ≡ fold (with_row (is_of two.entry)) found.old.items rows.now) }
+        ≡ fold (with_row (is_joint_between two.entry)) found.old.items rows.now) }
 {
     for row in rows {
         add_of_row(alloc, two, row, found)?;
@@ -76,7 +76,7 @@ fn add_of_row(
     row: &JointPattern,
     found: &mut SmallVec<WrittenJoint, 4>,
 ) -> Result<(), NoMemory>
-    ensures { OnOk result (found.new.items ≡ with_row (is_of two.entry) found.old.items row.now) }
+    ensures { OnOk result (found.new.items ≡ with_row (is_joint_between two.entry) found.old.items row.now) }
 {
     if let Some(joint) = joint_of_row(alloc, row)? {
         add(two, joint, found)?;
@@ -90,7 +90,7 @@ fn add(
     joint: WrittenJoint,
     found: &mut SmallVec<WrittenJoint, 4>,
 ) -> Result<(), NoMemory>
-    ensures { OnOk result (found.new.items ≡ with_joint (is_of two.entry) found.old.items joint) }
+    ensures { OnOk result (found.new.items ≡ with_joint (is_joint_between two.entry) found.old.items joint) }
 {
     if is_of(two, &joint) && !is_listed(found, &joint) {
         found.push(joint)?;
@@ -100,7 +100,7 @@ fn add(
 
 /// Whether a joint is one of the two parts.
 fn is_of(two: Neighbours, joint: &WrittenJoint) -> bool
-    ensures { result ≡ is_of two.entry joint.now }
+    ensures { result ≡ is_joint_between two.entry joint.now }
 {
     is_written_joint(two.lexicon, two.x, two.d, two.y, two.e, joint)
 }

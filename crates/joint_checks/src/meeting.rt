@@ -2,7 +2,8 @@
 
 ghost use Rattle.std.specs.Prelude.{◌≡◌};
 ghost use Rattle.std.specs.Option.{option_copied};
-ghost use Rattle.spell_types.specs.Joints.{first_of, last_of, is_capital, is_dash};
+ghost use Rattle.spell_types.specs.Joints.{first_character_of, last_character_of, is_capital};
+ghost use Rattle.spell_types.specs.Joints.{is_dash};
 ghost use Rattle.spell_types.specs.Joints.{is_capital_inside, is_tripled, has_entry_as_given};
 ghost use Rattle.spell_types.specs.Joints.{ends_as, fits_joint, has_fitting, is_case, is_dup};
 ghost use Rattle.spell_types.specs.Joints.{is_joint_of, is_joint, is_triple};
@@ -117,13 +118,13 @@ fn is_capital_inside(x: &[char], y: &[char]) -> bool
 }
 
 fn last_of(word: &[char]) -> Option<char>
-    ensures { result ≡ last_of word.now }
+    ensures { result ≡ last_character_of word.now }
 {
     word.last().copied()
 }
 
 fn first_of(word: &[char]) -> Option<char>
-    ensures { result ≡ first_of word.now }
+    ensures { result ≡ first_character_of word.now }
 {
     word.first().copied()
 }

@@ -4,7 +4,7 @@ ghost use Rattle.std.specs.Prelude.{◌≡◌, [], IfOk, if◌then◌else◌, le
 ghost use Rattle.spell_types.specs.Joints.{is_same_joint, joint_of_row, plain_joint};
 ghost use Rattle.spell_types.specs.Joints.{replaced_joint};
 
-use lists::{Copied, Items, NoMemory};
+use spell_types::lists::{Copied, Items, NoMemory};
 use spell_types::{Chars, JointPattern, WrittenJoint};
 use std::alloc::Global;
 

@@ -11,7 +11,7 @@ use Rattle.std.proofs.lemmas.Nat.Bits.{bit_at-zero, shr_and_one, bit_at_set_same
 use Rattle.std.proofs.lemmas.Option.{slice_get_past, slice_get-get_or}
 use Rattle.std.proofs.Math.Nat.{div-lt_iff_lt-mul}
 use Rattle.key_filter.specs.declared.KeyFilter.{KeyFilter}
-use Rattle.key_filter.specs.Filter.{may_have, place_of, bit_of, share_a_bit}
+use Rattle.key_filter.specs.Filter.{may_have, word_place_of, bit_of, share_a_bit}
 
 -- ---- one item of a list
 at-set : {X : Type 0} (xs : List X) (i : ℕ) (y : X) → i < length xs
@@ -40,15 +40,16 @@ abbrev says : ℕ → Option ℕ → Bool
 says bit word = option_map_or (λ w. bit_at w bit == 1) word true
 
 pub put-in : (old new : KeyFilter) (key word other : ℕ) → new.shift ≡ old.shift
-    → place_of old key < length old.words.items → slice_get old.words.items (place_of old key)
+    → word_place_of old key < length old.words.items
+    → slice_get old.words.items (word_place_of old key)
     ≡ Some word
-    → new.words.items ≡ set old.words.items (place_of old key)
+    → new.words.items ≡ set old.words.items (word_place_of old key)
     (bit_or word (1 * 2 ^ bit_of key % 2 ^ 64))
     → may_have new other ≡ (share_a_bit old key other || may_have old other)
 unfolding may_have
 put-in old new key word other shift within at is =
     ap₂ (λ s ws. says (bit_of other) (slice_get ws (other / 2 ^ (s % 64)))) shift is
-    ∙ by (cases_eq (place_of old other) (place_of old key))
+    ∙ by (cases_eq (word_place_of old other) (word_place_of old key))
   where
     small : (k : ℕ) → k % 64 < 64
     small k = omega arith
@@ -67,59 +68,59 @@ put-in old new key word other shift within at is =
         ∙ ap (λ b. b || says bit (Some word))
         (sym (ne_eqb (bit_of key) bit (λ same. apart (sym same))))
 
-    by : (place_of old other ≡ place_of old key) ⊎ (place_of old other ≢ place_of old key)
+    by : (word_place_of old other ≡ word_place_of old key) ⊎ (word_place_of old other ≢ word_place_of old key)
         → says (bit_of other)
-        (slice_get (set old.words.items (place_of old key) written) (place_of old other))
+        (slice_get (set old.words.items (word_place_of old key) written) (word_place_of old other))
         ≡ (share_a_bit old key other || may_have old other)
     by (inl same) =
-        ap (λ p. says (bit_of other) (slice_get (set old.words.items (place_of old key) written) p))
+        ap (λ p. says (bit_of other) (slice_get (set old.words.items (word_place_of old key) written) p))
         same
-        ∙ ap (says (bit_of other)) (at-set old.words.items (place_of old key) written within)
+        ∙ ap (says (bit_of other)) (at-set old.words.items (word_place_of old key) written within)
         ∙ in-word (bit_of other) (cases_eq (bit_of other) (bit_of key))
         ∙ ap (λ found. nat_eq (bit_of key) (bit_of other) || says (bit_of other) found)
         (sym (ap (slice_get old.words.items) same ∙ at))
         ∙ ap (λ b. (b && nat_eq (bit_of key) (bit_of other)) || may_have old other)
-        (sym (eq-eqb (place_of old key) (place_of old other) (sym same)))
+        (sym (eq-eqb (word_place_of old key) (word_place_of old other) (sym same)))
     by (inr apart) =
         ap (says (bit_of other))
-        (beside-set old.words.items (place_of old key) (place_of old other) written apart)
+        (beside-set old.words.items (word_place_of old key) (word_place_of old other) written apart)
         ∙ ap (λ b. (b && nat_eq (bit_of key) (bit_of other)) || may_have old other)
-        (sym (ne_eqb (place_of old key) (place_of old other) (λ same. apart (sym same))))
+        (sym (ne_eqb (word_place_of old key) (word_place_of old other) (λ same. apart (sym same))))
 
 -- where the key has no word
 pub put-nowhere : (filter : KeyFilter) (key other : ℕ)
-    → length filter.words.items ≤ place_of filter key
+    → length filter.words.items ≤ word_place_of filter key
     → may_have filter other ≡ (share_a_bit filter key other || may_have filter other)
 unfolding may_have
-put-nowhere filter key other past = by (cases_eq (place_of filter key) (place_of filter other))
+put-nowhere filter key other past = by (cases_eq (word_place_of filter key) (word_place_of filter other))
   where
     either : (a b : Bool) → b ≡ true → b ≡ (a || b)
     either true b is = is
     either false b is = refl
 
-    by : (place_of filter key ≡ place_of filter other)
-        ⊎ (place_of filter key ≢ place_of filter other)
+    by : (word_place_of filter key ≡ word_place_of filter other)
+        ⊎ (word_place_of filter key ≢ word_place_of filter other)
         → may_have filter other ≡ (share_a_bit filter key other || may_have filter other)
     by (inl same) =
         either (share_a_bit filter key other) (may_have filter other)
         (ap (says (bit_of other))
-        (slice_get_past filter.words.items (place_of filter other)
+        (slice_get_past filter.words.items (word_place_of filter other)
         (subst (λ p. length filter.words.items ≤ p) same past)))
     by (inr apart) =
         ap (λ b. (b && nat_eq (bit_of key) (bit_of other)) || may_have filter other)
-        (sym (ne_eqb (place_of filter key) (place_of filter other) apart))
+        (sym (ne_eqb (word_place_of filter key) (word_place_of filter other) apart))
 
 -- ---- what is read, and a new filter
 -- the word with a place
-pub word-at : (filter : KeyFilter) (key place word : ℕ) → place ≡ place_of filter key
+pub word-at : (filter : KeyFilter) (key place word : ℕ) → place ≡ word_place_of filter key
     → place < length filter.words.items → word ≡ get_or filter.words.items place word
-    → slice_get filter.words.items (place_of filter key) ≡ Some word
+    → slice_get filter.words.items (word_place_of filter key) ≡ Some word
 word-at filter key place word is within at =
     ap (slice_get filter.words.items) (sym is)
     ∙ slice_get-get_or filter.words.items place word within ∙ ap Some (sym at)
 
 pub read-bit : (filter : KeyFilter) (key word : ℕ)
-    → slice_get filter.words.items (place_of filter key) ≡ Some word
+    → slice_get filter.words.items (word_place_of filter key) ≡ Some word
     → nat_eq (bit_and (word / 2 ^ bit_of key) 1) 1 ≡ may_have filter key
 unfolding may_have
 read-bit filter key word at =
@@ -131,8 +132,8 @@ pub new-has-none : (filter : KeyFilter) (bits key : ℕ) → 0 < bits → bits �
 unfolding may_have
 new-has-none filter bits key some most shift empty small =
     ap (says (bit_of key))
-    (ap (λ ws. slice_get ws (place_of filter key)) empty
-    ∙ at-replicate (2 ^ bits) (place_of filter key) 0 within)
+    (ap (λ ws. slice_get ws (word_place_of filter key)) empty
+    ∙ at-replicate (2 ^ bits) (word_place_of filter key) 0 within)
     ∙ ap (λ n. n == 1) (bit_at-zero (bit_of key))
   where
     left : filter.shift % 64 ≡ 64 - bits
@@ -142,7 +143,7 @@ new-has-none filter bits key some most shift empty small =
     all = let sum : 64 ≡ bits + (64 - bits) =
         omega (arith, most) in ap (λ n. 2 ^ n) sum ∙ pow-add 2 bits (64 - bits)
 
-    within : place_of filter key < 2 ^ bits
+    within : word_place_of filter key < 2 ^ bits
     within =
         subst (λ s. key / 2 ^ s < 2 ^ bits) (sym left)
         ((div-lt_iff_lt-mul {k = 2 ^ (64 - bits)} {x = key} {y = 2 ^ bits} (pow_pos (64 - bits))).1
@@ -167,5 +168,5 @@ pub put-has : (before now : KeyFilter) (key : ℕ) → PutsIn before now key →
 put-has before now key puts =
     puts key
     ∙ ap₂ (λ a b. (a && b) || may_have before key)
-    (eq-eqb (place_of before key) (place_of before key) refl)
+    (eq-eqb (word_place_of before key) (word_place_of before key) refl)
     (eq-eqb (bit_of key) (bit_of key) refl)

@@ -5,8 +5,8 @@ use Rattle.std.specs.Option.{option_map_or}
 use Rattle.key_filter.specs.declared.KeyFilter.{KeyFilter}
 
 -- the place of a key's word: its upper bits
-abbrev pub place_of : KeyFilter → ℕ → ℕ
-place_of filter key = key / 2 ^ (filter.shift % 64)
+abbrev pub word_place_of : KeyFilter → ℕ → ℕ
+word_place_of filter key = key / 2 ^ (filter.shift % 64)
 
 -- the number of a key's bit in its word: its lowest six bits
 abbrev pub bit_of : ℕ → ℕ
@@ -16,9 +16,9 @@ bit_of key = key % 64
 unfoldable pub may_have : KeyFilter → ℕ → Bool
 may_have filter key =
     option_map_or (λ word. bit_at word (bit_of key) == 1)
-    (slice_get filter.words.items (place_of filter key)) true
+    (slice_get filter.words.items (word_place_of filter key)) true
 
 -- whether two keys have one bit
 abbrev pub share_a_bit : KeyFilter → ℕ → ℕ → Bool
 share_a_bit filter key other =
-    nat_eq (place_of filter key) (place_of filter other) && nat_eq (bit_of key) (bit_of other)
+    nat_eq (word_place_of filter key) (word_place_of filter other) && nat_eq (bit_of key) (bit_of other)

@@ -3,7 +3,7 @@
 #![tactic(auto)]
 
 ghost use Rattle.std.specs.Prelude.{◌≡◌, ◌<◌, ◌^◌, ◌||◌, ℕ, true, false, IfOk};
-ghost use Rattle.key_filter.specs.Filter.{may_have, place_of, share_a_bit};
+ghost use Rattle.key_filter.specs.Filter.{may_have, word_place_of, share_a_bit};
 
 use lists::NoMemory;
 use std::alloc::Global;
@@ -69,7 +69,7 @@ impl KeyFilter {
 
     /// The place of a key's word.
     fn place_of(&self, key: u64) -> usize
-        ensures { result ≡ place_of self.now key }
+        ensures { result ≡ word_place_of self.now key }
     {
         key.wrapping_shr(self.shift) as usize
     }

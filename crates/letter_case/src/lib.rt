@@ -11,10 +11,10 @@ ghost use Rattle.letter_case.specs.Found.{with_word};
 
 mod sharps;
 
-use lists::{Items, NoMemory};
 use sharps::{sharp_kept, sharp_lowered};
 use smallvec::SmallVec;
 use spell_types::Chars;
+use spell_types::lists::{Items, NoMemory};
 use std::alloc::Global;
 use unicode::{case, properties};
 

@@ -7,7 +7,7 @@ ghost use Rattle.spell_types.specs.declared.limits.TheConstants.{MOST_PAIRS};
 ghost use Rattle.letter_case.specs.Found.{begins_pair, behind_each, is_pair_next, with_pair};
 
 use crate::low;
-use lists::{Copied, Items, NoMemory};
+use spell_types::lists::{Copied, Items, NoMemory};
 use spell_types::{Chars, MOST_PAIRS};
 use std::alloc::Global;
 

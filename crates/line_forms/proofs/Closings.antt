@@ -5,9 +5,9 @@ use Rattle.std.specs.List.{All, Contains, range_with_len}
 use Rattle.std.specs.List.Sorted.{IsPermutation}
 use Rattle.std.proofs.lemmas.List.Elements.{All-contains, All-from_recursion}
 use Rattle.outside.specs.Files.{Folder}
-use Rattle.personal_words.specs.Dictionaries.{OwnSeen, in_force}
-use Rattle.edit_core.specs.Runs.{Run, asked_of}
-use Rattle.edit_core.specs.Seen.{Seen, opening_of}
+use Rattle.own_dictionary.specs.personal_words.Dictionaries.{OwnSeen, in_force}
+use Rattle.board_share.specs.edit_core.Runs.{Run, asked_of}
+use Rattle.board_share.specs.edit_core.Seen.{Seen, opening_of}
 use Rattle.board_share.specs.Endings.{HasEventsOf, IsTheirs}
 use Rattle.board_share.specs.Eyes.{EyeSeen, IsLater, events_in, fresh_eye, last_of}
 use Rattle.input_lines.specs.Ends.{HasEnded, IsWritten}
@@ -19,7 +19,7 @@ use Rattle.console_lang.specs.declared.command.Command.{Command}
 use Rattle.console_lang.specs.declared.reply.Reply.{Reply}
 use Rattle.console_board.specs.Boards.{own_console_of}
 use Rattle.console_board.specs.OwnConsoles.{OwnConsole}
-use Rattle.console_board.specs.Transcripts.{Answers, asked_by, is_quit}
+use Rattle.console_board.specs.Transcripts.{Answers, commands_asked_by, is_quit}
 use Rattle.console_history.specs.Followed.{Given, IsConsoleHistory}
 use Rattle.console_history.specs.Told.{Seat, Told}
 use Rattle.desk_console.specs.Consoles.{HasTold}
@@ -27,7 +27,7 @@ use Rattle.desk_console.specs.declared.console.TheConstants.{SESSION}
 use Rattle.desk_console.specs.declared.stop.Stop.{Stop}
 use Rattle.desk_console.specs.declared.stop.Stop.TheVariants as stop
 use Rattle.line_forms.specs.Dialogues.{AreReplied, IsClosedAt, Setting, given_in}
-use Rattle.line_forms.specs.Endings.{end_of, history_of}
+use Rattle.line_forms.specs.Endings.{reading_end_with_stop, history_of}
 use Rattle.line_forms.specs.Talks.{AreBehind, Beside, first_seat, fresh_workers, opening_by}
 use Rattle.line_forms.proofs.Numbered.{AreNumbered, numbered}
 use Rattle.line_forms.proofs.Readings.{broken-off, some-answered}
@@ -110,7 +110,7 @@ module _ (workers : ℕ) (dictionary : OwnSeen) (beside : Beside) where
     stays : (some-told.1.seen.eye.number ≡ workers)
         × (some-told.1.seen.eye.run.opening ≡ opening_by dictionary)
     stays =
-        stay beside.folder SESSION (first_seat workers dictionary) some-told.1.seen (asked_by some-told.0)
+        stay beside.folder SESSION (first_seat workers dictionary) some-told.1.seen (commands_asked_by some-told.0)
         some-told.1.replies some-told.1.told
 
     its-number : behind.now.eye.number ≡ workers
@@ -150,7 +150,7 @@ module _ (workers : ℕ) (dictionary : OwnSeen) (beside : Beside) where
           → AreReplied setting closed lines said
       replied law closed known lines said told =
           let both = law (given_in setting) dictionary told.seen behind.now.eye eyes history
-          (asked_by lines) told.replies told.told told.later told.asks theirs
+          (commands_asked_by lines) told.replies told.told told.later told.asks theirs
           all-numbered.permuted all-numbered.count all-numbered.among its-number
           all-numbered.alone in record {
             replies = told.replies;
@@ -162,18 +162,19 @@ module _ (workers : ℕ) (dictionary : OwnSeen) (beside : Beside) where
         where
           by : (closed : Option Run) → IfSome closed (λ run. (run ≡ history) × (stopped ≡ None))
               → (told.seen.eye ≡ behind.now.eye
-              → IsConsoleHistory (given_in setting) dictionary (asked_by lines) told.replies
+              → IsConsoleHistory (given_in setting) dictionary (commands_asked_by lines) told.replies
               history)
               → IfSome closed
-              (IsConsoleHistory (given_in setting) dictionary (asked_by lines) told.replies)
+              (IsConsoleHistory (given_in setting) dictionary (commands_asked_by lines) told.replies)
           by None known follows = tt
           by (Some run) known follows =
-              subst (IsConsoleHistory (given_in setting) dictionary (asked_by lines) told.replies)
+              subst (IsConsoleHistory (given_in setting) dictionary (commands_asked_by lines) told.replies)
               (sym known.0) (follows (ap (λ (seat : Seat). seat.eye) (sym (told.going known.1))))
 
       -- how it has ended
       pub is-over : ClosedFollowed → {ended_now : ReadingEnd} {closed : Option Run}
-          → ended_now ≡ end_of ended stopped → closed ≡ history_of ended stopped history
+          → ended_now ≡ reading_end_with_stop ended stopped
+          → closed ≡ history_of ended stopped history
           → IsOver is_quit (AreReplied setting closed) beside.reading
           (beside.sink_failed < beside.sink_failed_now) beside.written beside.written_now ended_now
       is-over law {ended_now} {closed} ended_is closed_is =
@@ -204,7 +205,7 @@ module _ (workers : ℕ) (dictionary : OwnSeen) (beside : Beside) where
               → HasEnded is_quit Told-so beside.reading e said
               → IsWritten e (beside.sink_failed < beside.sink_failed_now) beside.written
               beside.written_now said
-              → Over (history_of e s history) (end_of e s)
+              → Over (history_of e s history) (reading_end_with_stop e s)
           over reading.Finished None going has written = (
             said,
             ended-weaker is_quit Told-so (AreReplied setting (Some history)) beside.reading
@@ -227,14 +228,15 @@ module _ (workers : ℕ) (dictionary : OwnSeen) (beside : Beside) where
 
 -- the history is told exactly at the end of the input
 pub closed-at : (ended : ReadingEnd) (stopped : Option Stop) (history : Run)
-    {ended_now : ReadingEnd} {closed : Option Run} → ended_now ≡ end_of ended stopped
+    {ended_now : ReadingEnd} {closed : Option Run} → ended_now ≡ reading_end_with_stop ended stopped
     → closed ≡ history_of ended stopped history → IsClosedAt ended_now closed
 closed-at ended stopped history {ended_now} ended_is closed_is =
     subst (λ closed. IsClosedAt ended_now closed) (sym closed_is)
     (subst (λ e. IsClosedAt e (history_of ended stopped history)) (sym ended_is)
     (by ended stopped))
   where
-    by : (e : ReadingEnd) (s : Option Stop) → IsClosedAt (end_of e s) (history_of e s history)
+    by : (e : ReadingEnd) (s : Option Stop)
+        → IsClosedAt (reading_end_with_stop e s) (history_of e s history)
     by reading.Finished None = refl
     by reading.Finished (Some why) = refl
     by reading.Interrupted s = refl

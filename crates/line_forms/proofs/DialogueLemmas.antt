@@ -3,31 +3,32 @@ use Rattle.std.proofs.Common.{◌≡◌, ◌∙◌, ◌⊎◌, ⊎_elim, inl, in
 use Rattle.std.proofs.Common.{Option, Some, None, IfSome, IfErr, is_some, Result, Ok, Err, refl}
 use Rattle.std.proofs.Common.{◌==◌, false, arith, sym, ap, subst}
 use Rattle.std.specs.List.{AllByRecursion}
-use Rattle.lists.specs.Answers.{FailsAs}
-use Rattle.text_lines.specs.Lines.{line_texts}
+use Rattle.outside.specs.lists.Answers.{FailsAs}
+use Rattle.mark_types.specs.text_lines.Lines.{line_texts}
 use Rattle.outside.specs.Files.{Folder}
 use Rattle.outside.specs.Laws.{front-longer}
 use Rattle.outside.specs.Sink.{Appends}
-use Rattle.spell_types.specs.declared.Lexicon.{Lexicon}
-use Rattle.personal_words.specs.Dictionaries.{OwnSeen}
-use Rattle.dictionary_swap.specs.declared.fault.LoadFault.TheVariants.{Failed as FailedLoad}
+use Rattle.mark_types.specs.spell_types.declared.Lexicon.{Lexicon}
+use Rattle.own_dictionary.specs.personal_words.Dictionaries.{OwnSeen}
+use Rattle.own_dictionary.specs.dictionary_swap.declared.fault.LoadFault.TheVariants.{Failed as FailedLoad}
 use Rattle.input_lines.specs.Ends.{HasEnded, IsWritten, Reading}
-use Rattle.input_lines.specs.Laws.{Told, ended-weaker}
+use Rattle.input_lines.specs.Laws.{AnswerRelation, ended-weaker}
 use Rattle.input_lines.specs.Lines.{IsBounded, IsShort, before_quit}
 use Rattle.input_lines.specs.declared.reading_end.ReadingEnd.{ReadingEnd}
 use Rattle.input_lines.specs.declared.reading_end.ReadingEnd.TheVariants as reading
-use Rattle.edit_core.specs.Runs.{Run}
+use Rattle.board_share.specs.edit_core.Runs.{Run}
 use Rattle.pipe_mode.specs.Pipes.{ends_input, pipe_answers}
-use Rattle.console_board.specs.Transcripts.{IsTranscript, asked_by}
+use Rattle.console_board.specs.Transcripts.{IsTranscript, commands_asked_by}
 use Rattle.console_history.specs.Followed.{IsConsoleHistory}
 use Rattle.desk_console.specs.declared.console.TheConstants.{SESSION}
 use Rattle.line_forms.specs.Dialogues.{AreReplied, IsClosedAt}
 use Rattle.file_loading.specs.Due.{IsOwnThere, MayCome, OwnFiles, own_found_in}
-use Rattle.file_loading.specs.Ends.{Cut, EndsAs, IsEndPut, is_quiet}
+use Rattle.file_loading.specs.Ends.{Cut, EndsAs, IsEndPut, ends_without_marks}
 use Rattle.file_loading.specs.Failures.{last_line}
-use Rattle.line_forms.specs.Forms.{AllAnswered, Answering, FilesFailedFirst, IsDialogue, IsFit}
+use Rattle.line_forms.specs.Forms.{AllAnswered, Answering, FilesFailedFirst, IsDialogue}
+use Rattle.line_forms.specs.Forms.{IsDialogueFit}
 use Rattle.line_forms.specs.Forms.{IsOpened, IsWholeDialogue, NoneAnswered, NotOpened, SomeAnswered}
-use Rattle.line_forms.specs.Forms.{WantingFirst, end_of}
+use Rattle.line_forms.specs.Forms.{WantingFirst, end_after_reading}
 use Rattle.file_loading.specs.Forms.{IsCaused, IsClosedAfter, IsUntouched, Met}
 use Rattle.file_loading.specs.Operands.{DictionaryNamed}
 use Rattle.file_loading.specs.declared.ending.End.{End}
@@ -40,12 +41,12 @@ use Rattle.file_loading.specs.EndLaws.{ends-behind, goes-on}
 -- ---- how a dialogue ends
 
 -- where its reading has ended, and the sink did not fail
-pub dialogue-ends : {read : Reading} {quits : List ℕ → Bool} {answered : Told}
+pub dialogue-ends : {read : Reading} {quits : List ℕ → Bool} {answered : AnswerRelation}
     {put_failed whole_failed : Type 0} {end : End} {before middle now : Option (List ℕ)} {status : ℕ}
     (sink_failed : Type 0) (ended : ReadingEnd) (said : List ℕ)
     → HasEnded quits answered read ended said
     → IsWritten ended sink_failed before middle said
-    → end_of ended ≡ Some end → (put_failed → whole_failed)
+    → end_after_reading ended ≡ Some end → (put_failed → whole_failed)
     → IsEndPut end put_failed middle now status
     → EndsAs (IsDialogue read quits answered) whole_failed before now status
 dialogue-ends {end = end} {before = before} {middle = middle} sink_failed ended said is written told
@@ -54,16 +55,17 @@ dialogue-ends {end = end} {before = before} {middle = middle} sink_failed ended 
     (record { ended = ended; end_is = told; is = is }) put
   where
     by : (ended : ReadingEnd) → IsWritten ended sink_failed before middle said
-        → end_of ended ≡ Some end → Appends before middle said
+        → end_after_reading ended ≡ Some end → Appends before middle said
     by reading.SinkFailed written told = absurd (cc)
     by _ written told = written
 
 -- where it did
-pub dialogue-cut : {read : Reading} {quits : List ℕ → Bool} {answered : Told}
+pub dialogue-cut : {read : Reading} {quits : List ℕ → Bool} {answered : AnswerRelation}
     {before now : Option (List ℕ)} (sink_failed : Type 0) (ended : ReadingEnd) (said : List ℕ)
     → HasEnded quits answered read ended said
     → IsWritten ended sink_failed before now said
-    → end_of ended ≡ None → EndsAs (IsDialogue read quits answered) sink_failed before now 6
+    → end_after_reading ended ≡ None
+    → EndsAs (IsDialogue read quits answered) sink_failed before now 6
 dialogue-cut {before = before} {now = now} sink_failed reading.SinkFailed said is written told =
     record {
       text = said;
@@ -78,13 +80,13 @@ dialogue-cut sink_failed _ said is written told = absurd (cc)
 -- ---- forms that ask for a dialogue
 
 -- what ends it is caused
-pub dialogue-caused : {has_form : Bool} {met : Met} {quits : List ℕ → Bool} {answered : Told}
+pub dialogue-caused : {has_form : Bool} {met : Met} {quits : List ℕ → Bool} {answered : AnswerRelation}
     {text : List ℕ} {end : End} → IsDialogue met.reading quits answered text end
     → IsCaused has_form met text end
 dialogue-caused {has_form} {met} {quits} {answered} {text} {end} dialogue =
     by dialogue.ended dialogue.end_is dialogue.is
   where
-    by : (ended : ReadingEnd) → end_of ended ≡ Some end
+    by : (ended : ReadingEnd) → end_after_reading ended ≡ Some end
         → HasEnded quits answered met.reading ended text → IsCaused has_form met text end
     by reading.Interrupted is ended = goes-on (cc) (λ input. ended.failed)
     by reading.SinkFailed is ended = absurd (cc)
@@ -119,7 +121,7 @@ not-opened-caused names due told (there, is, fails) rose = failure-caused (failu
 -- what is due where the files are fit
 fit-due : {T : Type 0} {met : Met} {names : DictionaryNamed} {quits : List ℕ → Bool} {opened : T}
     (due : OwnFiles → Result T Failure) (there : OwnFiles)
-    → IsFit met names due quits opened → IsOwnThere met.folder names there
+    → IsDialogueFit met names due quits opened → IsOwnThere met.folder names there
     → due there ≡ Ok opened
 fit-due {names = names} due there fit is =
     let found : there ≡ own_found_in fit.folder names =
@@ -131,7 +133,7 @@ pub not-opened-whole : {T : Type 0} {met : Met} {names : DictionaryNamed} {quits
     {failure : Failure} (due : OwnFiles → Result T Failure) (answered : Answering T)
     → (there : OwnFiles) × IsOwnThere met.folder names there × FailsAs MayCome (due there) failure
     → (failure ≡ Load FailedLoad → met.files_before < met.files_after) → IsUntouched met.reading
-    → (opened : T) → IsFit met names due quits opened
+    → (opened : T) → IsDialogueFit met names due quits opened
     → ¬ ((met.files_before < met.files_after) × IsUntouched met.reading)
     → IsWholeDialogue met.reading quits (answered met opened) [] (Failed failure)
 not-opened-whole {T} {met} {names} {quits} {failure} due answered (there, is, fails) rose untouched
@@ -164,7 +166,7 @@ pub dialogue-whole : {T : Type 0} {met : Met} {names : DictionaryNamed} {quits :
     → ((line : List ℕ) → quits line ≡ true → IsShort line)
     → (there : OwnFiles) × IsOwnThere met.folder names there × (due there ≡ Ok opened)
     → IsDialogue met.reading quits (answered met opened) text end
-    → (other : T) → IsFit met names due quits other
+    → (other : T) → IsDialogueFit met names due quits other
     → met.reading.faults_after ≡ met.reading.faults_before
     → IsWholeDialogue met.reading quits (answered met other) text end
 dialogue-whole {T} {met} {names} {quits} {opened} {text} {end} due answered read quits_short
@@ -178,20 +180,20 @@ dialogue-whole {T} {met} {names} {quits} {opened} {text} {end} due answered read
     dialogue.ended text (λ lines said is. tt) dialogue.is)
     fit.input_is fit.bounded quits_short fit.short reads))
   where
-    by : (ended : ReadingEnd) → end_of ended ≡ Some end
+    by : (ended : ReadingEnd) → end_after_reading ended ≡ Some end
         → HasEnded quits (answered met opened) met.reading ended text
         → (ended ≡ reading.Finished) ⊎ ((ended ≡ reading.NoMemory) ⊎ (ended ≡ reading.SinkFailed))
         → IsWholeDialogue met.reading quits (answered met opened) text end
     by ended told is (inl finished) =
-        let quiet : Some end ≡ Some Quiet = sym told ∙ ap end_of finished in
+        let quiet : Some end ≡ Some Quiet = sym told ∙ ap end_after_reading finished in
         AllAnswered (cc)
         (subst (λ ended. HasEnded quits (answered met opened) met.reading ended text) finished is)
     by ended told is (inr (inl wanting)) =
-        let memory : Some end ≡ Some (Failed NoMemory) = sym told ∙ ap end_of wanting in
+        let memory : Some end ≡ Some (Failed NoMemory) = sym told ∙ ap end_after_reading wanting in
         SomeAnswered (cc)
         (subst (λ ended. HasEnded quits (answered met opened) met.reading ended text) wanting is)
     by ended told is (inr (inr cut)) =
-        let never : Some end ≡ None = sym told ∙ ap end_of cut in absurd (cc)
+        let never : Some end ≡ None = sym told ∙ ap end_after_reading cut in absurd (cc)
 
 -- ---- what a pipe has answered
 
@@ -233,7 +235,7 @@ replied-so {workers} {dictionary} {closed = closed} {lines = lines} same sooner 
   history = subst
       (λ folder. IfSome closed (IsConsoleHistory
       (record { workers = workers; folder = folder; by = workers; session = SESSION }) dictionary
-      (asked_by lines) is.replies))
+      (commands_asked_by lines) is.replies))
       (sym same) is.history;
   failures = omega (arith, is.failures, sooner);
 }
@@ -243,10 +245,10 @@ replied-so {workers} {dictionary} {closed = closed} {lines = lines} same sooner 
 -- by how the call ends; where the sink failed, there is no end to tell
 abbrev tells : Option End → Bool
 tells None = false
-tells (Some end) = is_quiet end
+tells (Some end) = ends_without_marks end
 
 ends-after : (closed : Option Run) (ended : ReadingEnd) → IsClosedAt ended closed
-    → is_some closed ≡ tells (end_of ended)
+    → is_some closed ≡ tells (end_after_reading ended)
 ends-after closed reading.Finished at = at
 ends-after closed reading.Interrupted at = ap is_some at
 ends-after closed reading.TooMuch at = ap is_some at
@@ -255,10 +257,11 @@ ends-after closed reading.NoMemory at = ap is_some at
 ends-after closed reading.SinkFailed at = ap is_some at
 
 pub closed-after : (closed : Option Run) {end : End} (status : ℕ) (ended : ReadingEnd)
-    → IsClosedAt ended closed → end_of ended ≡ Some end → (status == 0) ≡ is_quiet end
+    → IsClosedAt ended closed → end_after_reading ended ≡ Some end
+    → (status == 0) ≡ ends_without_marks end
     → IsClosedAfter true status closed
 closed-after closed status ended at told zero = ends-after closed ended at ∙ ap tells told ∙ sym zero
 
 pub none-after : (closed : Option Run) (ended : ReadingEnd)
-    → IsClosedAt ended closed → end_of ended ≡ None → IsClosedAfter true 6 closed
+    → IsClosedAt ended closed → end_after_reading ended ≡ None → IsClosedAfter true 6 closed
 none-after closed ended at told = ends-after closed ended at ∙ ap tells told

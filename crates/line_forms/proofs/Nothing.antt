@@ -1,9 +1,9 @@
 -- A dialogue in which nothing was replied.
 use Rattle.std.proofs.Common.{◌≡◌, refl, sym, subst, ◌≤◌, List, [], ℕ, Option, None, Some, add-zero}
-use Rattle.text_lines.specs.Lines.{line_texts}
+use Rattle.mark_types.specs.text_lines.Lines.{line_texts}
 use Rattle.outside.specs.Laws.{appends-none}
 use Rattle.outside.specs.Sink.{Appends}
-use Rattle.outside.specs.Source.{IsGiven}
+use Rattle.outside.specs.Source.{IsToldBytes}
 use Rattle.input_lines.specs.Ends.{AreAnsweredFirst, Reading, EndsOnSome}
 use Rattle.input_lines.specs.Turns.{IsOver}
 use Rattle.input_lines.specs.declared.reading_end.ReadingEnd.TheVariants.{NoMemory}
@@ -50,7 +50,7 @@ nothing-said setting reading sink_failed written written_now grown same = (
       answers = record { going = refl; short = tt; said_so = none-replied setting grown };
     }
 
-    given : (before : Option (List ℕ)) → (input : List ℕ) × IsGiven before input
+    given : (before : Option (List ℕ)) → (input : List ℕ) × IsToldBytes before input
     given None = ([], tt)
     given (Some input) = (input, refl)
 

@@ -4,9 +4,9 @@ use Rattle.std.proofs.Common.{length, zero-add, arith}
 use Rattle.std.specs.List.{range_with_len}
 use Rattle.std.proofs.lemmas.List.{length-map, same_from_push}
 use Rattle.std.proofs.lemmas.List.FromFn.{length-range_with_len, map-range_with_len_more}
-use Rattle.personal_words.specs.Dictionaries.{OwnSeen}
+use Rattle.own_dictionary.specs.personal_words.Dictionaries.{OwnSeen}
 use Rattle.board_share.specs.Eyes.{EyeSeen, fresh_eye}
-use Rattle.desk_console.specs.Consoles.{lines_left}
+use Rattle.desk_console.specs.Consoles.{lines_left_for_eye}
 use Rattle.line_forms.specs.Talks.{fresh_workers, opening_by}
 use Rattle.input_lines.specs.declared.limits.TheConstants.{INPUT_LIMIT}
 
@@ -32,9 +32,9 @@ taken-off workers dictionary {eyes} {others} {eye} are is =
 
 -- an eye that has counted nothing leaves room for all lines of an input
 pub room-left : (workers : ℕ) (dictionary : OwnSeen) {eye : EyeSeen}
-    → eye ≡ fresh_eye (opening_by dictionary) workers → INPUT_LIMIT + 1 ≤ lines_left eye
+    → eye ≡ fresh_eye (opening_by dictionary) workers → INPUT_LIMIT + 1 ≤ lines_left_for_eye eye
 room-left workers dictionary is =
-    subst (λ (eye : EyeSeen). INPUT_LIMIT + 1 ≤ lines_left eye) (sym is) (omega arith)
+    subst (λ (eye : EyeSeen). INPUT_LIMIT + 1 ≤ lines_left_for_eye eye) (sym is) (omega arith)
 
 pub few-others : (workers : ℕ) (dictionary : OwnSeen) {others : List EyeSeen} → workers ≤ 63
     → others ≡ fresh_workers workers dictionary → length others < 64

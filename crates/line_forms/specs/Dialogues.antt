@@ -1,12 +1,13 @@
 -- What is replied in a dialogue over a desk, and what the history of the desk is then.
 use Rattle.std.specs.Prelude.{◌≡◌, ℕ, ◌+◌, ◌≤◌, List, Option, None, IfSome, IsSome}
 use Rattle.outside.specs.Files.{Folder}
-use Rattle.personal_words.specs.Dictionaries.{OwnSeen}
-use Rattle.edit_core.specs.Runs.{Run}
+use Rattle.own_dictionary.specs.personal_words.Dictionaries.{OwnSeen}
+use Rattle.board_share.specs.edit_core.Runs.{Run}
 use Rattle.input_lines.specs.declared.reading_end.ReadingEnd.{ReadingEnd}
 use Rattle.input_lines.specs.declared.reading_end.ReadingEnd.TheVariants.{Finished}
 use Rattle.console_lang.specs.declared.reply.Reply.{Reply}
-use Rattle.console_board.specs.Transcripts.{IsTranscript, asked_by, failures_in, written_of}
+use Rattle.console_board.specs.Transcripts.{IsTranscript, commands_asked_by, failures_in}
+use Rattle.console_board.specs.Transcripts.{written_of}
 use Rattle.console_history.specs.Followed.{Given, IsConsoleHistory}
 use Rattle.desk_console.specs.declared.console.TheConstants.{SESSION}
 
@@ -37,7 +38,7 @@ pub record AreReplied (setting : Setting) (closed : Option Run) (lines : List (L
   pub transcript : IsTranscript setting.workers setting.folder setting.dictionary.base
       setting.dictionary.own lines replies
   pub history : IfSome closed
-      (IsConsoleHistory (given_in setting) setting.dictionary (asked_by lines) replies)
+      (IsConsoleHistory (given_in setting) setting.dictionary (commands_asked_by lines) replies)
   pub failures : setting.failed + failures_in replies ≤ setting.failed_now
 
 -- the history is known exactly where all of the input was read

@@ -3,10 +3,10 @@ use Rattle.std.specs.Prelude.{◌≡◌, ℕ, ◌<◌, Bool, true, false, List, 
 use Rattle.std.specs.Prelude.{Ok, Err}
 use Rattle.std.specs.List.{AllByRecursion}
 use Rattle.outside.specs.Files.{Folder}
-use Rattle.spell_types.specs.declared.Lexicon.{Lexicon}
-use Rattle.personal_words.specs.Dictionaries.{OwnSeen}
-use Rattle.text_lines.specs.Lines.{line_texts}
-use Rattle.dictionary_swap.specs.declared.fault.LoadFault.TheVariants.{Failed as FailedLoad}
+use Rattle.mark_types.specs.spell_types.declared.Lexicon.{Lexicon}
+use Rattle.own_dictionary.specs.personal_words.Dictionaries.{OwnSeen}
+use Rattle.mark_types.specs.text_lines.Lines.{line_texts}
+use Rattle.own_dictionary.specs.dictionary_swap.declared.fault.LoadFault.TheVariants.{Failed as FailedLoad}
 use Rattle.input_lines.specs.Ends.{HasEnded, Reading}
 use Rattle.input_lines.specs.Lines.{IsBounded, IsShort, before_quit}
 use Rattle.input_lines.specs.declared.reading_end.ReadingEnd.{ReadingEnd}
@@ -24,13 +24,13 @@ use Rattle.input_lines.specs.declared.limits.TheConstants.{INPUT_LIMIT, LINE_LIM
 use Rattle.file_loading.specs.Forms.{Form, IsUntouched, Met}
 
 -- how a call ends where the reading of its input ends so; where the sink fails, nothing is told
-abbrev pub end_of : ReadingEnd → Option End
-end_of reading.Finished = Some Quiet
-end_of reading.Interrupted = Some (Failed Input)
-end_of reading.TooMuch = Some (Failed (Limit INPUT_LIMIT))
-end_of reading.LongLine = Some (Failed (Limit LINE_LIMIT))
-end_of reading.NoMemory = Some (Failed NoMemory)
-end_of reading.SinkFailed = None
+abbrev pub end_after_reading : ReadingEnd → Option End
+end_after_reading reading.Finished = Some Quiet
+end_after_reading reading.Interrupted = Some (Failed Input)
+end_after_reading reading.TooMuch = Some (Failed (Limit INPUT_LIMIT))
+end_after_reading reading.LongLine = Some (Failed (Limit LINE_LIMIT))
+end_after_reading reading.NoMemory = Some (Failed NoMemory)
+end_after_reading reading.SinkFailed = None
 
 -- what may be said of the lines of an input and their answers, by what is met outside and by what
 -- was opened for them
@@ -41,7 +41,7 @@ Answering T = Met → T → List (List ℕ) → List ℕ → Type 0
 pub record IsDialogue (read : Reading) (quits : List ℕ → Bool)
     (answered : List (List ℕ) → List ℕ → Type 0) (text : List ℕ) (end : End) : Type 0 where
   pub ended : ReadingEnd
-  pub end_is : end_of ended ≡ Some end
+  pub end_is : end_after_reading ended ≡ Some end
   pub is : HasEnded quits answered read ended text
 
 -- How words may be answered that ask for a dialogue by a dictionary: it is due that this opens, and
@@ -78,7 +78,7 @@ pub data IsWholeDialogue (read : Reading) (quits : List ℕ → Bool)
       → IsWholeDialogue read quits answered text end
 
 -- the folder has what the dialogue is opened by, and the input passes no limit
-pub record IsFit {T : Type 0} (met : Met) (names : DictionaryNamed)
+pub record IsDialogueFit {T : Type 0} (met : Met) (names : DictionaryNamed)
     (due : OwnFiles → Result T Failure) (quits : List ℕ → Bool) (opened : T) : Type 0 where
   pub folder : Folder
   pub folder_is : met.folder ≡ Some folder
@@ -97,7 +97,7 @@ dialogue_form {T} opens_desk names due quits answered = record {
   reads_input = true;
   opens_desk = opens_desk;
   answers = λ met text end. IsOpened met names due quits answered text end;
-  whole = λ met text end. (opened : T) → IsFit met names due quits opened
+  whole = λ met text end. (opened : T) → IsDialogueFit met names due quits opened
       → ¬ (FailedFirst met) → met.reading.faults_after ≡ met.reading.faults_before
       → IsWholeDialogue met.reading quits (answered met opened) text end;
 }

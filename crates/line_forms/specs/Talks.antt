@@ -2,8 +2,8 @@
 use Rattle.std.specs.Prelude.{◌≡◌, ℕ, ◌<◌, List, [], ◌∷◌, ◌++◌, map, Option}
 use Rattle.std.specs.List.{AllZip, range_with_len}
 use Rattle.outside.specs.Files.{Folder}
-use Rattle.personal_words.specs.Dictionaries.{OwnSeen, in_force}
-use Rattle.edit_core.specs.Seen.{Seen, opening_of}
+use Rattle.own_dictionary.specs.personal_words.Dictionaries.{OwnSeen, in_force}
+use Rattle.board_share.specs.edit_core.Seen.{Seen, opening_of}
 use Rattle.board_share.specs.Eyes.{EyeSeen, fresh_eye}
 use Rattle.worker_crew.specs.Crews.{HasWorked}
 use Rattle.input_lines.specs.Ends.{Reading}

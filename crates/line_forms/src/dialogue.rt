@@ -6,31 +6,31 @@ ghost use Rattle.input_lines.specs.Turns.{IsOver};
 ghost use Rattle.board_share.specs.Eyes.{fresh_eye};
 ghost use Rattle.board_share.specs.Namings.{IsNamed};
 ghost use Rattle.console_board.specs.Transcripts.{is_quit};
-ghost use Rattle.desk_console.specs.Consoles.{lines_left};
+ghost use Rattle.desk_console.specs.Consoles.{lines_left_for_eye};
 ghost use Rattle.desk_console.specs.declared.stop.Stop.TheVariants.{Spent};
 ghost use Rattle.input_lines.specs.declared.limits.TheConstants.{INPUT_LIMIT};
 ghost use Rattle.line_forms.specs.Dialogues.{AreReplied, IsClosedAt};
-ghost use Rattle.line_forms.specs.Endings.{end_of, history_of};
+ghost use Rattle.line_forms.specs.Endings.{reading_end_with_stop, history_of};
 ghost use Rattle.line_forms.specs.Talks.{AreBehind, first_seat, fresh_workers, opening_by};
 
 use crate::talk::{Closing, talk_beside};
+use board_share::edit_core::Board;
 use board_share::{Blank, Closed, Desk, Eye, Naming};
 use check_workers::Bell;
 use console_history::{
     closed_consoles_are_followed, closed_consoles_are_not_spent, told_consoles_keep_their_eyes,
 };
 use desk_console::{DeskConsole, Stop};
-use edit_core::Board;
 use input_lines::ReadingEnd;
-use lists::NoMemory;
 use mark_types::Judge;
+use outside::lists::NoMemory;
 use outside::{Files, Gate, Sink, Source};
-use personal_words::Dictionary;
+use own_dictionary::personal_words::Dictionary;
 use std::alloc::Global;
 use std::marker::Brand;
 use std::sync::{Arc, Wait};
 use std::thread::Threads;
-use worker_crew::{Crew, Place, Room, crew_of};
+use worker_crew::{Crew, Room, Workplace, crew_of};
 
 /// How many workers a console may have beside it.
 pub const MOST_BESIDE: u32 = 63;
@@ -49,7 +49,7 @@ pub struct Conversed<J: Judge + Drop> {
 /// Where no thread can be made, nothing is checked but by `settle`. The desk is closed at the end.
 /// Where memory for it is wanting, no line is read.
 pub fn converse<J, O, R, F, S, K, G>(
-    place: &Place<'_, R, G>,
+    place: &Workplace<'_, R, G>,
     workers: u32,
     dictionary: O,
     files: &mut F,
@@ -98,7 +98,7 @@ where
 
 /// A dialogue over a desk with a name of its own.
 fn converse_named<J, O, R, F, S, K, G>(
-    place: &Place<'_, R, G>,
+    place: &Workplace<'_, R, G>,
     workers: u32,
     dictionary: O,
     files: &mut F,
@@ -161,7 +161,7 @@ fn opening_by<J: Judge + Drop, O: Dictionary<J>>(
 /// Starts a desk of this name with an eye for each worker and one for the console, and lets them
 /// work.
 fn converse_over<J, O, D, R, F, S, K, G>(
-    place: &Place<'_, R, G>,
+    place: &Workplace<'_, R, G>,
     workers: u32,
     opening: Board<J>,
     blank: Blank<J>,
@@ -212,7 +212,7 @@ where
 
 /// Lets the eyes of a desk work, and closes the desk.
 fn talk_over<J, O, D, W, R, F, S, K, G>(
-    place: &Place<'_, R, G>,
+    place: &Workplace<'_, R, G>,
     workers: u32,
     desk: Desk<J, D, W>,
     eyes: Vec<Eye<J, D>>,
@@ -282,7 +282,7 @@ struct Talked<J: Judge + Drop, D: Naming> {
 
 /// Lets the eyes of a desk work: the last one is the console's.
 fn talk_at<J, O, D, W, R, F, S, K, G>(
-    place: &Place<'_, R, G>,
+    place: &Workplace<'_, R, G>,
     workers: u32,
     desk: &Desk<J, D, W>,
     eyes: Vec<Eye<J, D>>,
@@ -369,7 +369,7 @@ where
     S: Source,
     K: Sink,
     G: Gate + Sync,
-    requires room { INPUT_LIMIT + 1 ≤ lines_left eye }
+    requires room { INPUT_LIMIT + 1 ≤ lines_left_for_eye eye }
     ensures behind { AreBehind (record { eye = eye; dictionary = O.seen dictionary }) crew.entry
         result.eyes.items
         (record {
@@ -413,7 +413,7 @@ fn concluded<J: Judge + Drop>(
     closed: Closed<J>,
 ) -> Conversed<J>
     requires { (point : ℕ) → ¬ (stopped ≡ Some (Spent point)) }
-    ensures ended { result.ended ≡ end_of ended stopped }
+    ensures ended { result.ended ≡ reading_end_with_stop ended stopped }
     ensures closed { result.closed ≡ history_of ended stopped closed }
 {
     match (ended, stopped) {

@@ -20,12 +20,12 @@ use own_dictionary::OwnDictionary;
 use std::sync::Wait;
 use std::thread::Threads;
 use word_verdict::Speller;
-use worker_crew::Place;
+use worker_crew::Workplace;
 
 /// Opens a console over a desk by a dictionary, and replies to the commands that are read until
 /// `quit` or the end of the input, while so many workers check beside it.
 pub fn edit<R, F, S, K, G>(
-    place: &Place<'_, R, G>,
+    place: &Workplace<'_, R, G>,
     names: DictionaryNames<'_>,
     workers: Workers,
     files: &mut F,
@@ -83,7 +83,7 @@ where
 
 /// Lets a console that opens by a dictionary reply to the lines of the input, and writes how it ends.
 fn talk<R, F, S, K, G>(
-    place: &Place<'_, R, G>,
+    place: &Workplace<'_, R, G>,
     dictionary: OwnDictionary,
     workers: Workers,
     files: &mut F,

@@ -1,7 +1,7 @@
 //! How a call ends where the reading of its input has ended.
 
 ghost use Rattle.std.specs.Prelude.{◌≡◌};
-ghost use Rattle.line_forms.specs.Forms.{end_of};
+ghost use Rattle.line_forms.specs.Forms.{end_after_reading};
 
 use file_loading::{End, Failure};
 use input_lines::{INPUT_LIMIT, LINE_LIMIT, ReadingEnd};
@@ -9,7 +9,7 @@ use input_lines::{INPUT_LIMIT, LINE_LIMIT, ReadingEnd};
 /// How a call ends where the reading of its input ends so. Where the sink failed, nothing more is
 /// written.
 pub fn end_of(ended: ReadingEnd) -> Option<End>
-    ensures { result ≡ end_of ended }
+    ensures { result ≡ end_after_reading ended }
 {
     match ended {
         ReadingEnd::Finished => Some(End::Quiet),

@@ -10,7 +10,7 @@ ghost use Rattle.file_loading.specs.Forms.{IsAnswerBy};
 use crate::ending::end_of;
 use file_loading::{DictionaryNames, End, Failure, SINK_FAILED, load_judge, put_end};
 use input_lines::{answer_lines, fitting_inputs_are_read};
-use lists::NoMemory;
+use outside::lists::NoMemory;
 use outside::{Files, Sink, Source};
 use pipe_mode::Pipe;
 use std::alloc::Global;

@@ -12,7 +12,7 @@ ghost use Rattle.std.specs.Slice.Iter.{iter_rest, iter_steps};
 mod shared_items;
 pub mod text_order;
 
-pub use shared_items::{SharedItems, Walk};
+pub use shared_items::{ItemsWalk, SharedItems};
 use std::alloc::{AllocError, AllocFailed, Global};
 use std::default::MadeWith;
 use std::hash::{Hash, Hasher};

@@ -146,10 +146,10 @@ impl<T> SharedItems<T> {
     }
 
     /// The items, one after another.
-    pub fn iter(&self) -> Walk<'_, T>
+    pub fn iter(&self) -> ItemsWalk<'_, T>
         ensures { result ≡ self.now }
     {
-        Walk {
+        ItemsWalk {
             items: &[],
             later: self.chunks.as_slice(),
         }
@@ -369,12 +369,12 @@ fn all_but_first<T>(chunks: &[Counted<T>]) -> &[Counted<T>]
 
 /// The items of a list that are left, one after another. Contracts see it as the list of these.
 #[derive(Debug, Drop)]
-pub struct Walk<'a, T> {
+pub struct ItemsWalk<'a, T> {
     items: &'a [T],
     later: &'a [Counted<T>],
 }
 
-impl<'a, T> Model for Walk<'a, T> {
+impl<'a, T> Model for ItemsWalk<'a, T> {
     ghost use Rattle.std.specs.Prelude.{List, ◌++◌};
     ghost use Rattle.lists.specs.Chunks.{items_of};
 
@@ -383,7 +383,7 @@ impl<'a, T> Model for Walk<'a, T> {
     ghost view = { λ inside. inside.items.now ++ items_of inside.later.now };
 }
 
-impl<'a, T> Iterator for Walk<'a, T> {
+impl<'a, T> Iterator for ItemsWalk<'a, T> {
     type Item = &'a T;
 
     ghost next_gives = { YieldsFirstRef (λ it. it) };
@@ -403,16 +403,16 @@ impl<'a, T> Iterator for Walk<'a, T> {
     }
 }
 
-impl<'a, T> FusedIterator for Walk<'a, T> {}
+impl<'a, T> FusedIterator for ItemsWalk<'a, T> {}
 
 impl<'a, T> IntoIterator for &'a SharedItems<T> {
     type Item = &'a T;
 
-    type IntoIter = Walk<'a, T>;
+    type IntoIter = ItemsWalk<'a, T>;
 
     ghost into_iter_gives = { λ list it. it ≡ list.now };
 
-    fn into_iter(self) -> Walk<'a, T> {
+    fn into_iter(self) -> ItemsWalk<'a, T> {
         self.iter()
     }
 }

@@ -15,7 +15,7 @@ use Rattle.mark_types.specs.Words.{byte_count, word_of, is_outside, words_of, St
 use Rattle.mark_types.specs.Marks.{LocatedWord, located_at, located_in, located_words, in_paragraph}
 use Rattle.mark_types.specs.Marks.{one_by_one, joined, marks_of, is_unknown}
 use Rattle.mark_types.proofs.Cutting.{slice_split-append, slice_split-map}
-use Rattle.lists.specs.Laws.{byte_length-cons, byte_length-append}
+use Rattle.text_lines.specs.lists.Laws.{byte_length-cons, byte_length-append}
 use Rattle.mark_types.proofs.Standing.{words_of-stand}
 
 -- the characters of a text that holds a line feed

@@ -10,7 +10,7 @@ use Rattle.mark_types.specs.Characters.{line_feed, is_letter_or_digit}
 use Rattle.mark_types.specs.Words.{Placed, placed, characters_of, byte_count, word_of, is_outside}
 use Rattle.mark_types.specs.Words.{words_of, StandsIn}
 use lib.Utf8.{encode}
-use Rattle.lists.specs.Laws.{byte_length-cons, byte_length-append}
+use Rattle.text_lines.specs.lists.Laws.{byte_length-cons, byte_length-append}
 use Rattle.mark_types.proofs.Cutting.{IsPart, slice_split-parts}
 
 characters_of-placed : (wordchars : List ℕ) (byte before : ℕ) (text : List ℕ)

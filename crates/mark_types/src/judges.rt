@@ -4,8 +4,8 @@ ghost use Rattle.std.specs.Prelude.{◌≡◌, IfOk};
 ghost use Rattle.spell_types.specs.declared.Lexicon.{Lexicon};
 ghost use Rattle.spell_types.specs.Yields.{yields};
 
-use lists::NoMemory;
 use std::alloc::Global;
+use text_lines::lists::NoMemory;
 
 /// What answers by a dictionary that no call changes.
 pub trait Judge {

@@ -10,9 +10,12 @@ ghost use Rattle.mark_types.specs.Marks.{located_at, located_words, one_by_one, 
 mod judges;
 
 pub use judges::{Asker, Judge};
-use lists::{Copied, Items, NoMemory};
+pub use spell_types;
 use std::alloc::Global;
+pub use text_lines;
 use text_lines::Text;
+pub use text_lines::lists;
+use text_lines::lists::{Copied, Items, NoMemory};
 
 /// Where a word stands in its paragraph: its first byte and the byte past its end, from 0.
 #[derive(Clone, Copy, Debug, PartialEq, Eq)]

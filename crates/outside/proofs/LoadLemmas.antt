@@ -5,7 +5,7 @@ use Rattle.std.proofs.lemmas.Bool.Decides.{nat_tests}
 use Rattle.std.proofs.lemmas.List.{length-replicate}
 use Rattle.lists.specs.AnswerLaws.{gives-fault}
 use Rattle.lists.specs.Answers.{FailsAs, GivesDue}
-use Rattle.outside.specs.Files.{MayCome, file_due}
+use Rattle.outside.specs.Files.{MayComeOfFiles, file_due}
 use Rattle.outside.specs.declared.faults.FileFault.{FileFault}
 use Rattle.outside.specs.declared.faults.FileFault.TheVariants.{Failed, Missing, TooLong, NoMemory}
 
@@ -25,7 +25,7 @@ too-long limit =
 
 -- each fault is that of some file
 explained : (limit : ℕ) (fault : FileFault)
-    → (file : Option (List ℕ)) × FailsAs MayCome (file_due limit file) fault
+    → (file : Option (List ℕ)) × FailsAs MayComeOfFiles (file_due limit file) fault
 unfolding file_due
 explained limit Failed = (None, inl tt)
 explained limit Missing = (None, inr refl)
@@ -35,7 +35,7 @@ explained limit NoMemory = (None, inl tt)
 -- and so is the fault of a result
 pub fault-explained : {A : Type 0} (limit : ℕ) (view : A → List ℕ) (result : Result A FileFault)
     (fault : FileFault) → IsErrAnd result (λ told. told ≡ fault)
-    → (file : Option (List ℕ)) × GivesDue MayCome view (file_due limit file) result
+    → (file : Option (List ℕ)) × GivesDue MayComeOfFiles view (file_due limit file) result
 fault-explained limit view result fault is =
     let some = explained limit fault in
-    (some.0, gives-fault MayCome view result some.1 is)
+    (some.0, gives-fault MayComeOfFiles view result some.1 is)

@@ -26,7 +26,7 @@ unfoldable pub file_due : ℕ → Option (List ℕ) → Result (List ℕ) FileFa
 file_due limit file = bytes_due limit file
 
 -- a failure and want of memory may come at any file
-abbrev pub MayCome : FileFault → Type 0
-MayCome Failed = Unit {0}
-MayCome NoMemory = Unit {0}
-MayCome _ = ⊥
+abbrev pub MayComeOfFiles : FileFault → Type 0
+MayComeOfFiles Failed = Unit {0}
+MayComeOfFiles NoMemory = Unit {0}
+MayComeOfFiles _ = ⊥

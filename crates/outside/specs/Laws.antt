@@ -4,7 +4,7 @@ use Rattle.std.proofs.Common.{◌∙◌, refl, sym, ap, subst, append-nil, appen
 use Rattle.std.proofs.Math.Seq.{take-append-add}
 use Rattle.std.proofs.lemmas.List.{take-append-le, take_min}
 use Rattle.outside.specs.Sink.{Appends, AppendsFront}
-use Rattle.outside.specs.Source.{Takes, IsEndOf, IsGiven}
+use Rattle.outside.specs.Source.{Takes, IsEndOf, IsToldBytes}
 
 -- ---- a sink
 
@@ -61,7 +61,7 @@ takes-none (Some left) = refl
 
 -- at its end all was taken that a source told
 pub takes-all : (before after : Option (List ℕ)) (taken : List ℕ) → Takes before after taken
-    → IsEndOf after 0 → IsGiven before taken
+    → IsEndOf after 0 → IsToldBytes before taken
 takes-all None after taken took ends = tt
 takes-all (Some told) None taken took ends = absurd took
 takes-all (Some told) (Some rest) taken took ends =
@@ -69,7 +69,7 @@ takes-all (Some told) (Some rest) taken took ends =
 
 -- what was taken is the front of all that a source told
 pub takes-front : (before after : Option (List ℕ)) (taken : List ℕ) → Takes before after taken
-    → (rest : List ℕ) × IsGiven before (taken ++ rest)
+    → (rest : List ℕ) × IsToldBytes before (taken ++ rest)
 takes-front None after taken took = ([], tt)
 takes-front (Some told) None taken took = absurd took
 takes-front (Some told) (Some rest) taken took = (rest, sym took)

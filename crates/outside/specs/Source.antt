@@ -11,6 +11,6 @@ abbrev pub IsEndOf : Option (List ℕ) → ℕ → Type 0
 IsEndOf before count = IfSome before (λ bytes. (count ≡ 0) ↔ (bytes ≡ []))
 
 -- bytes are what an input tells, if it tells any
-abbrev pub IsGiven : Option (List ℕ) → List ℕ → Type 0
-IsGiven None bytes = Unit {0}
-IsGiven (Some told) bytes = bytes ≡ told
+abbrev pub IsToldBytes : Option (List ℕ) → List ℕ → Type 0
+IsToldBytes None bytes = Unit {0}
+IsToldBytes (Some told) bytes = bytes ≡ told

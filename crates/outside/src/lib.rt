@@ -18,6 +18,7 @@ mod sure;
 pub use faults::{Failed, FileFault};
 pub use folders::Files;
 pub use gates::{FreeGate, Gate};
+pub use lists;
 pub use loading::load_file;
 pub use real::{RealFiles, StdSink, StdSource};
 pub use sinks::Sink;

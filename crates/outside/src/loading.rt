@@ -1,7 +1,7 @@
 //! A file that is loaded whole.
 ghost use Rattle.std.specs.Prelude.{◌≡◌, ◌<◌, ◌≤◌, ℕ, List, Option, length, IfOk, IfSome, IsErrOf};
 ghost use Rattle.lists.specs.Answers.{GivesDue};
-ghost use Rattle.outside.specs.Files.{MayCome, file_due};
+ghost use Rattle.outside.specs.Files.{MayComeOfFiles, file_due};
 
 use crate::faults::FileFault;
 use crate::folders::Files;
@@ -17,9 +17,9 @@ pub fn load_file<F: Files>(
 ) -> Result<Vec<u8>, FileFault>
     // They are those that are due of some file, which is the one that is told, where one is.
     ensures found { (file : Option (List ℕ))
-        × GivesDue MayCome (λ bytes. bytes.items) (file_due limit file) result }
+        × GivesDue MayComeOfFiles (λ bytes. bytes.items) (file_due limit file) result }
     ensures told { IfSome (F.told files.old) (λ folder.
-        GivesDue MayCome (λ bytes. bytes.items) (file_due limit (folder name.now)) result) }
+        GivesDue MayComeOfFiles (λ bytes. bytes.items) (file_due limit (folder name.now)) result) }
     ensures bounded { IfOk result (λ bytes. length bytes.items ≤ limit) }
     ensures same { F.told files.new ≡ F.told files.old }
     ensures failed { IsErrOf result FileFault.Failed → F.faults files.old < F.faults files.new }

@@ -9,22 +9,22 @@ use std::marker::Model;
 
 /// Bytes that pieces were added to. Contracts see them until memory for a piece was wanting.
 #[derive(Drop)]
-pub(crate) struct Kept {
+pub(crate) struct KeptBytes {
     bytes: Vec<u8>,
     is_whole: bool,
 }
 
-impl Model for Kept {
+impl Model for KeptBytes {
     ghost Value = { Option (List ℕ) };
 
     ghost view = { λ inside. kept_while inside.is_whole inside.bytes.items };
 }
 
-impl Kept {
-    pub(crate) fn new(alloc: Global) -> Kept
+impl KeptBytes {
+    pub(crate) fn new(alloc: Global) -> KeptBytes
         ensures { result ≡ Some [] }
     {
-        Kept {
+        KeptBytes {
             bytes: Vec::new(alloc),
             is_whole: true,
         }

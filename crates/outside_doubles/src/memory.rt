@@ -2,7 +2,7 @@
 ghost use Rattle.std.specs.Prelude.{◌≡◌, ◌≤◌, [], take, Some, IfSome};
 ghost use Rattle.outside.specs.Memory.{file_of};
 
-use crate::kept::Kept;
+use crate::kept::KeptBytes;
 use crate::plans::Plan;
 use crate::unread::Unread;
 use outside::{Failed, FileFault, Files, Sink, Source, SureFiles};
@@ -50,7 +50,7 @@ impl Source for MemSource {
 /// Ok, one that was to fail too; from then on the sink tells nothing.
 #[derive(Drop)]
 pub struct MemSink {
-    kept: Kept,
+    kept: KeptBytes,
     plan: Plan,
     taken: usize,
 }
@@ -64,7 +64,7 @@ impl MemSink {
         ensures faultless { ⟦<MemSink as Sink>⟧.faults result ≡ 0 }
     {
         MemSink {
-            kept: Kept::new(alloc),
+            kept: KeptBytes::new(alloc),
             plan: Plan::new(failing),
             taken,
         }

@@ -1,7 +1,7 @@
 //! A source and a sink in memory that never fail. They tell their bytes.
 ghost use Rattle.std.specs.Prelude.{◌≡◌, [], Some, IfSome};
 
-use crate::kept::Kept;
+use crate::kept::KeptBytes;
 use crate::unread::Unread;
 use outside::{Failed, Sink, Source};
 use std::alloc::Global;
@@ -37,7 +37,7 @@ impl Source for SureSource {
 /// then on the sink tells nothing.
 #[derive(Drop)]
 pub struct SureSink {
-    kept: Kept,
+    kept: KeptBytes,
 }
 
 impl SureSink {
@@ -46,7 +46,7 @@ impl SureSink {
         ensures { ⟦<SureSink as Sink>⟧.written result ≡ Some [] }
     {
         SureSink {
-            kept: Kept::new(alloc),
+            kept: KeptBytes::new(alloc),
         }
     }
 

@@ -4,7 +4,7 @@ use Rattle.std.proofs.Math.Seq.{take-append_seam}
 use Rattle.personal_words.specs.declared.items.OwnItem.{OwnItem}
 use Rattle.personal_words.specs.Extended.{entry_of_item, extended}
 use Rattle.spell_types.specs.declared.Lexicon.{Lexicon}
-use Rattle.personal_words.specs.Dictionaries.{IsBase, OwnSeen, in_force}
+use Rattle.personal_words.specs.Dictionaries.{IsLoadedBase, OwnSeen, in_force}
 use Rattle.personal_words.specs.Lists.{added}
 use Rattle.own_dictionary.specs.Bases.{IsExtended, base_in}
 
@@ -24,13 +24,13 @@ base-of base made own count is counted =
     ∙ base-kept base own
 
 pub made-extended : (base made : Lexicon) (own : List OwnItem) (count : ℕ)
-    → made ≡ extended base own → count ≡ length base.entries → IsBase base
+    → made ≡ extended base own → count ≡ length base.entries → IsLoadedBase base
     → IsExtended made count base.affixes.signs.forbidden own
 made-extended base made own count is counted ready =
     let kept = base-of base made own count is counted in
     record {
       lexicon_is = is ∙ ap (λ lexicon. extended lexicon own) (sym kept);
-      base = subst IsBase (sym kept) ready;
+      base = subst IsLoadedBase (sym kept) ready;
     }
 
 -- what a line adds does not depend on the words that extend the base

@@ -1,7 +1,7 @@
 -- The base that is in an extended dictionary.
 use Rattle.std.specs.Prelude.{◌≡◌, ℕ, List, take, Option}
 use Rattle.personal_words.specs.declared.items.OwnItem.{OwnItem}
-use Rattle.personal_words.specs.Dictionaries.{IsBase}
+use Rattle.personal_words.specs.Dictionaries.{IsLoadedBase}
 use Rattle.personal_words.specs.Extended.{extended}
 use Rattle.spell_types.specs.declared.Lexicon.{Lexicon}
 use Rattle.spell_types.specs.declared.flags.Flag.{Flag}
@@ -19,4 +19,4 @@ base_in lexicon count forbidden = record {
 pub record IsExtended (lexicon : Lexicon) (count : ℕ) (forbidden : Option Flag) (own : List OwnItem)
     : Type 0 where
   pub lexicon_is : lexicon ≡ extended (base_in lexicon count forbidden) own
-  pub base : IsBase (base_in lexicon count forbidden)
+  pub base : IsLoadedBase (base_in lexicon count forbidden)

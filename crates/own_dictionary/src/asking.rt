@@ -1,7 +1,7 @@
 //! What is asked by a dictionary with personal words, and others made of it.
 
 use crate::OwnDictionary;
-use lists::{Copied, NoMemory};
+use outside::lists::{Copied, NoMemory};
 use personal_words::{Dictionary, OwnLineFault};
 use spell_types::Lexicon;
 use std::alloc::Global;

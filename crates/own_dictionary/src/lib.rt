@@ -5,15 +5,17 @@
 ghost use Rattle.std.specs.Prelude.{◌≡◌, IfOk, take};
 ghost use Rattle.std.specs.Arc.{arc_value};
 ghost use Rattle.personal_words.specs.Extended.{extended};
-ghost use Rattle.personal_words.specs.Dictionaries.{IsBase, in_force};
+ghost use Rattle.personal_words.specs.Dictionaries.{IsLoadedBase, in_force};
 ghost use Rattle.own_dictionary.specs.Bases.{base_in};
 
 mod asking;
 mod crossing;
 mod loading;
 
-use lists::{Copied, NoMemory};
+pub use dictionary_swap;
 pub use loading::load;
+use outside::lists::{Copied, NoMemory};
+pub use personal_words;
 use personal_words::{OwnList, copied_affixes, extend_with};
 use spell_types::{Flag, Lexicon};
 use std::alloc::Global;
@@ -53,7 +55,7 @@ impl Model for OwnDictionary {
 impl OwnDictionary {
     /// The dictionary that the base extended by the list is.
     pub fn new(alloc: Global, base: Lexicon, own: OwnList) -> Result<OwnDictionary, NoMemory>
-        requires { IsBase base }
+        requires { IsLoadedBase base }
         ensures { IfOk result (λ made. made ≡ record { base = base; own = own }) }
     {
         let entries = base.entries.len();
@@ -77,7 +79,7 @@ impl OwnDictionary {
 
     /// Another base with the same list.
     pub fn with_base(&self, alloc: Global, base: Lexicon) -> Result<OwnDictionary, NoMemory>
-        requires { IsBase base }
+        requires { IsLoadedBase base }
         ensures { IfOk result (λ made. made ≡ record { base = base; own = self.now.own }) }
     {
         let own = self.own.copy(alloc)?;
@@ -101,7 +103,7 @@ impl OwnDictionary {
     /// A copy of the base.
     fn base(&self, alloc: Global) -> Result<Lexicon, NoMemory>
         ensures same { IfOk result (λ base. base ≡ self.now.base) }
-        ensures base { IfOk result IsBase }
+        ensures base { IfOk result IsLoadedBase }
     {
         let lexicon = self.speller.stems().lexicon();
         let affixes = copied_affixes(alloc, &lexicon.affixes, self.forbidden)?;
@@ -113,7 +115,7 @@ impl OwnDictionary {
 
 /// The base extended by the list, prepared and shared.
 fn speller_of(alloc: Global, base: Lexicon, own: &OwnList) -> Result<Arc<Speller>, NoMemory>
-    requires { IsBase base }
+    requires { IsLoadedBase base }
     ensures { IfOk result (λ made. arc_value made ≡ extended base own.now) }
 {
     let Lexicon { affixes, entries } = extend_with(alloc, base, own)?;

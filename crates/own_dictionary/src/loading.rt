@@ -1,8 +1,9 @@
 //! The dictionary of two files, ready to be asked.
 
 ghost use Rattle.std.specs.Prelude.{◌≡◌, ◌<◌, ◌≤◌, IfSome, IsErrOf};
-ghost use Rattle.lists.specs.Answers.{GivesDue};
-ghost use Rattle.dictionary_swap.specs.Loads.{DictionaryFiles, MayCome, lexicon_due, found_in};
+ghost use Rattle.outside.specs.lists.Answers.{GivesDue};
+ghost use Rattle.dictionary_swap.specs.Loads.{DictionaryFiles, MayComeOfLoads, lexicon_due};
+ghost use Rattle.dictionary_swap.specs.Loads.{found_in};
 ghost use Rattle.dictionary_swap.specs.declared.fault.LoadFault.TheVariants.{Failed};
 
 use dictionary_swap::{LoadFault, load_lexicon};
@@ -22,8 +23,8 @@ pub fn load<F: Files>(
 ) -> Result<Speller, LoadFault>
     // It is what is due of some files, which are those that are told, where some are.
     ensures found { (there : DictionaryFiles)
-        × GivesDue MayCome (λ speller. speller) (lexicon_due there) result }
-    ensures told { IfSome (F.told files.old) (λ folder. GivesDue MayCome (λ speller. speller)
+        × GivesDue MayComeOfLoads (λ speller. speller) (lexicon_due there) result }
+    ensures told { IfSome (F.told files.old) (λ folder. GivesDue MayComeOfLoads (λ speller. speller)
         (lexicon_due (found_in folder aff.now dic.now)) result) }
     ensures same { F.told files.new ≡ F.told files.old }
     ensures failed { IsErrOf result Failed → F.faults files.old < F.faults files.new }

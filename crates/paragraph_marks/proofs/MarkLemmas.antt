@@ -12,8 +12,8 @@ use Rattle.std.proofs.lemmas.List.{nil_from_length, take_all}
 use Rattle.std.proofs.lemmas.List.Filters.{length-filter_both}
 use Rattle.std.proofs.lemmas.Str.{chars-nil}
 use Rattle.std.proofs.lemmas.List.Elements.{filter-append}
-use Rattle.spell_types.specs.declared.Lexicon.{Lexicon}
-use Rattle.spell_types.specs.Yields.{yields}
+use Rattle.mark_types.specs.spell_types.declared.Lexicon.{Lexicon}
+use Rattle.mark_types.specs.spell_types.Yields.{yields}
 use Rattle.mark_types.specs.Handed.{mark_of}
 use Rattle.mark_types.specs.Words.{Word, words_of, StandsIn, placed, word_of, is_outside}
 use Rattle.mark_types.specs.Marks.{LocatedWord, located_at, located_words, is_unknown, marks_of}

@@ -5,15 +5,15 @@ use Rattle.std.proofs.Common.{drop, take, refl, sym, ap, subst, ◌∙◌, arith
 use Rattle.std.proofs.Common.{length-drop}
 use Rattle.std.specs.Str.{IsUtf8, chars}
 use Rattle.std.proofs.lemmas.List.{append-nil, drop-drop, take-append-drop}
-use Rattle.spell_types.specs.declared.Lexicon.{Lexicon}
+use Rattle.mark_types.specs.spell_types.declared.Lexicon.{Lexicon}
 use Rattle.mark_types.specs.Words.{Word, words_of}
 use Rattle.mark_types.specs.declared.Mark.{Mark}
 use Rattle.word_cutter.specs.Runs.{IsBehind, has_some, words_after, words_from}
 use Rattle.word_cutter.specs.declared.Rest.{Rest}
 use Rattle.paragraph_marks.specs.Paragraphs.{marks_among, marks_in}
-use Rattle.paragraph_marks.specs.Stepping.{GoesOnIn, IsProgress, left_of, words_left}
-use Rattle.paragraph_marks.specs.declared.stepping.Progress.{Progress}
-use Rattle.paragraph_marks.specs.declared.stepping.Progress.TheVariants.{Going}
+use Rattle.paragraph_marks.specs.Stepping.{GoesOnIn, IsProgress, left_of, words_left_of_text}
+use Rattle.paragraph_marks.specs.declared.stepping.TextProgress.{TextProgress}
+use Rattle.paragraph_marks.specs.declared.stepping.TextProgress.TheVariants.{Going}
 use Rattle.paragraph_marks.specs.declared.stepping.SoFar.{SoFar}
 use Rattle.paragraph_marks.proofs.MarkLemmas.{among-append}
 
@@ -45,10 +45,10 @@ pub begins : (lexicon : Lexicon) (text : List ℕ) (rest : Rest) (so_far : SoFar
 begins lexicon text rest so_far whole none at before all some is_text small =
     let wordchars = lexicon.affixes.wordchars in
     let at_is = whole.at_is in
-    let same : words_left lexicon text so_far ≡ words_of wordchars (chars text) =
+    let same : words_left_of_text lexicon text so_far ≡ words_of wordchars (chars text) =
     rw (at, before) (whole-words wordchars text rest whole) in
     record {
-      marks = ap (λ marks. marks ++ marks_among lexicon (words_left lexicon text so_far)) none
+      marks = ap (λ marks. marks ++ marks_among lexicon (words_left_of_text lexicon text so_far)) none
           ∙ ap (marks_among lexicon) same ∙ all;
       some = ap has_some (same ∙ sym whole.words) ∙ some;
       within = omega arith;
@@ -74,7 +74,7 @@ pub record WentOn (lexicon : Lexicon) (text : List ℕ) (so_far : SoFar) (words 
   pub behind : IsBehind rest left
 
 -- where checking went on, of what the calls said
-pub went-on : (lexicon : Lexicon) (text : List ℕ) (progress : Progress) (so_far : SoFar) (words : ℕ)
+pub went-on : (lexicon : Lexicon) (text : List ℕ) (progress : TextProgress) (so_far : SoFar) (words : ℕ)
     (rest left : Rest) (none marks : List Mark)
     → IsProgress lexicon text progress → progress ≡ Going so_far
     → rest.text.now ≡ drop so_far.at text → rest.at ≡ so_far.at → rest.before ≡ so_far.before
@@ -99,9 +99,9 @@ went-on lexicon text progress so_far words rest left none marks is going rest_te
     }
 
 -- the words that were left before
-pub left-before : (lexicon : Lexicon) (text : List ℕ) (progress : Progress) (so_far : SoFar)
+pub left-before : (lexicon : Lexicon) (text : List ℕ) (progress : TextProgress) (so_far : SoFar)
     → progress ≡ Going so_far
-    → words_left lexicon text so_far ≡ left_of lexicon text progress
+    → words_left_of_text lexicon text so_far ≡ left_of lexicon text progress
 unfolding left_of
 left-before lexicon text progress so_far going = rw going refl
 
@@ -110,7 +110,7 @@ module _ (lexicon : Lexicon) (text : List ℕ) (so_far : SoFar) (words : ℕ) (r
   abbrev wordchars : List ℕ
   wordchars = lexicon.affixes.wordchars
 
-  rest-words : words_after wordchars rest ≡ words_left lexicon text so_far
+  rest-words : words_after wordchars rest ≡ words_left_of_text lexicon text so_far
   unfolding words_after
   rest-words = rw (went.rest_text, went.rest_at, went.rest_before) refl
 
@@ -127,13 +127,13 @@ module _ (lexicon : Lexicon) (text : List ℕ) (so_far : SoFar) (words : ℕ) (r
   unfolding words_after
   left-words = ap (words_from wordchars left.at left.before) (sym left-text)
 
-  pub words-behind : words_after wordchars left ≡ drop words (words_left lexicon text so_far)
+  pub words-behind : words_after wordchars left ≡ drop words (words_left_of_text lexicon text so_far)
   words-behind = went.left_words ∙ ap (drop words) rest-words
 
   all-marks : (so_far.marks.items ++ marks) ++ marks_among lexicon (words_after wordchars left)
       ≡ marks_in lexicon (chars text)
   all-marks =
-      let all = words_left lexicon text so_far in
+      let all = words_left_of_text lexicon text so_far in
       ap (λ added. (so_far.marks.items ++ added)
       ++ marks_among lexicon (words_after wordchars left))
       (went.added ∙ ap (λ all. marks_among lexicon (take words all)) rest-words)
@@ -147,7 +147,7 @@ module _ (lexicon : Lexicon) (text : List ℕ) (so_far : SoFar) (words : ℕ) (r
       ∙ went.before.marks
 
   pub now-words : (now : SoFar) → now.at ≡ left.at → now.before ≡ left.before
-      → words_left lexicon text now ≡ words_after wordchars left
+      → words_left_of_text lexicon text now ≡ words_after wordchars left
   now-words now at before = rw (at, before) left-words
 
   pub went-further : (now : SoFar) → now.marks.items ≡ so_far.marks.items ++ marks
@@ -160,7 +160,7 @@ module _ (lexicon : Lexicon) (text : List ℕ) (so_far : SoFar) (words : ℕ) (r
       let within = went.before.within in
       let rest_at = went.rest_at in
       record {
-        marks = ap (λ marks. marks ++ marks_among lexicon (words_left lexicon text now)) joined
+        marks = ap (λ marks. marks ++ marks_among lexicon (words_left_of_text lexicon text now)) joined
             ∙ ap (λ back. (so_far.marks.items ++ marks) ++ marks_among lexicon back) same
             ∙ all-marks;
         some = ap has_some same ∙ some;

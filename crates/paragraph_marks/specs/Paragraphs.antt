@@ -1,7 +1,7 @@
 -- The marks of one paragraph, and a paragraph that is checked, or being checked, by a judge.
 use Rattle.std.specs.Prelude.{ℕ, Bool, not, List, [], ◌∷◌, filter, map, encode_utf8_all}
-use Rattle.spell_types.specs.declared.Lexicon.{Lexicon}
-use Rattle.spell_types.specs.Yields.{yields}
+use Rattle.mark_types.specs.spell_types.declared.Lexicon.{Lexicon}
+use Rattle.mark_types.specs.spell_types.Yields.{yields}
 use Rattle.mark_types.specs.Handed.{mark_of}
 use Rattle.mark_types.specs.Marks.{marks_of}
 use Rattle.mark_types.specs.Words.{Word}

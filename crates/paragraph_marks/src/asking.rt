@@ -3,7 +3,7 @@
 ghost use Rattle.std.specs.Prelude.{◌≡◌};
 ghost use Rattle.std.specs.Arc.{arc_value};
 
-use lists::NoMemory;
+use mark_types::lists::NoMemory;
 use mark_types::{Asker, Judge};
 use std::alloc::Global;
 use std::marker::Model;

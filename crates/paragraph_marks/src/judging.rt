@@ -6,18 +6,18 @@ ghost use Rattle.std.specs.Str.{chars};
 ghost use Rattle.std.specs.String.{string_bytes};
 ghost use Rattle.mark_types.specs.Words.{words_of};
 ghost use Rattle.word_cutter.specs.Runs.{IsBehind, found_word, words_after};
-ghost use Rattle.paragraph_marks.specs.Judging.{IsNext};
+ghost use Rattle.paragraph_marks.specs.Judging.{IsNextJudged};
 ghost use Rattle.paragraph_marks.specs.Paragraphs.{mark_at, marks_among, marks_in};
 
-use lists::{Items, NoMemory};
+use mark_types::lists::{Items, NoMemory};
+use mark_types::text_lines::Text;
 use mark_types::{Asker, Mark, Marks, marks_are_local, words_stand_in_their_text};
 use std::alloc::{AllocError, Global};
-use text_lines::Text;
-use word_cutter::{Found, Rest, next_word};
+use word_cutter::{FoundWord, Rest, next_word};
 
 /// The marks of a paragraph, and how many words it has.
 #[derive(Debug, Drop)]
-pub struct Counted {
+pub struct CountedMarks {
     /// They rise.
     pub marks: Marks,
     pub words: u32,
@@ -34,7 +34,7 @@ pub struct Passed<'a> {
 #[derive(Clone, Copy)]
 struct JudgedWord<'a> {
     /// Where it stands, and what is left behind it.
-    found: Found<'a>,
+    found: FoundWord<'a>,
     /// Whether the dictionary generates it.
     is_known: bool,
 }
@@ -55,7 +55,7 @@ pub fn check_counted<K: Asker>(
     alloc: Global,
     asker: &mut K,
     text: &str,
-) -> Result<Counted, NoMemory>
+) -> Result<CountedMarks, NoMemory>
     requires small { length text.now < 2 ^ 32 }
     ensures marks { IfOk result
         (λ counted. counted.marks ≡ marks_in (K.lexicon asker.old) (chars text.now)) }
@@ -71,7 +71,7 @@ pub fn check_counted<K: Asker>(
     let mut marks = Vec::new(alloc);
     // A text has fewer words than bytes, or as many, so all are judged.
     let passed = judge_words(alloc, asker, Rest::of(text), u32::MAX, &mut marks)?;
-    Ok(Counted {
+    Ok(CountedMarks {
         marks: Items::from_vec(marks),
         words: passed.words,
     })
@@ -130,7 +130,7 @@ fn next_judged<'a, K: Asker>(
         (λ judged. IfNone judged
         (words_after (K.lexicon asker.old).affixes.wordchars rest.entry ≡ [])) }
     ensures next { IfOk result
-        (λ judged. IfSome judged (IsNext (K.lexicon asker.old) rest.entry word.new.items)) }
+        (λ judged. IfSome judged (IsNextJudged (K.lexicon asker.old) rest.entry word.new.items)) }
     ensures same { K.lexicon asker.new ≡ K.lexicon asker.old }
 {
     match next_word(asker.wordchars(), rest, word)? {

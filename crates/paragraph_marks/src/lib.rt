@@ -7,5 +7,5 @@ mod judging;
 mod stepping;
 
 pub use asking::Plain;
-pub use judging::{Counted, check, check_counted};
+pub use judging::{CountedMarks, check, check_counted};
 pub use stepping::{Checked, Checking};

@@ -10,12 +10,12 @@ ghost use Rattle.paragraph_marks.specs.Paragraphs.{marks_in};
 ghost use Rattle.paragraph_marks.specs.Stepping.{IsProgress, left_of};
 
 use crate::judging::judge_words;
-use lists::{Items, NoMemory};
+use mark_types::lists::{Items, NoMemory};
+use mark_types::text_lines::Text;
 use mark_types::{Asker, Judge, Mark, Marks, marks_are_local, words_stand_in_their_text};
 use std::alloc::Global;
 use std::marker::Model;
 use std::sync::Arc;
-use text_lines::Text;
 use word_cutter::{Rest, has_word};
 
 /// A judge, a text and its marks by the judge's dictionary, all shared. Contracts see the judge and
@@ -70,12 +70,12 @@ impl<J: Judge + Drop> Checked<J> {
 pub struct Checking<J: Judge> {
     judge: Arc<J>,
     text: Arc<Text>,
-    progress: Progress,
+    progress: TextProgress,
 }
 
 /// How far a text is checked.
 #[derive(Drop)]
-enum Progress {
+enum TextProgress {
     /// Words are left.
     Going(SoFar),
     /// No word is left, and these are the marks.
@@ -160,11 +160,11 @@ impl<J: Judge + Drop> Checking<J> {
             progress,
         } = self;
         match progress {
-            Progress::Finished(marks) => Ok(Checked { judge, text, marks }),
-            Progress::Going(so_far) => Err(Checking {
+            TextProgress::Finished(marks) => Ok(Checked { judge, text, marks }),
+            TextProgress::Going(so_far) => Err(Checking {
                 judge,
                 text,
-                progress: Progress::Going(so_far),
+                progress: TextProgress::Going(so_far),
             }),
         }
     }
@@ -172,7 +172,7 @@ impl<J: Judge + Drop> Checking<J> {
 
 /// How far a text is checked at first.
 #[tactic(auto, unfolding(crate::specs::Stepping::left_of, crate::specs::Stepping::IsProgress))]
-fn begin<J: Judge>(alloc: Global, judge: &J, text: &str) -> Result<Progress, NoMemory>
+fn begin<J: Judge>(alloc: Global, judge: &J, text: &str) -> Result<TextProgress, NoMemory>
     requires { length text.now < 2 ^ 32 }
     ensures is { IfOk result (IsProgress (J.lexicon judge.now) text.now) }
     ensures left { IfOk result (λ progress. left_of (J.lexicon judge.now) text.now progress
@@ -182,13 +182,13 @@ fn begin<J: Judge>(alloc: Global, judge: &J, text: &str) -> Result<Progress, NoM
     words_stand_in_their_text();
     let rest = Rest::of(text);
     if has_word(judge.wordchars(), rest) {
-        return Ok(Progress::Going(SoFar {
+        return Ok(TextProgress::Going(SoFar {
             marks: Vec::new(alloc),
             at: rest.at,
             before: rest.before,
         }));
     }
-    Ok(Progress::Finished(Arc::new(alloc, Items::new(alloc))?))
+    Ok(TextProgress::Finished(Arc::new(alloc, Items::new(alloc))?))
 }
 
 /// Judges so many next words of a text, or all that are left, and tells whether none is left.
@@ -197,7 +197,7 @@ fn step_over<K: Asker>(
     alloc: Global,
     asker: &mut K,
     text: &str,
-    progress: &mut Progress,
+    progress: &mut TextProgress,
     words: u32,
 ) -> Result<bool, NoMemory>
     requires is { IsProgress (K.lexicon asker.old) text.now progress.old }
@@ -212,7 +212,7 @@ fn step_over<K: Asker>(
         text.now progress.old) }
     ensures same { K.lexicon asker.new ≡ K.lexicon asker.old }
 {
-    let Progress::Going(so_far) = progress else {
+    let TextProgress::Going(so_far) = progress else {
         return Ok(true);
     };
     let mut marks = Vec::new(alloc);
@@ -223,7 +223,7 @@ fn step_over<K: Asker>(
         return Ok(false);
     }
     let all = joined(alloc, &so_far.marks, marks)?;
-    *progress = Progress::Finished(Arc::new(alloc, all)?);
+    *progress = TextProgress::Finished(Arc::new(alloc, all)?);
     Ok(true)
 }
 

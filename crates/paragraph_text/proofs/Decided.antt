@@ -11,9 +11,10 @@ use Rattle.std.proofs.lemmas.Option.{none-some, same_Some}
 use Rattle.paragraph_text.specs.Laws.{begun-at, changes, found-id, found-none, some-at, stands-in}
 use Rattle.paragraph_text.specs.Laws.{no-break, split-at}
 use Rattle.paragraph_text.specs.Paragraphs.{Paragraph, HaveOwnIds, HasNoBreak, AreValid}
-use Rattle.paragraph_text.specs.Edits.{Applies, BeginsWith, IsChanged, IsDecided, IsFoundAt, IsGap}
+use Rattle.paragraph_text.specs.Edits.{Applies, BeginsWith, IsChanged, IsEditDecided, IsFoundAt}
+use Rattle.paragraph_text.specs.Edits.{IsGap}
 use Rattle.paragraph_text.specs.Edits.{IsSpliced, Removes, Replaces, bad_span, behind, break_in}
-use Rattle.paragraph_text.specs.Edits.{entry_refusal, first_refusal, full, gone_before, gone_or}
+use Rattle.paragraph_text.specs.Edits.{entry_refusal, edit_refusal, full, gone_before, edit_gone_or}
 use Rattle.paragraph_text.specs.Edits.{is_span, place_of, splice_refusal, spliced, too_long}
 use Rattle.paragraph_text.specs.declared.edits.Edit.{Edit}
 use Rattle.paragraph_text.specs.declared.edits.Edit.TheVariants.{Insert, Remove, Replace}
@@ -70,7 +71,7 @@ once version next_id paragraphs after other edit own one two =
 -- what is asked of the paragraph with an id is asked of the one that stands there
 pub asked-here : {paragraphs : List Paragraph} {id place : ℕ} {touched : Paragraph}
     (asked : Paragraph → Option EditRefusal)
-    → IsFoundAt paragraphs id place touched → gone_or id paragraphs asked ≡ asked touched
+    → IsFoundAt paragraphs id place touched → edit_gone_or id paragraphs asked ≡ asked touched
 asked-here {paragraphs} {id} asked here =
     ap (λ o. option_map_or asked o (Some (Gone id))) here.found
 
@@ -98,7 +99,7 @@ splice-free text from to put span whole short =
 
 pub free : (version next_id : ℕ) (paragraphs after : List Paragraph) (edit : Edit)
     → HaveOwnIds paragraphs
-    → Applies version next_id paragraphs edit after → first_refusal paragraphs edit ≡ None
+    → Applies version next_id paragraphs edit after → edit_refusal paragraphs edit ≡ None
 free version next_id paragraphs after (Replace id rev from to text) own made =
     asked-here _ (stands-in id made.front made.touched made.rest own made.before_is made.named)
     ∙ rw (eq-eqb made.touched.rev rev made.current)
@@ -164,7 +165,7 @@ record Asked (paragraphs : List Paragraph) (id : ℕ) (asked : Paragraph → Opt
   pub none : asked touched ≡ None
 
 asked-none : (paragraphs : List Paragraph) (id : ℕ) (asked : Paragraph → Option EditRefusal)
-    → gone_or id paragraphs asked ≡ None → Asked paragraphs id asked
+    → edit_gone_or id paragraphs asked ≡ None → Asked paragraphs id asked
 asked-none paragraphs id asked none = by (place_of id paragraphs) refl
   where
     by : (found : Option ℕ) → place_of id paragraphs ≡ found → Asked paragraphs id asked
@@ -230,7 +231,7 @@ inserted version next_id paragraphs before text place gap none =
     )
 
 pub makes : (version next_id : ℕ) (paragraphs : List Paragraph) (edit : Edit)
-    → first_refusal paragraphs edit ≡ None
+    → edit_refusal paragraphs edit ≡ None
     → (after : List Paragraph) × Applies version next_id paragraphs edit after
 makes version next_id paragraphs (Replace id rev from to text) none =
     let asked =
@@ -258,11 +259,11 @@ makes version next_id paragraphs (Remove id rev) none =
 
 pub decided : (version next_id : ℕ) (paragraphs : List Paragraph) (edit : Edit)
     → AreValid version next_id paragraphs
-    → IsDecided version next_id paragraphs edit
-decided version next_id paragraphs edit valid = by (first_refusal paragraphs edit) refl
+    → IsEditDecided version next_id paragraphs edit
+decided version next_id paragraphs edit valid = by (edit_refusal paragraphs edit) refl
   where
-    by : (first : Option EditRefusal) → first_refusal paragraphs edit ≡ first
-        → IsDecided version next_id paragraphs edit
+    by : (first : Option EditRefusal) → edit_refusal paragraphs edit ≡ first
+        → IsEditDecided version next_id paragraphs edit
     by None is =
         let made = makes version next_id paragraphs edit is in
         inl (

@@ -5,7 +5,7 @@ use Rattle.std.proofs.Common.{length, take, drop, Option, Result, Ok, Err, IfOk,
 use Rattle.std.proofs.Common.{arith}
 use Rattle.std.specs.List.{AllByRecursion}
 use Rattle.std.proofs.lemmas.List.{take-append-drop}
-use Rattle.lists.specs.Laws.{each-append, each-front, each-middle, each-weaker}
+use Rattle.text_lines.specs.lists.Laws.{each-append, each-front, each-middle, each-weaker}
 use Rattle.paragraph_text.specs.Paragraphs.{Paragraph, AreValid, HaveOwnIds, HasNoBreak, IsValidIn}
 use Rattle.paragraph_text.specs.Paragraphs.{numbered_from}
 use Rattle.paragraph_text.specs.Edits.{Applies, Inserts, Removes, Replaces, next_id_after, spliced}

@@ -3,7 +3,7 @@ use Rattle.std.specs.Prelude.{◌≡◌, ℕ, ◌+◌, ◌<◌, ◌≤◌, Bool,
 use Rattle.std.specs.Prelude.{[], ◌∷◌, ◌++◌, length, take, drop, nat_lt, nat_le, find, position}
 use Rattle.std.specs.Prelude.{slice_get, Option, None, Some}
 use Rattle.std.specs.Option.{option_and_then, option_map, option_map_or, option_or}
-use Rattle.lists.specs.Changes.{Change, SetAt, InsertAt, RemoveAt, changed}
+use Rattle.text_lines.specs.lists.Changes.{Change, SetAt, InsertAt, RemoveAt, changed}
 use Rattle.paragraph_text.specs.Paragraphs.{Paragraph, HasNoBreak}
 use Rattle.paragraph_text.specs.declared.edits.Edit.{Edit}
 use Rattle.paragraph_text.specs.declared.edits.Edit.TheVariants.{Replace, Insert, Remove}
@@ -138,8 +138,8 @@ unless true refusal = None
 unless false refusal = Some refusal
 
 -- a paragraph is named that is not there; otherwise what is asked of it
-abbrev pub gone_or : ℕ → List Paragraph → (Paragraph → Option EditRefusal) → Option EditRefusal
-gone_or id paragraphs asked = option_map_or asked (with_id id paragraphs) (Some (Gone id))
+abbrev pub edit_gone_or : ℕ → List Paragraph → (Paragraph → Option EditRefusal) → Option EditRefusal
+edit_gone_or id paragraphs asked = option_map_or asked (with_id id paragraphs) (Some (Gone id))
 
 -- the paragraph has another rev
 abbrev pub behind : Paragraph → ℕ → Option EditRefusal
@@ -170,7 +170,7 @@ splice_refusal text from to put =
 -- the paragraph is not there before which another one is to be put
 abbrev pub gone_before : List Paragraph → Option ℕ → Option EditRefusal
 gone_before paragraphs None = None
-gone_before paragraphs (Some id) = gone_or id paragraphs (λ _. None)
+gone_before paragraphs (Some id) = edit_gone_or id paragraphs (λ _. None)
 
 -- what is asked of a text that is to be a paragraph of its own
 abbrev pub entry_refusal : List Paragraph → List ℕ → Option EditRefusal
@@ -178,17 +178,17 @@ entry_refusal paragraphs put =
     option_or (break_in put) (option_or (too_long (length put)) (full paragraphs))
 
 -- the first refusal that a list shows for an edit, in their order
-abbrev pub first_refusal : List Paragraph → Edit → Option EditRefusal
-first_refusal paragraphs (Replace id rev from to text) =
-    gone_or id paragraphs
+abbrev pub edit_refusal : List Paragraph → Edit → Option EditRefusal
+edit_refusal paragraphs (Replace id rev from to text) =
+    edit_gone_or id paragraphs
     (λ touched. option_or (behind touched rev) (splice_refusal touched.text from to text))
-first_refusal paragraphs (Insert before text) =
+edit_refusal paragraphs (Insert before text) =
     option_or (gone_before paragraphs before) (entry_refusal paragraphs text)
-first_refusal paragraphs (Remove id rev) = gone_or id paragraphs (λ touched. behind touched rev)
+edit_refusal paragraphs (Remove id rev) = edit_gone_or id paragraphs (λ touched. behind touched rev)
 
 -- an edit is refused so
-abbrev pub IsRefused : List Paragraph → Edit → EditRefusal → Type 0
-IsRefused paragraphs edit refusal = first_refusal paragraphs edit ≡ Some refusal
+abbrev pub IsEditRefused : List Paragraph → Edit → EditRefusal → Type 0
+IsEditRefused paragraphs edit refusal = edit_refusal paragraphs edit ≡ Some refusal
 
 -- ---- what is decided of each edit
 
@@ -200,11 +200,11 @@ pub record IsOnlyOne {A : Type 0} (P : A → Type 0) : Type 0 where
 
 -- an edit makes exactly one list and is not refused, or it has exactly one refusal and makes no
 -- list
-abbrev pub IsDecided : ℕ → ℕ → List Paragraph → Edit → Type 0
-IsDecided version next_id paragraphs edit =
+abbrev pub IsEditDecided : ℕ → ℕ → List Paragraph → Edit → Type 0
+IsEditDecided version next_id paragraphs edit =
     (IsOnlyOne (Applies version next_id paragraphs edit)
-    × ((refusal : EditRefusal) → ¬ IsRefused paragraphs edit refusal))
-    ⊎ (IsOnlyOne (IsRefused paragraphs edit)
+    × ((refusal : EditRefusal) → ¬ IsEditRefused paragraphs edit refusal))
+    ⊎ (IsOnlyOne (IsEditRefused paragraphs edit)
     × ((after : List Paragraph) → ¬ Applies version next_id paragraphs edit after))
 
 -- ---- what the steps of an edit find

@@ -15,7 +15,7 @@ use Rattle.std.proofs.lemmas.List.Quantifiers.{position-Some}
 use Rattle.std.proofs.lemmas.List.Sums.{prefix_len_passes}
 use Rattle.std.proofs.lemmas.Option.{cond_some, none-some, get_or_from_slice_get, same_Some}
 use Rattle.std.proofs.lemmas.Option.{slice_get_past, slice_get_within, slice_get-get_or}
-use Rattle.lists.specs.Changes.{SetAt, InsertAt, RemoveAt}
+use Rattle.text_lines.specs.lists.Changes.{SetAt, InsertAt, RemoveAt}
 use Rattle.paragraph_text.specs.Paragraphs.{Paragraph, HaveOwnIds, HasNoBreak, numbered_from}
 use Rattle.paragraph_text.specs.Edits.{Applies, BeginsWith, IsChanged, IsFoundAt, place_of, spliced}
 use Rattle.paragraph_text.specs.declared.edits.Edit.{Edit}

@@ -5,12 +5,13 @@ ghost use Rattle.std.specs.Prelude.{None, MatchOption, IfOk, IfErr, OnOk};
 ghost use Rattle.std.specs.Arc.{arc_value};
 ghost use Rattle.std.specs.List.{AllByRecursion};
 ghost use Rattle.std.specs.Option.{option_and_then};
-ghost use Rattle.lists.specs.Answers.{IsDueOr};
+ghost use Rattle.text_lines.specs.lists.Answers.{IsDueOr};
 ghost use Rattle.paragraph_text.specs.Paragraphs.{AreValid, HasNoBreak, HaveOwnIds, Paragraph};
 ghost use Rattle.paragraph_text.specs.Paragraphs.{numbered_from};
-ghost use Rattle.paragraph_text.specs.Edits.{Applies, Inserts, IsChanged, IsDecided, IsFoundAt};
+ghost use Rattle.paragraph_text.specs.Edits.{Applies, Inserts, IsChanged, IsEditDecided, IsFoundAt};
 ghost use Rattle.paragraph_text.specs.Edits.{IsGap, IsSpliced, Removes, Replaces, behind, break_in};
-ghost use Rattle.paragraph_text.specs.Edits.{entry_refusal, first_refusal, gone_before, gone_or};
+ghost use Rattle.paragraph_text.specs.Edits.{entry_refusal, edit_refusal, gone_before};
+ghost use Rattle.paragraph_text.specs.Edits.{edit_gone_or};
 ghost use Rattle.paragraph_text.specs.Edits.{is_edge, is_span, kept_after, named_by, named_place};
 ghost use Rattle.paragraph_text.specs.Edits.{next_id_after, place_of, splice_refusal, too_long};
 ghost use Rattle.paragraph_text.specs.Edits.{with_id};
@@ -21,10 +22,10 @@ ghost use Rattle.paragraph_text.specs.declared.limits.TheConstants.{MOST_BYTES, 
 
 use crate::limits::{MOST_BYTES, MOST_PARAGRAPHS};
 use crate::list::{Para, Paragraphs};
-use lists::{Copied, NoMemory, SharedItems};
 use std::alloc::{AllocError, Global};
 use std::sync::Arc;
 use text_lines::Text;
+use text_lines::lists::{Copied, NoMemory, SharedItems};
 
 /// What a writer asks for. A paragraph is named by its id, and where its text is meant by its rev
 /// too. Places are bytes of the text, from 0 on.
@@ -109,7 +110,7 @@ pub fn apply(
     edit: &Edit,
 ) -> Result<Paragraphs, EditRefusal>
     ensures applied { IfOk result (Applies version next_id paragraphs.now edit.now) }
-    ensures refused { IfErr result (IsDueOr OutOfMemory (first_refusal paragraphs.now edit.now)) }
+    ensures refused { IfErr result (IsDueOr OutOfMemory (edit_refusal paragraphs.now edit.now)) }
     ensures kept { AreValid version next_id paragraphs.now
         → IfOk result (AreValid (version + 1) (next_id_after next_id edit.now)) }
 {
@@ -129,7 +130,7 @@ pub fn apply_near(
 ) -> Result<Paragraphs, EditRefusal>
     requires { HaveOwnIds paragraphs.now }
     ensures applied { IfOk result (Applies version next_id paragraphs.now edit.now) }
-    ensures refused { IfErr result (IsDueOr OutOfMemory (first_refusal paragraphs.now edit.now)) }
+    ensures refused { IfErr result (IsDueOr OutOfMemory (edit_refusal paragraphs.now edit.now)) }
     ensures kept { AreValid version next_id paragraphs.now
         → IfOk result (AreValid (version + 1) (next_id_after next_id edit.now)) }
 {
@@ -193,7 +194,7 @@ fn apply_at(
 ) -> Result<Paragraphs, EditRefusal>
     requires { place ≡ named_place paragraphs.now edit.now }
     ensures applied { IfOk result (Applies version next_id paragraphs.now edit.now) }
-    ensures refused { IfErr result (IsDueOr OutOfMemory (first_refusal paragraphs.now edit.now)) }
+    ensures refused { IfErr result (IsDueOr OutOfMemory (edit_refusal paragraphs.now edit.now)) }
     ensures kept { AreValid version next_id paragraphs.now
         → IfOk result (AreValid (version + 1) (next_id_after next_id edit.now)) }
 {
@@ -205,12 +206,12 @@ fn apply_at(
             to,
             text,
         } => {
-            let named = Named {
+            let named = NamedByEdit {
                 id: *id,
                 rev: *rev,
                 place,
             };
-            let span = Span {
+            let span = ByteSpan {
                 from: *from as usize,
                 to: *to as usize,
             };
@@ -221,7 +222,7 @@ fn apply_at(
             insert(alloc, paragraphs, version, next_id, *before, place, text)
         }
         Edit::Remove { id, rev } => {
-            let named = Named {
+            let named = NamedByEdit {
                 id: *id,
                 rev: *rev,
                 place,
@@ -233,7 +234,7 @@ fn apply_at(
 
 /// The paragraph that an edit names: its id, the rev that it is to have, and where it stands.
 #[derive(Clone, Copy, Debug)]
-struct Named {
+struct NamedByEdit {
     id: u64,
     rev: u64,
     place: Option<usize>,
@@ -241,7 +242,7 @@ struct Named {
 
 /// The bytes of a text from one place up to another.
 #[derive(Clone, Copy, Debug)]
-struct Span {
+struct ByteSpan {
     from: usize,
     to: usize,
 }
@@ -251,8 +252,8 @@ fn replace(
     alloc: Global,
     paragraphs: &Paragraphs,
     version: u64,
-    named: Named,
-    span: Span,
+    named: NamedByEdit,
+    span: ByteSpan,
     put: &str,
 ) -> Result<Paragraphs, EditRefusal>
     requires { named.place ≡ place_of named.id paragraphs.now }
@@ -260,7 +261,7 @@ fn replace(
         (Replaces version paragraphs.now named.id named.rev span.from span.to put.now) }
     ensures refused { IfErr result
         (IsDueOr OutOfMemory
-        (first_refusal paragraphs.now (Replace named.id named.rev span.from span.to put.now))) }
+        (edit_refusal paragraphs.now (Replace named.id named.rev span.from span.to put.now))) }
 {
     let (place, old) = current(paragraphs, named)?;
     let text = splice(alloc, old.text.as_str(), span, put)?;
@@ -285,7 +286,7 @@ fn insert(
     requires { place ≡ option_and_then (λ id. place_of id paragraphs.now) before }
     ensures applied { IfOk result (Inserts version next_id paragraphs.now before put.now) }
     ensures refused { IfErr result
-        (IsDueOr OutOfMemory (first_refusal paragraphs.now (Insert before put.now))) }
+        (IsDueOr OutOfMemory (edit_refusal paragraphs.now (Insert before put.now))) }
 {
     let place = gap(paragraphs, before, place)?;
     check_entry(paragraphs, put)?;
@@ -298,24 +299,28 @@ fn insert(
 }
 
 /// The list from which a paragraph is taken out.
-fn remove(alloc: Global, paragraphs: &Paragraphs, named: Named) -> Result<Paragraphs, EditRefusal>
+fn remove(
+    alloc: Global,
+    paragraphs: &Paragraphs,
+    named: NamedByEdit,
+) -> Result<Paragraphs, EditRefusal>
     requires { named.place ≡ place_of named.id paragraphs.now }
     ensures applied { IfOk result (Removes paragraphs.now named.id named.rev) }
     ensures refused { IfErr result
-        (IsDueOr OutOfMemory (first_refusal paragraphs.now (Remove named.id named.rev))) }
+        (IsDueOr OutOfMemory (edit_refusal paragraphs.now (Remove named.id named.rev))) }
 {
     let (place, _) = current(paragraphs, named)?;
     Ok(paragraphs.removed(alloc, place)?)
 }
 
 /// The paragraph that is named, if it has the rev that it is to have, and its place.
-fn current(paragraphs: &Paragraphs, named: Named) -> Result<(usize, &Para), EditRefusal>
+fn current(paragraphs: &Paragraphs, named: NamedByEdit) -> Result<(usize, &Para), EditRefusal>
     requires { named.place ≡ place_of named.id paragraphs.now }
     ensures found { IfOk result
         (λ found. IsFoundAt paragraphs.now named.id found.0 found.1.now
         × (found.1.now.rev ≡ named.rev)) }
     ensures refused { IfErr result
-        (λ refusal. gone_or named.id paragraphs.now (λ touched. behind touched named.rev)
+        (λ refusal. edit_gone_or named.id paragraphs.now (λ touched. behind touched named.rev)
         ≡ Some refusal) }
 {
     match found(paragraphs, named) {
@@ -326,7 +331,7 @@ fn current(paragraphs: &Paragraphs, named: Named) -> Result<(usize, &Para), Edit
 }
 
 /// The paragraph that is named, and its place.
-fn found(paragraphs: &Paragraphs, named: Named) -> Option<(usize, &Para)>
+fn found(paragraphs: &Paragraphs, named: NamedByEdit) -> Option<(usize, &Para)>
     requires { named.place ≡ place_of named.id paragraphs.now }
     ensures { MatchOption result (with_id named.id paragraphs.now ≡ None)
         (λ found. IsFoundAt paragraphs.now named.id found.0 found.1.now) }
@@ -415,7 +420,7 @@ fn check_length(size: usize) -> Result<(), EditRefusal>
 }
 
 /// A text with a part of it replaced.
-fn splice(alloc: Global, old: &str, span: Span, put: &str) -> Result<Arc<Text>, EditRefusal>
+fn splice(alloc: Global, old: &str, span: ByteSpan, put: &str) -> Result<Arc<Text>, EditRefusal>
     ensures made { IfOk result
         (λ made. IsSpliced old.now span.from span.to put.now (arc_value made)) }
     ensures refused { IfErr result
@@ -438,7 +443,7 @@ fn splice(alloc: Global, old: &str, span: Span, put: &str) -> Result<Arc<Text>, 
 }
 
 /// Whether a part of a text is whole characters.
-fn is_span(text: &str, span: Span) -> bool
+fn is_span(text: &str, span: ByteSpan) -> bool
     ensures { result ≡ is_span text.now span.from span.to }
 {
     span.from <= span.to && is_edge(text, span.from) && is_edge(text, span.to)
@@ -471,7 +476,7 @@ pub fn edits_are_changes()
 pub fn edits_are_decided()
     ensures decided { (version next_id : ℕ) (paragraphs : List Paragraph) (edit : Edit)
         → AreValid version next_id paragraphs
-        → IsDecided version next_id paragraphs edit }
+        → IsEditDecided version next_id paragraphs edit }
     ensures kept { (version next_id : ℕ) (paragraphs after : List Paragraph) (edit : Edit)
         → AreValid version next_id paragraphs
         → Applies version next_id paragraphs edit after

@@ -6,8 +6,6 @@ mod crossing;
 mod edits;
 mod limits;
 mod list;
-#[cfg(test)]
-mod tests;
 
 pub use edits::{
     Edit, EditRefusal, apply, apply_near, edits_are_changes, edits_are_decided, kept_beside,

@@ -6,11 +6,11 @@ ghost use Rattle.std.specs.List.{insert, remove};
 ghost use Rattle.std.specs.Option.{option_copied};
 ghost use Rattle.paragraph_text.specs.Paragraphs.{HaveOwnIds, numbered_from};
 
-use lists::{Copied, NoMemory, SharedItems, Walk};
 use std::alloc::Global;
 use std::marker::Model;
 use std::sync::Arc;
 use text_lines::Text;
+use text_lines::lists::{Copied, ItemsWalk, NoMemory, SharedItems};
 
 /// A paragraph: its id, which no other has or had, the version of the text that last touched it,
 /// and its text, which versions of a list share.
@@ -108,7 +108,7 @@ impl Paragraphs {
     }
 
     /// The paragraphs, one after another.
-    pub fn iter(&self) -> Walk<'_, Para>
+    pub fn iter(&self) -> ItemsWalk<'_, Para>
         ensures { result ≡ self.now }
     {
         self.kept.iter()

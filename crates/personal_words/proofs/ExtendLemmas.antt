@@ -3,11 +3,11 @@ use Rattle.std.proofs.Common.{ℕ, ◌≡◌, ◌∙◌, ◌<◌, ◌≤◌, ◌
 use Rattle.std.proofs.Common.{length-append, ap, sym, ◌∷◌, [], ◌+◌, take, get_or}
 use Rattle.std.proofs.lemmas.List.{length-map, take_more, map-append}
 use Rattle.std.proofs.lemmas.List.Elements.{All-append, All-map}
-use Rattle.spell_types.specs.declared.Affixes.{Affixes}
-use Rattle.spell_types.specs.declared.Entry.{Entry}
-use Rattle.spell_types.specs.declared.Lexicon.{Lexicon}
-use Rattle.spell_types.specs.declared.flags.Flag.{Flag}
-use Rattle.spell_types.specs.Sanity.{IsSane}
+use Rattle.mark_types.specs.spell_types.declared.Affixes.{Affixes}
+use Rattle.mark_types.specs.spell_types.declared.Entry.{Entry}
+use Rattle.mark_types.specs.spell_types.declared.Lexicon.{Lexicon}
+use Rattle.mark_types.specs.spell_types.declared.flags.Flag.{Flag}
+use Rattle.mark_types.specs.spell_types.Sanity.{IsSane}
 use Rattle.personal_words.specs.declared.items.OwnItem.{OwnItem}
 use Rattle.personal_words.specs.Extended.{entry_of_item, extended, forbidding, with_forbidden}
 use Rattle.personal_words.specs.Lists.{AreOwn}

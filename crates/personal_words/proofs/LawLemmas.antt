@@ -1,6 +1,8 @@
 -- In a dictionary with a list's words the prohibited words are barred.
-use Rattle.std.proofs.Common.{ℕ, ◌≡◌, ◌∙◌, ◌<◌, ◌==◌, ◌&&◌, ◌||◌, ◌++◌, Bool, true, false, not, cond}
-use Rattle.std.proofs.Common.{List, [], ◌∷◌, length, map, slice_get, Contains, Option, None, Some, IfSome}
+use Rattle.std.proofs.Common.{ℕ, ◌≡◌, ◌∙◌, ◌<◌, ◌==◌, ◌&&◌, ◌||◌, ◌++◌, Bool, true, false, not}
+use Rattle.std.proofs.Common.{cond}
+use Rattle.std.proofs.Common.{List, [], ◌∷◌, length, map, slice_get, Contains, Option, None, Some}
+use Rattle.std.proofs.Common.{IfSome}
 use Rattle.std.proofs.Common.{unwrap_or}
 use Rattle.std.proofs.Common.{refl, ap, arith}
 use Rattle.std.specs.List.{flat_map, range_with_len}
@@ -9,18 +11,21 @@ use Rattle.std.proofs.lemmas.Bool.Decides.{nat_tests}
 use Rattle.std.proofs.lemmas.List.Elements.{Contains-append_right}
 use Rattle.std.proofs.lemmas.Option.{slice_get-get_or}
 use Rattle.std.proofs.lemmas.Slice.Eq.{bytes_eq-Decides}
-use Rattle.lists.specs.Laws.{contains-head, contains-map, contains-flat_map, contains-range}
-use Rattle.lists.specs.Laws.{any-contains}
-use Rattle.spell_types.specs.declared.Entry.{Entry}
-use Rattle.spell_types.specs.declared.Lexicon.{Lexicon}
-use Rattle.spell_types.specs.declared.derivations.Derivation.{Derivation}
-use Rattle.spell_types.specs.declared.flags.Flag.{Flag}
-use Rattle.spell_types.specs.Derivations.{named, named_with, form_of, formed, derivation_of}
-use Rattle.spell_types.specs.Derivations.{all_from, all_derivations, choices}
-use Rattle.spell_types.specs.Flags.{has, IsOrdinary}
-use Rattle.spell_types.specs.Licences.{holds_of, meets_signs, is_forbidden, is_word, has_form}
-use Rattle.spell_types.specs.Licences.{is_barred}
-use Rattle.spell_types.specs.Sanity.{HasOrdinaryFlags}
+use Rattle.mark_types.specs.lists.Laws.{contains-head, contains-map, contains-flat_map}
+use Rattle.mark_types.specs.lists.Laws.{contains-range}
+use Rattle.mark_types.specs.lists.Laws.{any-contains}
+use Rattle.mark_types.specs.spell_types.declared.Entry.{Entry}
+use Rattle.mark_types.specs.spell_types.declared.Lexicon.{Lexicon}
+use Rattle.mark_types.specs.spell_types.declared.derivations.Derivation.{Derivation}
+use Rattle.mark_types.specs.spell_types.declared.flags.Flag.{Flag}
+use Rattle.mark_types.specs.spell_types.Derivations.{named, named_with, form_of, formed}
+use Rattle.mark_types.specs.spell_types.Derivations.{derivation_of}
+use Rattle.mark_types.specs.spell_types.Derivations.{all_from, all_derivations, choices}
+use Rattle.mark_types.specs.spell_types.Flags.{has, IsOrdinary}
+use Rattle.mark_types.specs.spell_types.Licences.{holds_of, meets_signs, is_forbidden, is_word}
+use Rattle.mark_types.specs.spell_types.Licences.{has_form}
+use Rattle.mark_types.specs.spell_types.Licences.{is_barred}
+use Rattle.mark_types.specs.spell_types.Sanity.{HasOrdinaryFlags}
 use Rattle.personal_words.specs.declared.items.OwnItem.{OwnItem}
 use Rattle.personal_words.specs.Extended.{left_over, forbidding, flags_like, entry_of_item}
 use Rattle.personal_words.specs.Extended.{extended}

@@ -10,9 +10,9 @@ use Rattle.std.specs.Option.{option_map_or}
 use Rattle.std.proofs.lemmas.Option.{same_Some}
 use Rattle.std.proofs.lemmas.Slice.Eq.{bytes_eq-Decides}
 use Rattle.indexmap.specs.IndexMap.{IndexMap, index_map_len}
-use Rattle.spell_types.specs.declared.Entry.{Entry}
-use Rattle.spell_types.specs.declared.flags.Flag.{Flag}
-use Rattle.spell_types.specs.Cases.{is_same_word}
+use Rattle.mark_types.specs.spell_types.declared.Entry.{Entry}
+use Rattle.mark_types.specs.spell_types.declared.flags.Flag.{Flag}
+use Rattle.mark_types.specs.spell_types.Cases.{is_same_word}
 use Rattle.personal_words.specs.declared.items.OwnItem.{OwnItem}
 use Rattle.personal_words.specs.Extended.{flags_like}
 use Rattle.personal_words.specs.Models.{flags_at, flags_kept, HasModel, AreLike, Puts}

@@ -8,22 +8,24 @@ use Rattle.std.proofs.lemmas.Grind.{flat_map-append}
 use Rattle.std.proofs.lemmas.List.{get_or-drop, get_or-map, get_or_default}
 use Rattle.std.proofs.lemmas.List.FromFn.{get_or-range_with_len}
 use Rattle.std.proofs.lemmas.Option.{slice_get_past}
-use Rattle.text_lines.specs.declared.found.Line.{Line}
-use Rattle.text_lines.specs.Lines.{text_of}
-use Rattle.spell_types.specs.declared.Affixes.{Affixes}
+use Rattle.mark_types.specs.text_lines.declared.found.Line.{Line}
+use Rattle.mark_types.specs.text_lines.Lines.{text_of}
+use Rattle.mark_types.specs.spell_types.declared.Affixes.{Affixes}
 use Rattle.line_faults.specs.Faults.{is_before, sooner, fault_at}
 use Rattle.line_faults.specs.Laws.{NoneBefore, BeforeEach, lower-line, higher-line, least_append}
 use Rattle.line_faults.specs.Laws.{each-least, none-before-stays, before-each-wins}
-use Rattle.lists.specs.Laws.{each-weaker, each-flat_map}
+use Rattle.mark_types.specs.lists.Laws.{each-weaker, each-flat_map}
 use Rattle.personal_words.specs.declared.faults.OwnWhy.TheVariants.{EmptyWord, TooMany}
 use Rattle.personal_words.specs.Items.{is_blank_line, item_of, lacks_text}
-use Rattle.personal_words.specs.Faults.{Fault, Listed, listed_at, listed, cause_number, least_of}
-use Rattle.personal_words.specs.Faults.{item_faults, too_many, many_faults, items_faults}
+use Rattle.personal_words.specs.Faults.{OwnFaultAtLine, ListedItem, listed_at, listed_items}
+use Rattle.personal_words.specs.Faults.{own_cause_number, least_own_fault}
+use Rattle.personal_words.specs.Faults.{item_faults, item_too_many, too_many_items_faults}
+use Rattle.personal_words.specs.Faults.{items_faults}
 use Rattle.personal_words.proofs.FaultLemmas.{too-many-last}
 
 -- ---- the faults of one item are all at its line
 
-abbrev pub IsAtLine : ℕ → Fault → Type 0
+abbrev pub IsAtLine : ℕ → OwnFaultAtLine → Type 0
 IsAtLine number fault = fault.line ≡ number
 
 empty-at : (number : ℕ) (empty : Bool)
@@ -31,37 +33,39 @@ empty-at : (number : ℕ) (empty : Bool)
 empty-at number true = (refl, tt)
 empty-at number false = tt
 
-faults-at : (affixes : Affixes) (found : Listed)
+faults-at : (affixes : Affixes) (found : ListedItem)
     → AllByRecursion (IsAtLine found.number) (item_faults affixes found)
 faults-at affixes found = empty-at found.number (lacks_text (item_of affixes found.text))
 
 -- ---- the faults of items at higher lines
 
-abbrev pub own_faults : Affixes → List Listed → List Fault
+abbrev pub own_faults : Affixes → List ListedItem → List OwnFaultAtLine
 own_faults affixes items = flat_map (item_faults affixes) items
 
-abbrev pub AreBehind : ℕ → List Listed → Type 0
-AreBehind number items = AllByRecursion (λ (found : Listed). number < found.number) items
+abbrev pub AreBehind : ℕ → List ListedItem → Type 0
+AreBehind number items = AllByRecursion (λ (found : ListedItem). number < found.number) items
 
 -- what holds of each fault at a higher line holds of the faults of items at higher lines
-own-behind : (affixes : Affixes) (P : Fault → Type 0) (number : ℕ)
-    → ((fault : Fault) → number < fault.line → P fault)
-    → (items : List Listed) → AreBehind number items
+own-behind : (affixes : Affixes) (P : OwnFaultAtLine → Type 0) (number : ℕ)
+    → ((fault : OwnFaultAtLine) → number < fault.line → P fault)
+    → (items : List ListedItem) → AreBehind number items
     → AllByRecursion P (own_faults affixes items)
 own-behind affixes P number holds items behind =
     each-flat_map P (item_faults affixes) items
-    (each-weaker (λ (found : Listed). number < found.number)
+    (each-weaker (λ (found : ListedItem). number < found.number)
     (λ found. AllByRecursion P (item_faults affixes found)) own items behind)
   where
-    own : (found : Listed) → number < found.number → AllByRecursion P (item_faults affixes found)
+    own : (found : ListedItem) → number < found.number
+        → AllByRecursion P (item_faults affixes found)
     own found above =
         each-weaker (IsAtLine found.number) P
         (λ fault same. holds fault (omega (arith, same, above)))
         (item_faults affixes found) (faults-at affixes found)
 
-many-behind : (P : Fault → Type 0) (number : ℕ) → ((fault : Fault) → number < fault.line → P fault)
-    → (limit : ℕ) (items : List Listed) → AreBehind number items
-    → AllByRecursion P (many_faults limit items)
+many-behind : (P : OwnFaultAtLine → Type 0) (number : ℕ)
+    → ((fault : OwnFaultAtLine) → number < fault.line → P fault)
+    → (limit : ℕ) (items : List ListedItem) → AreBehind number items
+    → AllByRecursion P (too_many_items_faults limit items)
 many-behind P number holds limit [] behind = tt
 many-behind P number holds zero (found ∷ more) behind =
     (holds (fault_at found.number TooMany) behind.0, tt)
@@ -70,10 +74,11 @@ many-behind P number holds (suc limit) (found ∷ more) behind =
 
 -- where earlier items are not too many, the first that is one too many is this one or one behind
 -- it
-many-seam : (P : Fault → Type 0) (earlier : List Listed) (found : Listed) (more : List Listed)
+many-seam : (P : OwnFaultAtLine → Type 0) (earlier : List ListedItem) (found : ListedItem) (more : List ListedItem)
     (limit : ℕ) → length earlier ≤ limit
-    → P (fault_at found.number TooMany) → ((left : ℕ) → AllByRecursion P (many_faults left more))
-    → AllByRecursion P (many_faults limit (earlier ++ found ∷ more))
+    → P (fault_at found.number TooMany)
+    → ((left : ℕ) → AllByRecursion P (too_many_items_faults left more))
+    → AllByRecursion P (too_many_items_faults limit (earlier ++ found ∷ more))
 many-seam P [] found more zero few here later = (here, tt)
 many-seam P [] found more (suc limit) few here later = later limit
 many-seam P (first ∷ earlier) found more zero few here later = absurd (omega (arith, few))
@@ -83,7 +88,7 @@ many-seam P (first ∷ earlier) found more (suc limit) few here later =
 -- ---- the first fault of items
 
 -- where earlier items have no fault, those of the later ones are left
-pub own-seam : (affixes : Affixes) (earlier : List Listed) (found : Listed) (more : List Listed)
+pub own-seam : (affixes : Affixes) (earlier : List ListedItem) (found : ListedItem) (more : List ListedItem)
     → own_faults affixes earlier ≡ []
     → own_faults affixes (earlier ++ found ∷ more) ≡ item_faults affixes found
     ++ own_faults affixes more
@@ -91,70 +96,70 @@ own-seam affixes earlier found more fine =
     flat_map-append (item_faults affixes) earlier (found ∷ more)
     ∙ ap (λ faults. faults ++ (item_faults affixes found ++ own_faults affixes more)) fine
 
-pub own-fault : (affixes : Affixes) (limit : ℕ) (earlier : List Listed) (found : Listed)
-    (more : List Listed) (fault : Fault)
+pub own-fault : (affixes : Affixes) (limit : ℕ) (earlier : List ListedItem) (found : ListedItem)
+    (more : List ListedItem) (fault : OwnFaultAtLine)
     → own_faults affixes earlier ≡ [] → length earlier ≤ limit → AreBehind found.number more
-    → least_of (item_faults affixes found) ≡ Some fault
-    → least_of (items_faults affixes limit (earlier ++ found ∷ more)) ≡ Some fault
+    → least_own_fault (item_faults affixes found) ≡ Some fault
+    → least_own_fault (items_faults affixes limit (earlier ++ found ∷ more)) ≡ Some fault
 own-fault affixes limit earlier found more fault fine few behind own =
     let all = earlier ++ found ∷ more in
     let here : fault.line ≡ found.number =
-    each-least cause_number (IsAtLine found.number) (item_faults affixes found) fault
+    each-least own_cause_number (IsAtLine found.number) (item_faults affixes found) fault
     (faults-at affixes found) own in
     let holds =
-    λ (other : Fault) (above : found.number < other.line). higher-line cause_number fault
+    λ (other : OwnFaultAtLine) (above : found.number < other.line). higher-line own_cause_number fault
     other (omega (arith, here, above)) in
-    let later : NoneBefore cause_number fault (own_faults affixes more) =
-    own-behind affixes (λ other. is_before cause_number other fault ≡ false) found.number
+    let later : NoneBefore own_cause_number fault (own_faults affixes more) =
+    own-behind affixes (λ other. is_before own_cause_number other fault ≡ false) found.number
     holds more behind in
-    let many : NoneBefore cause_number fault (many_faults limit all) =
-    many-seam (λ other. is_before cause_number other fault ≡ false) earlier found more limit few
+    let many : NoneBefore own_cause_number fault (too_many_items_faults limit all) =
+    many-seam (λ other. is_before own_cause_number other fault ≡ false) earlier found more limit few
     (too-many-last fault found.number here)
-    (λ left. many-behind (λ other. is_before cause_number other fault ≡ false) found.number holds
+    (λ left. many-behind (λ other. is_before own_cause_number other fault ≡ false) found.number holds
     left more behind) in
-    let first : least_of (own_faults affixes all) ≡ Some fault =
-    ap least_of (own-seam affixes earlier found more fine)
-    ∙ least_append cause_number (item_faults affixes found) (own_faults affixes more)
-    ∙ ap (λ o. sooner cause_number o (least_of (own_faults affixes more))) own
-    ∙ none-before-stays cause_number fault (own_faults affixes more) later in
-    least_append cause_number (own_faults affixes all) (many_faults limit all)
-    ∙ ap (λ o. sooner cause_number o (least_of (many_faults limit all))) first
-    ∙ none-before-stays cause_number fault (many_faults limit all) many
+    let first : least_own_fault (own_faults affixes all) ≡ Some fault =
+    ap least_own_fault (own-seam affixes earlier found more fine)
+    ∙ least_append own_cause_number (item_faults affixes found) (own_faults affixes more)
+    ∙ ap (λ o. sooner own_cause_number o (least_own_fault (own_faults affixes more))) own
+    ∙ none-before-stays own_cause_number fault (own_faults affixes more) later in
+    least_append own_cause_number (own_faults affixes all) (too_many_items_faults limit all)
+    ∙ ap (λ o. sooner own_cause_number o (least_own_fault (too_many_items_faults limit all))) first
+    ∙ none-before-stays own_cause_number fault (too_many_items_faults limit all) many
 
-slice_get-seam : (items : List Listed) (found : Listed) (more : List Listed)
+slice_get-seam : (items : List ListedItem) (found : ListedItem) (more : List ListedItem)
     → slice_get (items ++ found ∷ more) (length items) ≡ Some found
 slice_get-seam [] found more = refl
 slice_get-seam (first ∷ items) found more = slice_get-seam items found more
 
-pub many-fault : (affixes : Affixes) (limit : ℕ) (earlier : List Listed) (found : Listed)
-    (more : List Listed)
+pub many-fault : (affixes : Affixes) (limit : ℕ) (earlier : List ListedItem) (found : ListedItem)
+    (more : List ListedItem)
     → own_faults affixes earlier ≡ [] → length earlier ≡ limit → AreBehind found.number more
     → item_faults affixes found ≡ []
-    → least_of (items_faults affixes limit (earlier ++ found ∷ more))
+    → least_own_fault (items_faults affixes limit (earlier ++ found ∷ more))
     ≡ Some (fault_at found.number TooMany)
 many-fault affixes limit earlier found more fine full behind own =
     let all = earlier ++ found ∷ more in
     let fault = fault_at found.number TooMany in
-    let later : BeforeEach cause_number fault (own_faults affixes more) =
-    own-behind affixes (λ other. is_before cause_number fault other ≡ true) found.number
-    (λ other above. lower-line cause_number fault other above) more behind in
+    let later : BeforeEach own_cause_number fault (own_faults affixes more) =
+    own-behind affixes (λ other. is_before own_cause_number fault other ≡ true) found.number
+    (λ other above. lower-line own_cause_number fault other above) more behind in
     let left : own_faults affixes all ≡ own_faults affixes more =
     own-seam affixes earlier found more fine
     ∙ ap (λ faults. faults ++ own_faults affixes more) own in
-    let many : many_faults limit all ≡ fault ∷ [] =
-    ap (λ n. many_faults n all) (sym full)
-    ∙ ap too_many (slice_get-seam earlier found more) in
-    least_append cause_number (own_faults affixes all) (many_faults limit all)
-    ∙ ap (λ faults. sooner cause_number (least_of faults) (least_of (many_faults limit all))) left
-    ∙ ap (λ faults. sooner cause_number (least_of (own_faults affixes more)) (least_of faults)) many
-    ∙ before-each-wins cause_number fault (own_faults affixes more) later
+    let many : too_many_items_faults limit all ≡ fault ∷ [] =
+    ap (λ n. too_many_items_faults n all) (sym full)
+    ∙ ap item_too_many (slice_get-seam earlier found more) in
+    least_append own_cause_number (own_faults affixes all) (too_many_items_faults limit all)
+    ∙ ap (λ faults. sooner own_cause_number (least_own_fault faults) (least_own_fault (too_many_items_faults limit all))) left
+    ∙ ap (λ faults. sooner own_cause_number (least_own_fault (own_faults affixes more)) (least_own_fault faults)) many
+    ∙ before-each-wins own_cause_number fault (own_faults affixes more) later
 
-pub no-fault : (affixes : Affixes) (limit : ℕ) (items : List Listed)
+pub no-fault : (affixes : Affixes) (limit : ℕ) (items : List ListedItem)
     → own_faults affixes items ≡ [] → length items ≤ limit
-    → least_of (items_faults affixes limit items) ≡ None
+    → least_own_fault (items_faults affixes limit items) ≡ None
 no-fault affixes limit items fine few =
-    ap (λ faults. least_of (faults ++ many_faults limit items)) fine
-    ∙ ap (λ o. least_of (too_many o)) (slice_get_past items limit few)
+    ap (λ faults. least_own_fault (faults ++ too_many_items_faults limit items)) fine
+    ∙ ap (λ o. least_own_fault (item_too_many o)) (slice_get_past items limit few)
 
 -- ---- lines with rising numbers
 
@@ -168,16 +173,16 @@ abbrev LinesBehind : ℕ → List Line → Type 0
 LinesBehind number lines = All (λ (line : Line). number < line.number) lines
 
 pub listed-behind : (bytes : List ℕ) (number : ℕ) (lines : List Line) → LinesBehind number lines
-    → AreBehind number (listed bytes lines)
+    → AreBehind number (listed_items bytes lines)
 listed-behind bytes number [] behind = tt
 listed-behind bytes number (line ∷ more) behind =
     by-test (is_blank_line (text_of bytes line))
     (listed-behind bytes number more (λ k d within. behind (suc k) d (omega (arith, within))))
   where
-    by-test : (b : Bool) → AreBehind number (listed bytes more)
+    by-test : (b : Bool) → AreBehind number (listed_items bytes more)
         → AreBehind number
         (cons_option (cond b None (Some (listed_at line.number (text_of bytes line))))
-        (listed bytes more))
+        (listed_items bytes more))
     by-test true rest = rest
     by-test false rest = (behind 0 line (omega arith), rest)
 

@@ -2,8 +2,8 @@
 use Rattle.std.specs.Prelude.{◌≤◌, List, length}
 use Rattle.personal_words.specs.declared.items.OwnItem.{OwnItem}
 use Rattle.personal_words.specs.Extended.{extended}
-use Rattle.spell_types.specs.Sanity.{IsSane, HasOrdinaryFlags, HaveOrdinaryFlags}
-use Rattle.spell_types.specs.declared.Lexicon.{Lexicon}
+use Rattle.mark_types.specs.spell_types.Sanity.{IsSane, HasOrdinaryFlags, HaveOrdinaryFlags}
+use Rattle.mark_types.specs.spell_types.declared.Lexicon.{Lexicon}
 
 pub record OwnSeen : Type 0 where
   pub base : Lexicon
@@ -14,7 +14,7 @@ abbrev pub in_force : OwnSeen → Lexicon
 in_force dictionary = extended dictionary.base dictionary.own
 
 -- a dictionary as it is loaded, which may be extended
-pub record IsBase (lexicon : Lexicon) : Type 0 where
+pub record IsLoadedBase (lexicon : Lexicon) : Type 0 where
   pub sane : IsSane lexicon
   pub few : length lexicon.entries ≤ 1000000
   pub affixes : HasOrdinaryFlags lexicon.affixes

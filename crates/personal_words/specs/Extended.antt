@@ -2,11 +2,11 @@
 use Rattle.std.specs.Prelude.{ℕ, ◌^◌, ◌-◌, List, [], ◌∷◌, ◌++◌, map, find, unwrap_or, Some}
 use Rattle.std.specs.Prelude.{if◌then◌else◌}
 use Rattle.std.specs.Option.{option_map_or}
-use Rattle.spell_types.specs.declared.Affixes.{Affixes}
-use Rattle.spell_types.specs.declared.Entry.{Entry}
-use Rattle.spell_types.specs.declared.Lexicon.{Lexicon}
-use Rattle.spell_types.specs.declared.flags.Flag.{Flag}
-use Rattle.spell_types.specs.Cases.{is_same_word}
+use Rattle.mark_types.specs.spell_types.declared.Affixes.{Affixes}
+use Rattle.mark_types.specs.spell_types.declared.Entry.{Entry}
+use Rattle.mark_types.specs.spell_types.declared.Lexicon.{Lexicon}
+use Rattle.mark_types.specs.spell_types.declared.flags.Flag.{Flag}
+use Rattle.mark_types.specs.spell_types.Cases.{is_same_word}
 use Rattle.personal_words.specs.declared.items.OwnItem.{OwnItem}
 
 -- a flag that no file can give

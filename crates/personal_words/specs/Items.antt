@@ -4,9 +4,9 @@ use Rattle.std.specs.Prelude.{drop, Option, None, if◌then◌else◌}
 use Rattle.std.specs.List.{list_all, prefix_len, suffix_len}
 use Rattle.std.specs.Option.{option_map, option_map_or}
 use Rattle.std.specs.Str.{chars}
-use Rattle.text_lines.specs.Fields.{is_blank}
-use Rattle.spell_types.specs.declared.Affixes.{Affixes}
-use Rattle.spell_types.specs.Conversions.{without_ignored}
+use Rattle.mark_types.specs.text_lines.Fields.{is_blank}
+use Rattle.mark_types.specs.spell_types.declared.Affixes.{Affixes}
+use Rattle.mark_types.specs.spell_types.Conversions.{without_ignored}
 use Rattle.flag_sets.specs.Slashes.{is_slash, before_slash, behind_slash}
 use Rattle.personal_words.specs.declared.items.OwnItem.{OwnItem}
 
@@ -51,19 +51,19 @@ model_text [] = None
 model_text (c ∷ more) = behind_slash (if is_slash c then more else c ∷ more)
 
 -- the characters of a text, without those to ignore
-abbrev pub kept_of : List ℕ → List ℕ → List ℕ
-kept_of ignore text = without_ignored ignore (chars text)
+abbrev pub kept_characters : List ℕ → List ℕ → List ℕ
+kept_characters ignore text = without_ignored ignore (chars text)
 
 -- an item that prohibits its word, and has no model
 abbrev pub prohibiting : List ℕ → List ℕ → OwnItem
 prohibiting ignore said =
-    record { word = kept_of ignore (word_text said); model = None; prohibits = true }
+    record { word = kept_characters ignore (word_text said); model = None; prohibits = true }
 
 -- an item that adds its word
 abbrev pub adding : List ℕ → List ℕ → OwnItem
 adding ignore said = record {
-  word = kept_of ignore (word_text said);
-  model = option_map (kept_of ignore) (model_text said);
+  word = kept_characters ignore (word_text said);
+  model = option_map (kept_characters ignore) (model_text said);
   prohibits = false;
 }
 

@@ -1,7 +1,7 @@
 -- What every personal list meets, and what comes of one line more.
 use Rattle.std.specs.Prelude.{◌≡◌, ℕ, ◌<◌, ◌≤◌, Bool, true, false, List, [], ◌∷◌, ◌++◌, length, All}
 use Rattle.std.specs.Prelude.{nat_lt, Option, None, Some, Result, Ok, Err, if◌then◌else◌}
-use Rattle.spell_types.specs.declared.Affixes.{Affixes}
+use Rattle.mark_types.specs.spell_types.declared.Affixes.{Affixes}
 use Rattle.personal_words.specs.declared.faults.OwnLineFault.{OwnLineFault}
 use Rattle.personal_words.specs.declared.faults.OwnLineFault.TheVariants.{Why, NoMemory}
 use Rattle.personal_words.specs.declared.faults.OwnLineWhy.{OwnLineWhy}
@@ -33,6 +33,6 @@ IsAdded due old true new = (item : OwnItem) × (due ≡ Ok (Some item)) × (new 
 IsAdded due old false new = (due ≡ Ok None) × (new ≡ old)
 
 -- this is why the line is refused, or memory is wanting
-abbrev pub IsRefused : Result (Option OwnItem) OwnLineWhy → OwnLineFault → Type 0
-IsRefused due (Why why) = due ≡ Err why
-IsRefused due NoMemory = Unit {0}
+abbrev pub IsOwnLineRefused : Result (Option OwnItem) OwnLineWhy → OwnLineFault → Type 0
+IsOwnLineRefused due (Why why) = due ≡ Err why
+IsOwnLineRefused due NoMemory = Unit {0}

@@ -2,9 +2,9 @@
 use Rattle.std.specs.Prelude.{◌≡◌, ℕ, List, [], Option, Some, unwrap_or, IsSome, IfSome}
 use Rattle.std.specs.Prelude.{if◌then◌else◌}
 use Rattle.indexmap.specs.IndexMap.{IndexMap, get_by}
-use Rattle.spell_types.specs.declared.Entry.{Entry}
-use Rattle.spell_types.specs.declared.flags.Flag.{Flag}
-use Rattle.spell_types.specs.Cases.{is_same_word}
+use Rattle.mark_types.specs.spell_types.declared.Entry.{Entry}
+use Rattle.mark_types.specs.spell_types.declared.flags.Flag.{Flag}
+use Rattle.mark_types.specs.spell_types.Cases.{is_same_word}
 use Rattle.personal_words.specs.declared.items.OwnItem.{OwnItem}
 use Rattle.personal_words.specs.Extended.{flags_like}
 

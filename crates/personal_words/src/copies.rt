@@ -2,8 +2,8 @@
 
 ghost use Rattle.std.specs.Prelude.{◌≡◌, IfOk};
 
-use lists::{Copied, Items, NoMemory};
-use spell_types::{Affixes, Flag, FlagSet, Signs};
+use mark_types::lists::{Copied, Items, NoMemory};
+use mark_types::spell_types::{Affixes, Flag, FlagSet, Signs};
 use std::alloc::Global;
 
 /// A copy with this sign of forbidden words, if there is one.

@@ -1,15 +1,16 @@
 //! What is needed of a dictionary with personal words, whose base and whose words change while it is asked.
 
-ghost use Rattle.std.specs.Prelude.{◌≡◌, ◌++◌, ◌∷◌, [], Ok, Some, None, IfErr, IfNone, IfOk, IfSome};
+ghost use Rattle.std.specs.Prelude.{◌≡◌, ◌++◌, ◌∷◌, [], Ok, Some, None, IfErr, IfNone, IfOk};
+ghost use Rattle.std.specs.Prelude.{IfSome};
 ghost use Rattle.std.specs.Arc.{arc_value};
-ghost use Rattle.personal_words.specs.Dictionaries.{IsBase, OwnSeen, in_force};
-ghost use Rattle.personal_words.specs.Lists.{IsRefused, added};
+ghost use Rattle.personal_words.specs.Dictionaries.{IsLoadedBase, OwnSeen, in_force};
+ghost use Rattle.personal_words.specs.Lists.{IsOwnLineRefused, added};
 ghost use Rattle.personal_words.specs.declared.items.OwnItem.{OwnItem};
 
 use crate::faults::OwnLineFault;
-use lists::NoMemory;
 use mark_types::Judge;
-use spell_types::Lexicon;
+use mark_types::lists::NoMemory;
+use mark_types::spell_types::Lexicon;
 use std::alloc::Global;
 use std::sync::Arc;
 
@@ -24,7 +25,7 @@ pub trait Dictionary<J: Judge>: Sized {
 
     /// Another base with the same personal words.
     fn on_base(&self, alloc: Global, base: Lexicon) -> Result<Self, NoMemory>
-        requires { IsBase base }
+        requires { IsLoadedBase base }
         ensures { IfOk result (λ made. seen made ≡ record (seen self.now) { base = base }) };
 
     /// The same base with the item that a text is behind the other personal words; none where the text
@@ -37,5 +38,5 @@ pub trait Dictionary<J: Judge>: Sized {
         ensures blank { IfOk result (λ made. IfNone made
             (added (seen self.now).base.affixes (seen self.now).own text.now ≡ Ok None)) }
         ensures refused { IfErr result
-            (IsRefused (added (seen self.now).base.affixes (seen self.now).own text.now)) };
+            (IsOwnLineRefused (added (seen self.now).base.affixes (seen self.now).own text.now)) };
 }

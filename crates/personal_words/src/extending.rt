@@ -2,12 +2,12 @@
 
 ghost use Rattle.std.specs.Prelude.{◌≡◌, ◌≤◌, ◌++◌, ◌∷◌, [], length, map, OnOk, IfOk, IfSome, All};
 ghost use Rattle.std.specs.Option.{option_map_or};
-ghost use Rattle.spell_types.specs.declared.Lexicon.{Lexicon};
+ghost use Rattle.mark_types.specs.spell_types.declared.Lexicon.{Lexicon};
 ghost use Rattle.std.specs.Prelude.{List, Contains, None, true, false};
-ghost use Rattle.spell_types.specs.Flags.{has};
-ghost use Rattle.spell_types.specs.Licences.{is_barred};
+ghost use Rattle.mark_types.specs.spell_types.Flags.{has};
+ghost use Rattle.mark_types.specs.spell_types.Licences.{is_barred};
 ghost use Rattle.personal_words.specs.declared.items.OwnItem.{OwnItem};
-ghost use Rattle.spell_types.specs.Sanity.{IsSane, HasOrdinaryFlags, HaveOrdinaryFlags};
+ghost use Rattle.mark_types.specs.spell_types.Sanity.{IsSane, HasOrdinaryFlags, HaveOrdinaryFlags};
 ghost use Rattle.personal_words.specs.Extended.{extended, entry_of_item, forbidding};
 ghost use Rattle.personal_words.specs.Extended.{with_forbidden};
 ghost use Rattle.personal_words.specs.Models.{HasModel, AreLike, flags_kept};
@@ -16,8 +16,8 @@ use crate::copies::copied_affixes;
 use crate::items::OwnItem;
 use crate::list::OwnList;
 use crate::models::{Models, models_of};
-use lists::{Copied, Items, NoMemory};
-use spell_types::{Affixes, Chars, Entries, Entry, Flag, FlagSet, Lexicon, text_of};
+use mark_types::lists::{Copied, Items, NoMemory};
+use mark_types::spell_types::{Affixes, Chars, Entries, Entry, Flag, FlagSet, Lexicon, text_of};
 use std::alloc::Global;
 
 /// A flag that no file can give.

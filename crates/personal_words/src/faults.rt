@@ -1,12 +1,12 @@
 //! The causes of faults of personal lists.
 
 ghost use Rattle.std.specs.Prelude.{◌≡◌};
-ghost use Rattle.personal_words.specs.Faults.{cause_number, why_name, line_why_name};
+ghost use Rattle.personal_words.specs.Faults.{own_cause_number, own_cause_name, line_why_name};
 ghost use Rattle.personal_words.specs.declared.faults.OwnFault.TheVariants as fault;
 ghost use Rattle.personal_words.specs.declared.faults.OwnLineFault.TheVariants as line;
 
 use line_faults::Cause;
-use lists::NoMemory;
+use mark_types::lists::NoMemory;
 
 /// What is wrong with a line of a file. Of two causes at one line the one that stands first here is
 /// told.
@@ -22,9 +22,9 @@ pub enum OwnWhy {
 
 impl OwnWhy {
     /// The name of the cause, as the program prints it.
-    #[tactic(auto, unfolding(crate::specs::Faults::why_name))]
+    #[tactic(auto, unfolding(crate::specs::Faults::own_cause_name))]
     pub fn name(self) -> &'static str
-        ensures { result.now ≡ why_name self }
+        ensures { result.now ≡ own_cause_name self }
     {
         match self {
             OwnWhy::NotUtf8 => "NotUtf8",
@@ -35,9 +35,9 @@ impl OwnWhy {
 }
 
 impl Cause for OwnWhy {
-    ghost number = { cause_number };
+    ghost number = { own_cause_number };
 
-    #[tactic(auto, unfolding(crate::specs::Faults::cause_number))]
+    #[tactic(auto, unfolding(crate::specs::Faults::own_cause_number))]
     fn number(self) -> u8 {
         match self {
             OwnWhy::NotUtf8 => 1,

@@ -4,14 +4,15 @@ ghost use Rattle.std.specs.Prelude.{◌≡◌, ◌++◌, ◌<◌, length, true, 
 ghost use Rattle.std.specs.Prelude.{IfOk, if◌then◌else◌};
 ghost use Rattle.std.specs.Option.{option_copied, option_map, option_map_or};
 ghost use Rattle.std.specs.Str.{chars};
-ghost use Rattle.personal_words.specs.Items.{word_text, model_text, kept_of, prohibiting, adding};
+ghost use Rattle.personal_words.specs.Items.{word_text, model_text, kept_characters, prohibiting};
+ghost use Rattle.personal_words.specs.Items.{adding};
 ghost use Rattle.personal_words.specs.Items.{item_said, item_of, lacks_text, is_nothing};
 
 use crate::cutting::trimmed;
 use conversions::drop_ignored;
 use flag_sets::push_before_slash;
-use lists::{Copied, Items, NoMemory};
-use spell_types::{Affixes, Chars, chars_of};
+use mark_types::lists::{Copied, Items, NoMemory};
+use mark_types::spell_types::{Affixes, Chars, chars_of};
 use std::alloc::Global;
 
 /// One word of a personal list.
@@ -119,7 +120,7 @@ fn adding(alloc: Global, ignore: &[char], said: &str) -> Result<OwnItem, NoMemor
 /// The characters of a model, without those to ignore.
 fn model_of(alloc: Global, ignore: &[char], text: Option<&str>) -> Result<Option<Chars>, NoMemory>
     ensures { IfOk result (λ made. made
-        ≡ option_map (kept_of ignore.now) (option_copied text.entry)) }
+        ≡ option_map (kept_characters ignore.now) (option_copied text.entry)) }
 {
     match text {
         None => Ok(None),

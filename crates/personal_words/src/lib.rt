@@ -10,21 +10,23 @@
 ghost use Rattle.std.specs.Prelude.{◌≡◌, ◌<◌, ◌≤◌, ◌^◌, List, ℕ, [], length, map, All, Some, None};
 ghost use Rattle.std.specs.Prelude.{IfOk, IfErr};
 ghost use Rattle.std.specs.List.{AllPairs};
-ghost use Rattle.text_lines.specs.Lines.{IsInside};
-ghost use Rattle.spell_types.specs.declared.Affixes.{Affixes};
+ghost use Rattle.mark_types.specs.text_lines.Lines.{IsInside};
+ghost use Rattle.mark_types.specs.spell_types.declared.Affixes.{Affixes};
 ghost use Rattle.personal_words.specs.Lists.{AreOwn};
-ghost use Rattle.personal_words.specs.Faults.{Fault, own_passes, first_fault, IsLeast, OwnBad};
-ghost use Rattle.personal_words.specs.Faults.{listed, listed_at, item_read, items_read, own_read};
-ghost use Rattle.personal_words.specs.Faults.{IsRead, OwnReads, OwnRefuses};
+ghost use Rattle.personal_words.specs.Faults.{OwnFaultAtLine, own_passes, first_own_fault};
+ghost use Rattle.personal_words.specs.Faults.{IsLeastOwnFault, OwnBad};
+ghost use Rattle.personal_words.specs.Faults.{listed_items, listed_at, item_read, items_read};
+ghost use Rattle.personal_words.specs.Faults.{own_read};
+ghost use Rattle.personal_words.specs.Faults.{IsOwnListRead, OwnReads, OwnRefuses};
 
 use crate::cutting::is_blank;
 use crate::items::read_item;
 use crate::list::ITEM_LIMIT;
-use lists::{Items, NoMemory};
-use spell_types::Affixes;
+use mark_types::lists::{Items, NoMemory};
+use mark_types::spell_types::Affixes;
+use mark_types::text_lines::found::Line;
+use mark_types::text_lines::{line_text, lines};
 use std::alloc::Global;
-use text_lines::found::Line;
-use text_lines::{line_text, lines};
 
 mod copies;
 mod crossing;
@@ -51,7 +53,7 @@ pub fn read_own(alloc: Global, affixes: &Affixes, bytes: &[u8]) -> Result<OwnLis
     ensures refused { IfErr result (OwnRefuses affixes.now bytes.now) }
 
     // The same as one value, so that a caller can go on with it.
-    ensures value { IsRead (own_read affixes.now bytes.now) result }
+    ensures value { IsOwnListRead (own_read affixes.now bytes.now) result }
 {
     read_file(alloc, affixes, bytes)
 }
@@ -59,17 +61,17 @@ pub fn read_own(alloc: Global, affixes: &Affixes, bytes: &[u8]) -> Result<OwnLis
 /// The fault that is told of a list is the least of those that the first pass with a fault has, and
 /// a list of which none is told has none.
 pub fn first_fault_is_least()
-    ensures none { (affixes : Affixes) (bytes : List ℕ) → first_fault (own_passes affixes bytes)
+    ensures none { (affixes : Affixes) (bytes : List ℕ) → first_own_fault (own_passes affixes bytes)
         ≡ None
-        → (pass : ℕ) (fault : Fault) → ¬ OwnBad affixes bytes pass fault }
-    ensures least { (affixes : Affixes) (bytes : List ℕ) (fault : Fault)
-        → first_fault (own_passes affixes bytes) ≡ Some fault
-        → (pass : ℕ) × IsLeast (OwnBad affixes bytes pass) fault }
+        → (pass : ℕ) (fault : OwnFaultAtLine) → ¬ OwnBad affixes bytes pass fault }
+    ensures least { (affixes : Affixes) (bytes : List ℕ) (fault : OwnFaultAtLine)
+        → first_own_fault (own_passes affixes bytes) ≡ Some fault
+        → (pass : ℕ) × IsLeastOwnFault (OwnBad affixes bytes pass) fault }
 {}
 
 /// The items of a file, or its first fault.
 fn read_file(alloc: Global, affixes: &Affixes, bytes: &[u8]) -> Result<OwnList, OwnFault>
-    ensures { IsRead (own_read affixes.now bytes.now) result }
+    ensures { IsOwnListRead (own_read affixes.now bytes.now) result }
 {
     let found = lines(alloc, bytes)?;
     if let Some(line) = found.bad {
@@ -92,7 +94,7 @@ fn read_items(
 ) -> Result<Items<OwnItem>, OwnFault>
     requires inside { All (IsInside bytes.now) lines.now }
     requires rising { AllPairs (λ line later. line.number < later.number) lines.now }
-    ensures read { IsRead (items_read affixes.now limit (listed bytes.now lines.now)) result }
+    ensures read { IsOwnListRead (items_read affixes.now limit (listed_items bytes.now lines.now)) result }
     ensures few { IfOk result (λ items. length items ≤ limit) }
     ensures words { IfOk result (All (λ item. 0 < length item.word)) }
 {
@@ -116,7 +118,7 @@ fn read_items(
 
 /// The item of the line with this number, which is not blank.
 fn read_at(alloc: Global, affixes: &Affixes, number: u64, text: &str) -> Result<OwnItem, OwnFault>
-    ensures read { IsRead (item_read affixes.now (listed_at number text.now)) result }
+    ensures read { IsOwnListRead (item_read affixes.now (listed_at number text.now)) result }
     ensures word { IfOk result (λ item. 0 < length item.word) }
 {
     match read_item(alloc, affixes, text)? {

@@ -1,13 +1,13 @@
 //! A personal list, and what one line adds to it.
 
 ghost use Rattle.std.specs.Prelude.{◌≡◌, ◌==◌, [], length, OnErr, IfOk, IfErr};
-ghost use Rattle.personal_words.specs.Lists.{AreOwn, added, IsAdded, IsRefused};
+ghost use Rattle.personal_words.specs.Lists.{AreOwn, added, IsAdded, IsOwnLineRefused};
 
 use crate::cutting::is_blank;
 use crate::faults::{OwnLineFault, OwnLineWhy};
 use crate::items::{OwnItem, read_item};
-use lists::{Copied, Items, NoMemory};
-use spell_types::Affixes;
+use mark_types::lists::{Copied, Items, NoMemory};
+use mark_types::spell_types::Affixes;
 use std::alloc::Global;
 use std::marker::Model;
 
@@ -85,7 +85,7 @@ impl OwnList {
     ) -> Result<bool, OwnLineFault>
         ensures added { IfOk result
             (λ has. IsAdded (added affixes.now self.old line.now) self.old has self.new) }
-        ensures refused { IfErr result (IsRefused (added affixes.now self.old line.now)) }
+        ensures refused { IfErr result (IsOwnLineRefused (added affixes.now self.old line.now)) }
         ensures err { OnErr result (self.new ≡ self.old) }
     {
         if is_blank(line) {

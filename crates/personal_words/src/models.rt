@@ -6,8 +6,8 @@ ghost use Rattle.personal_words.specs.Models.{HasModel, AreLike, Puts};
 
 use crate::items::OwnItem;
 use indexmap::IndexMap;
-use lists::{Copied, NoMemory};
-use spell_types::{Chars, Entries, FlagSet, chars_of};
+use mark_types::lists::{Copied, NoMemory};
+use mark_types::spell_types::{Chars, Entries, FlagSet, chars_of};
 use std::alloc::Global;
 
 /// The flags of models.

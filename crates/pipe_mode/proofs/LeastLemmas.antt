@@ -7,7 +7,7 @@ use Rattle.std.specs.List.{reduce}
 use Rattle.std.specs.Ordering.{is_gt, is_le, min_by_ordering, ordering_reverse}
 use Rattle.std.proofs.lemmas.Cmp.{tied_itself, upto}
 use Rattle.std.proofs.lemmas.Option.{same_Some}
-use Rattle.lists.specs.Laws.{contains-head, contains-tail}
+use Rattle.mark_types.specs.lists.Laws.{contains-head, contains-tail}
 
 pub at-most : (o : Ordering) → is_gt o ≡ false → is_le o ≡ true
 at-most Less is = refl

@@ -12,20 +12,23 @@ use Rattle.std.proofs.lemmas.Cmp.{nat_cmp_total, on_total, then_total}
 use Rattle.std.proofs.lemmas.List.Elements.{Contains-append_cases}
 use Rattle.std.proofs.lemmas.Map.Views.{Contains-from_any}
 use Rattle.std.proofs.lemmas.Slice.Eq.{bytes_eq-Decides}
-use Rattle.lists.specs.Laws.{any-contains, contains-filter, contains-flat_map, contains-head}
-use Rattle.lists.specs.Laws.{contains-tail, filter-among, filter-holds}
+use Rattle.mark_types.specs.lists.Laws.{any-contains, contains-filter, contains-flat_map}
+use Rattle.mark_types.specs.lists.Laws.{contains-head}
+use Rattle.mark_types.specs.lists.Laws.{contains-tail, filter-among, filter-holds}
 use Rattle.spell_types.specs.declared.Lexicon.{Lexicon}
 use Rattle.spell_types.specs.declared.derivations.Derivation.{Derivation}
 use Rattle.spell_types.specs.declared.licences.Case.{Case}
 use Rattle.spell_types.specs.Bases.{allows_case, case_of, is_alone_in_case}
 use Rattle.spell_types.specs.Cases.{covered_by, is_among, is_same_word, Covers}
 use Rattle.spell_types.specs.Derivations.{Named, named, form_of}
-use Rattle.spell_types.specs.Licences.{holds_of, is_licensed, is_alone, is_allowed, is_barred}
-use Rattle.spell_types.specs.Licences.{may_stand_alone, meets_circumfix, meets_need, meets_signs}
+use Rattle.spell_types.specs.Licences.{holds_of, is_licensed, is_alone, is_allowed}
+use Rattle.spell_types.specs.Licences.{is_barred}
+use Rattle.spell_types.specs.Licences.{may_stand_alone, meets_circumfix, meets_need}
+use Rattle.spell_types.specs.Licences.{meets_signs}
 use Rattle.spell_types.specs.Yields.{most_characters}
 use Rattle.affix_strip.specs.Found.{derivation_cmp, derivations_of}
 use Rattle.pipe_mode.specs.Stems.{derivations_as, least, told_derivation, word_derivations}
-use Rattle.pipe_mode.specs.Stems.{IsToldBy, MayHaveStem, StandsFor}
+use Rattle.pipe_mode.specs.Stems.{IsAnsweredByStem, MayHaveStem, StandsFor}
 use Rattle.pipe_mode.proofs.LeastLemmas.{at-most, least-among, least-below, least-none}
 
 derivations-total : IsTotalOrder derivation_cmp
@@ -162,7 +165,7 @@ not-long : (n : ℕ) → n ≤ most_characters → nat_lt most_characters n ≡ 
 not-long n short = grind (arith, nat_tests)
 
 pub told : Members → CoveredWords → (lexicon : Lexicon) (word : List ℕ) (d : Derivation)
-    → told_derivation lexicon word ≡ Some d → IsToldBy lexicon word d
+    → told_derivation lexicon word ≡ Some d → IsAnsweredByStem lexicon word d
 unfolding told_derivation
 told members covers lexicon word d is =
     by (nat_lt most_characters (length word)) refl (is_barred lexicon word) refl is
@@ -170,7 +173,7 @@ told members covers lexicon word d is =
     by : (long : Bool) → nat_lt most_characters (length word) ≡ long
         → (barred : Bool) → is_barred lexicon word ≡ barred
         → cond (long || barred) None (least (word_derivations lexicon word)) ≡ Some d
-        → IsToldBy lexicon word d
+        → IsAnsweredByStem lexicon word d
     by true long barred right none = absurd cc
     by false long true right none = absurd cc
     by false long false right found = record {

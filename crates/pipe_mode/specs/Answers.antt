@@ -21,12 +21,12 @@ unknown_line word at =
     codes "# " ++ (encode_utf8_all word ++ (codes " " ++ (decimal at ++ codes "\n")))
 
 -- whether a derivation has an affix
-abbrev pub has_affix : Derivation → Bool
-has_affix d = is_some d.prefix || (is_some d.first || is_some d.second)
+abbrev pub has_some_affix : Derivation → Bool
+has_some_affix d = is_some d.prefix || (is_some d.first || is_some d.second)
 
 -- the stem of a derivation: the word of its entry
-abbrev pub stem_of : Lexicon → Derivation → List ℕ
-stem_of lexicon d =
+abbrev pub stem_text_of : Lexicon → Derivation → List ℕ
+stem_text_of lexicon d =
     option_map_or (λ entry. encode_utf8_all entry.word) (slice_get lexicon.entries d.entry) []
 
 -- a word that the lexicon generates: it is an entry, it has a stem and affixes, or it is neither,
@@ -34,7 +34,7 @@ stem_of lexicon d =
 abbrev pub known_line : Lexicon → Option Derivation → List ℕ
 known_line lexicon None = codes "-\n"
 known_line lexicon (Some d) =
-    if has_affix d then codes "+ " ++ (stem_of lexicon d ++ codes "\n") else codes "*\n"
+    if has_some_affix d then codes "+ " ++ (stem_text_of lexicon d ++ codes "\n") else codes "*\n"
 
 -- the answer to a word at a byte of its line; where answers are terse, only unknown words have one
 abbrev pub answer_at : Lexicon → Bool → ℕ → List ℕ → List ℕ
@@ -67,13 +67,13 @@ words_answer lexicon terse line =
     (words_of lexicon.affixes.wordchars (chars (drop before line)))
 
 -- a line that is not UTF-8, by its number
-abbrev pub bad_line : ℕ → List ℕ
-bad_line number = codes "bad " ++ (decimal number ++ codes "\n")
+abbrev pub bad_line_answer : ℕ → List ℕ
+bad_line_answer number = codes "bad " ++ (decimal number ++ codes "\n")
 
 -- the answer to a line of words, and the empty line behind it
 abbrev pub line_answer : Lexicon → Bool → ℕ → List ℕ → List ℕ
 line_answer lexicon terse number line =
-    if is_utf8 line then words_answer lexicon terse line else bad_line number
+    if is_utf8 line then words_answer lexicon terse line else bad_line_answer number
 
 abbrev pub text_answer : Lexicon → Bool → ℕ → List ℕ → List ℕ
 text_answer lexicon terse number line =

@@ -29,9 +29,9 @@ next pipe line = record {
 }
 
 -- the pipe behind some lines
-abbrev pub behind : PipeSeen → List (List ℕ) → PipeSeen
-behind pipe [] = pipe
-behind pipe (line ∷ more) = behind (next pipe line) more
+abbrev pub pipe_behind : PipeSeen → List (List ℕ) → PipeSeen
+pipe_behind pipe [] = pipe
+pipe_behind pipe (line ∷ more) = pipe_behind (next pipe line) more
 
 -- the answers to some lines, in their order
 abbrev pub answers_to : PipeSeen → List (List ℕ) → List ℕ
@@ -43,13 +43,13 @@ abbrev pub pipe_answers : Lexicon → List (List ℕ) → List ℕ
 pipe_answers lexicon lines = answers_to (opened lexicon) lines
 
 -- some lines have had these answers, and led from one pipe to another
-pub record HasAnswered (first now : PipeSeen) (lines : List (List ℕ)) (said : List ℕ) : Type
+pub record HasAnsweredLines (first now : PipeSeen) (lines : List (List ℕ)) (said : List ℕ) : Type
     0 where
   pub said_is : said ≡ answers_to first lines
-  pub now_is : now ≡ behind first lines
+  pub now_is : now ≡ pipe_behind first lines
 
 -- no line has been answered yet
-pub answered-none : (pipe : PipeSeen) → HasAnswered pipe pipe [] []
+pub answered-none : (pipe : PipeSeen) → HasAnsweredLines pipe pipe [] []
 answered-none pipe = record { said_is = refl; now_is = refl }
 
 -- no line ends an input
@@ -57,5 +57,5 @@ abbrev pub ends_input : List ℕ → Bool
 ends_input line = false
 
 -- how many lines there are numbers for
-abbrev pub lines_left : PipeSeen → ℕ
-lines_left pipe = 18446744073709551615 - pipe.number
+abbrev pub lines_left_in_pipe : PipeSeen → ℕ
+lines_left_in_pipe pipe = 18446744073709551615 - pipe.number

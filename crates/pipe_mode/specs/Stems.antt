@@ -57,7 +57,7 @@ pub record MayHaveStem (lexicon : Lexicon) (word : List ℕ) : Type 0 where
   pub right : is_barred lexicon word ≡ false
 
 -- the word is answered by the derivation, which stands for it; and no derivation that does is less
-pub record IsToldBy (lexicon : Lexicon) (word : List ℕ) (d : Derivation) : Type 0 where
+pub record IsAnsweredByStem (lexicon : Lexicon) (word : List ℕ) (d : Derivation) : Type 0 where
   pub may : MayHaveStem lexicon word
   pub stands : StandsFor lexicon word d
   pub least : (e : Derivation) → StandsFor lexicon word e → IsTrue (is_le (derivation_cmp d e))

@@ -34,11 +34,11 @@ mod stems;
 mod words;
 
 use lines::{begins_with, text_answer};
-use lists::NoMemory;
+use mark_types::lists::NoMemory;
+use mark_types::text_lines::Text;
 pub use pipe::Pipe;
 use std::alloc::Global;
 pub use stems::told_derivations_are_least;
-use text_lines::Text;
 use word_verdict::Speller;
 pub use words::PipeSpeller;
 

@@ -6,13 +6,13 @@ ghost use Rattle.std.specs.Str.{chars};
 ghost use Rattle.std.specs.String.{string_bytes};
 ghost use Rattle.mark_types.specs.Words.{words_of};
 ghost use Rattle.spell_types.specs.Conditions.{is_one_of};
-ghost use Rattle.pipe_mode.specs.Answers.{answer_behind, bad_line, begins_with, line_answer};
+ghost use Rattle.pipe_mode.specs.Answers.{answer_behind, bad_line_answer, begins_with, line_answer};
 ghost use Rattle.pipe_mode.specs.Answers.{passed_over, text_answer, words_answer};
 
 use crate::words::PipeSpeller;
-use lists::NoMemory;
+use mark_types::lists::NoMemory;
+use mark_types::text_lines::Text;
 use std::alloc::{AllocError, Global};
-use text_lines::Text;
 use word_cutter::{Rest, next_word};
 
 /// Whether a line begins with one of these characters, which are ASCII.
@@ -68,7 +68,7 @@ fn push_line_answer(
 }
 
 fn push_bad_line(answer: &mut String, number: u64) -> Result<(), AllocError>
-    ensures { OnOk result (string_bytes answer.new ≡ string_bytes answer.old ++ bad_line number) }
+    ensures { OnOk result (string_bytes answer.new ≡ string_bytes answer.old ++ bad_line_answer number) }
 {
     write!(answer, "bad {number}\n")
 }

@@ -1,11 +1,12 @@
 //! Answers the lines of an input, one after another.
 
 ghost use Rattle.std.specs.Prelude.{◌≡◌, IfOk};
-ghost use Rattle.pipe_mode.specs.Pipes.{HasAnswered, answered-none, ends_input, lines_left, opened};
+ghost use Rattle.pipe_mode.specs.Pipes.{HasAnsweredLines, answered-none, ends_input};
+ghost use Rattle.pipe_mode.specs.Pipes.{lines_left_in_pipe, opened};
 
 use crate::words::PipeSpeller;
 use input_lines::{Flow, Responder};
-use lists::NoMemory;
+use mark_types::lists::NoMemory;
 use std::alloc::Global;
 use std::marker::Model;
 use word_verdict::Speller;
@@ -47,9 +48,9 @@ impl<'a> Pipe<'a> {
 impl Responder<()> for Pipe<'_> {
     ghost quits = { ends_input };
 
-    ghost room = { λ pipe. lines_left pipe };
+    ghost room = { λ pipe. lines_left_in_pipe pipe };
 
-    ghost Leads = { λ first _ lines said now _. HasAnswered first now lines said };
+    ghost Leads = { λ first _ lines said now _. HasAnsweredLines first now lines said };
 
     fn answer(
         &mut self,

@@ -5,12 +5,12 @@ ghost use Rattle.spell_types.specs.declared.Lexicon.{Lexicon};
 ghost use Rattle.spell_types.specs.declared.derivations.Derivation.{Derivation};
 ghost use Rattle.affix_strip.specs.Found.{derivation_cmp};
 ghost use Rattle.pipe_mode.specs.Stems.{derivations_as, least, lesser, told_derivation};
-ghost use Rattle.pipe_mode.specs.Stems.{word_derivations, IsToldBy, MayHaveStem, StandsFor};
+ghost use Rattle.pipe_mode.specs.Stems.{word_derivations, IsAnsweredByStem, MayHaveStem, StandsFor};
 
 use crate::cases::case_of;
 use affix_strip::{Stems, derivations_are};
 use letter_case::{covered, covered_words_are};
-use lists::NoMemory;
+use mark_types::lists::NoMemory;
 use spell_types::{Derivation, alone_in_case};
 use std::alloc::Global;
 use std::cmp::Ordering;
@@ -38,7 +38,7 @@ pub(crate) fn told_derivation(
 /// none where none stands for it, and where it is too long or forbidden.
 pub fn told_derivations_are_least()
     ensures told { (lexicon : Lexicon) (word : List ℕ) (d : Derivation)
-        → told_derivation lexicon word ≡ Some d → IsToldBy lexicon word d }
+        → told_derivation lexicon word ≡ Some d → IsAnsweredByStem lexicon word d }
     ensures none { (lexicon : Lexicon) (word : List ℕ) (d : Derivation)
         → told_derivation lexicon word ≡ None → MayHaveStem lexicon word
         → ¬ (StandsFor lexicon word d) }

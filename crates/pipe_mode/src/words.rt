@@ -4,13 +4,14 @@ ghost use Rattle.std.specs.Prelude.{◌≡◌, ◌++◌, encode_utf8_all, IfOk, 
 ghost use Rattle.std.specs.String.{string_bytes};
 ghost use Rattle.conversions.specs.Patterns.{or_word};
 ghost use Rattle.spell_types.specs.Yields.{looked_up};
-ghost use Rattle.pipe_mode.specs.Answers.{answer_at, has_affix, known_line, stem_of, unknown_line};
+ghost use Rattle.pipe_mode.specs.Answers.{answer_at, has_some_affix, known_line, stem_text_of};
+ghost use Rattle.pipe_mode.specs.Answers.{unknown_line};
 ghost use Rattle.pipe_mode.specs.Stems.{told_derivation};
 
 use crate::stems::told_derivation;
 use conversions::{Conversions, Ignored};
-use lists::NoMemory;
 use mark_types::Judge;
+use mark_types::lists::NoMemory;
 use spell_types::{Chars, Derivation, Lexicon};
 use std::alloc::{AllocError, Global};
 use std::marker::Model;
@@ -27,14 +28,14 @@ pub struct PipeSpeller<'a> {
 
 impl<'a> Model for PipeSpeller<'a> {
     ghost use Rattle.spell_types.specs.declared.Lexicon.{Lexicon};
-    ghost use Rattle.pipe_mode.specs.Prepared.{ArePrepared};
+    ghost use Rattle.pipe_mode.specs.Prepared.{ArePipeTablesPrepared};
 
     ghost Value = { Lexicon };
 
     ghost view = { λ inside. inside.speller.now };
 
     ghost invariant = { λ inside.
-        ArePrepared inside.speller.now inside.conversions inside.ignored };
+        ArePipeTablesPrepared inside.speller.now inside.conversions inside.ignored };
 }
 
 impl<'a> PipeSpeller<'a> {
@@ -141,14 +142,14 @@ fn push_known(
 }
 
 fn has_affix(d: &Derivation) -> bool
-    ensures { result ≡ has_affix d.now }
+    ensures { result ≡ has_some_affix d.now }
 {
     d.prefix.is_some() || d.first.is_some() || d.second.is_some()
 }
 
 /// The word of a derivation's entry; the empty word where it names none.
 fn stem_of<'a>(lexicon: &'a Lexicon, d: &Derivation) -> &'a str
-    ensures { result.now ≡ stem_of lexicon.now d.now }
+    ensures { result.now ≡ stem_text_of lexicon.now d.now }
 {
     match lexicon.entries.get(d.entry as usize) {
         Some(entry) => entry.word(),

@@ -2,20 +2,20 @@
 use Rattle.std.proofs.Common.{◌≡◌, ◌∙◌, inl, inr, ℕ, ◌≤◌, length, nat_le, true, List, Option, Some}
 use Rattle.std.proofs.Common.{Result, Ok, Err, IfErr, IsErrAnd, refl, sym, ap, subst, if◌then◌else◌}
 use Rattle.std.proofs.lemmas.Bool.{le-leb}
-use Rattle.lists.specs.AnswerLaws.{fails-then, gives-fault, gives-then}
-use Rattle.lists.specs.Answers.{◌>>=◌, failing, FailsAs, GivesDue}
+use Rattle.outside.specs.lists.AnswerLaws.{fails-then, gives-fault, gives-then}
+use Rattle.outside.specs.lists.Answers.{◌>>=◌, failing, FailsAs, GivesDue}
 use Rattle.outside.specs.Files.{Folder, file_due}
 use Rattle.outside.specs.declared.faults.FileFault.TheVariants.{TooLong as FileTooLong}
 use Rattle.spell_types.specs.declared.Lexicon.{Lexicon}
 use Rattle.personal_words.specs.Dictionaries.{OwnSeen, in_force}
-use Rattle.document_report.specs.Documents.{MayCome as ReportMayCome}
+use Rattle.document_report.specs.Documents.{MayComeOfDocuments}
 use Rattle.document_report.specs.Given.{printed_by}
 use Rattle.document_report.specs.Reports.{Printed, report_of}
 use Rattle.document_report.specs.declared.fault.DocumentFault.{DocumentFault}
 use Rattle.document_report.specs.declared.fault.DocumentFault.TheVariants.{NoMemory as ReportWanting}
 use Rattle.document_report.specs.declared.printing.Report.{Report}
-use Rattle.report_forms.specs.Due.{Found, IsFound, check_due, checked_due, printed_due}
-use Rattle.file_loading.specs.Due.{IsFileThere, IsOwnThere, MayCome, OwnFiles, bytes_due}
+use Rattle.report_forms.specs.Due.{Found, AreInputsFound, check_due, checked_due, printed_due}
+use Rattle.file_loading.specs.Due.{IsFileThere, IsOwnThere, MayCome, OwnFiles, bytes_due_of_file}
 use Rattle.file_loading.specs.Due.{dictionary_due, in_force_due}
 use Rattle.file_loading.specs.Failures.{document_failure}
 use Rattle.report_forms.specs.Operands.{CheckedFiles}
@@ -28,7 +28,8 @@ use Rattle.file_loading.specs.DueLaws.{failing-told}
 
 -- ---- the document
 
-pub report-comes : (fault : DocumentFault) → ReportMayCome fault → MayCome (document_failure fault)
+pub report-comes : (fault : DocumentFault) → MayComeOfDocuments fault
+    → MayCome (document_failure fault)
 report-comes ReportWanting comes = tt
 report-comes _ comes = absurd comes
 
@@ -41,7 +42,7 @@ pub checked-told : (printed : Lexicon → List (List ℕ) → Printed) (found : 
 unfolding checked_due printed_due
 checked-told printed found =
     then-told (in_force_due found.dictionary) _ (in-force-told found.dictionary) (λ lexicon.
-    then-told (bytes_due DOCUMENT_LIMIT found.document) _
+    then-told (bytes_due_of_file DOCUMENT_LIMIT found.document) _
     (bytes-told DOCUMENT_LIMIT found.document)
     (λ document. failing-told document_failure report-told _))
 
@@ -51,12 +52,12 @@ checked-told printed found =
 found-both : (told : Option Folder) (names : CheckedFiles) (there : OwnFiles)
     (file : Option (List ℕ)) → IsOwnThere told names.dictionary there
     → IsFileThere told names.document file
-    → IsFound told names (record { dictionary = there; document = file })
+    → AreInputsFound told names (record { dictionary = there; document = file })
 found-both told names there file is also = record { dictionary = is; document = also }
 
 -- what is due of the files that there are
 abbrev pub IsChecked : Option Folder → CheckedFiles → Result Report Failure → Type 0
-IsChecked told names result = (found : Found) × IsFound told names found
+IsChecked told names result = (found : Found) × AreInputsFound told names found
     × GivesDue MayCome printed_by (check_due found) result
 
 -- what is due of a base and a list is so of the dictionary in force, and so are their faults
@@ -95,7 +96,7 @@ pub check-no-document : (told : Option Folder) (names : CheckedFiles) {lexicon :
     → (there : OwnFiles) × IsOwnThere told names.dictionary there
     × (in_force_due there ≡ Ok lexicon)
     → (file : Option (List ℕ)) × IsFileThere told names.document file
-    × FailsAs MayCome (bytes_due DOCUMENT_LIMIT file) failure
+    × FailsAs MayCome (bytes_due_of_file DOCUMENT_LIMIT file) failure
     → IsErrAnd result (λ other. other ≡ failure) → IsChecked told names result
 unfolding checked_due
 check-no-document told names result (there, is, due) (file, also, fails) fault = (
@@ -111,7 +112,7 @@ pub check-reported : (told : Option Folder) (names : CheckedFiles) {lexicon : Le
     → (there : OwnFiles) × IsOwnThere told names.dictionary there
     × (in_force_due there ≡ Ok lexicon)
     → (file : Option (List ℕ)) × IsFileThere told names.document file
-    × (bytes_due DOCUMENT_LIMIT file ≡ Ok document)
+    × (bytes_due_of_file DOCUMENT_LIMIT file ≡ Ok document)
     → GivesDue MayCome printed_by (printed_due report_of lexicon document) result
     → IsChecked told names result
 unfolding checked_due
@@ -122,8 +123,8 @@ check-reported told names result (there, is, due) (file, also, bytes) gives =
 
 -- bytes that are few enough are due
 pub bytes-made : (bytes given : List ℕ) → given ≡ bytes → length given ≤ DOCUMENT_LIMIT
-    → bytes_due DOCUMENT_LIMIT (Some bytes) ≡ Ok given
-unfolding bytes_due file_due
+    → bytes_due_of_file DOCUMENT_LIMIT (Some bytes) ≡ Ok given
+unfolding bytes_due_of_file file_due
 bytes-made bytes given same few =
     let fits : nat_le (length bytes) DOCUMENT_LIMIT ≡ true =
     le-leb (length bytes) DOCUMENT_LIMIT (subst (λ b. length b ≤ DOCUMENT_LIMIT) same few)

@@ -2,7 +2,7 @@
 use Rattle.std.proofs.Common.{◌≡◌, ◌≤◌, Bool, true, false, length, nat_le, refl, ap, inl, inr}
 use Rattle.std.proofs.Common.{Option, Result, Ok, Err, IfErr, if◌then◌else◌}
 use Rattle.std.proofs.lemmas.Bool.{le-leb, lt-leb}
-use Rattle.lists.specs.Answers.{FailsAs, GivesDue}
+use Rattle.outside.specs.lists.Answers.{FailsAs, GivesDue}
 use Rattle.outside.specs.Files.{Folder}
 use Rattle.spell_types.specs.declared.Lexicon.{Lexicon}
 use Rattle.form_lister.specs.Forms.{IsFaultOf, forms_of}

@@ -5,18 +5,18 @@ use Rattle.std.proofs.Common.{IfErr, IsErrOf, if◌then◌else◌}
 use Rattle.dictionary_swap.specs.declared.fault.LoadFault.TheVariants.{Failed as FailedLoad}
 use Rattle.document_report.specs.declared.printing.Report.{Report}
 use Rattle.file_loading.specs.Ends.{EndsAs, IsOrWanting, IsPut, status_at, tail_of}
-use Rattle.file_loading.specs.Forms.{IsCaused, Met, is_alone}
+use Rattle.file_loading.specs.Forms.{IsCaused, Met, is_the_only_line}
 use Rattle.report_forms.specs.Given.{end_by, text_by}
 use Rattle.file_loading.specs.declared.ending.End.{End}
 use Rattle.file_loading.specs.declared.ending.End.TheVariants.{Failed, Quiet, Marked}
 use Rattle.file_loading.specs.declared.failure.Failure.{Failure}
 use Rattle.file_loading.specs.declared.failure.Failure.TheVariants.{Load}
 use Rattle.std.proofs.lemmas.Result.{IfErr-at_err}
-use Rattle.lists.specs.Answers.{GivesDue}
+use Rattle.outside.specs.lists.Answers.{GivesDue}
 use Rattle.document_report.specs.Given.{printed_by}
 use Rattle.document_report.specs.Reports.{Printed}
 use Rattle.file_loading.specs.Due.{MayCome}
-use Rattle.report_forms.specs.Forms.{AllOfIt, AllPrinted, AreFirstLines, FilesFailed, IsReport}
+use Rattle.report_forms.specs.Forms.{AllOfIt, AllPrinted, AreFirstLines, FilesFailed, IsReportEnd}
 use Rattle.report_forms.specs.Forms.{IsWholeReport, Refused, SomeOfIt, Wanting, end_printed}
 use Rattle.report_forms.specs.Forms.{lines_before}
 use Rattle.file_loading.specs.EndLaws.{goes-on}
@@ -41,7 +41,7 @@ outcome-put outcome fails is (end, end_is, put) = record {
 
 -- a failure that may come at any time ends a report
 report-comes-as : (due : Result Printed Failure) (failure : Failure) → MayCome failure
-    → IsReport due [] (Failed failure)
+    → IsReportEnd due [] (Failed failure)
 report-comes-as due failure comes =
     let lines : AreFirstLines (lines_before due) [] =
     record { rest = lines_before due; begins = refl; whole = refl } in
@@ -51,7 +51,7 @@ report-comes-as due failure comes =
 -- what a result tells is a report of what is due
 pub report-given : (due : Result Printed Failure) (outcome : Result Report Failure)
     → IfErr due IsTold → GivesDue MayCome printed_by due outcome
-    → IsReport due (text_by outcome) (end_by outcome)
+    → IsReportEnd due (text_by outcome) (end_by outcome)
 report-given due (Ok report) told is = AllPrinted (printed_by report) is refl refl
 report-given due (Err failure) told (inl comes) = report-comes-as due failure comes
 report-given due (Err failure) told (inr is) =
@@ -64,7 +64,7 @@ printed-unfailed : {A : Type 0} {failure : Failure} (none : Bool)
 printed-unfailed true is = absurd (cc)
 printed-unfailed false is = absurd (cc)
 
-printed-goes-on : (none : Bool) → is_alone (if none then Quiet else Marked) ≡ false
+printed-goes-on : (none : Bool) → is_the_only_line (if none then Quiet else Marked) ≡ false
 printed-goes-on true = refl
 printed-goes-on false = refl
 
@@ -90,7 +90,7 @@ failed-files (Err failure) failed is =
 -- where the report is due, and the files did not fail, it is whole
 pub report-whole : {due : Result Printed Failure} {printed : Printed} {before after : ℕ}
     {text : List ℕ} {end : End} → due ≡ Ok printed → after ≡ before
-    → IsReport due text end → (end ≡ Failed (Load FailedLoad) → before < after)
+    → IsReportEnd due text end → (end ≡ Failed (Load FailedLoad) → before < after)
     → IsWholeReport printed text end
 report-whole {printed = printed} is same (AllPrinted other also text_is end_is) rose =
     let one : other ≡ printed = cc in

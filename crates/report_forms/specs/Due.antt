@@ -1,7 +1,7 @@
 -- What is due of files: what the program is to print of them, or why there is nothing to print.
 use Rattle.std.specs.Prelude.{◌≡◌, ℕ, List, codes, Option, Some, None, IsSomeAnd, Result, Ok, Err}
 use Rattle.std.specs.Prelude.{length, nat_le, if◌then◌else◌}
-use Rattle.lists.specs.Answers.{◌>>=◌, failing}
+use Rattle.outside.specs.lists.Answers.{◌>>=◌, failing}
 use Rattle.outside.specs.Files.{Folder}
 use Rattle.spell_types.specs.declared.Lexicon.{Lexicon}
 use Rattle.dictionary_swap.specs.Loads.{DictionaryFiles}
@@ -15,7 +15,7 @@ use Rattle.report_forms.specs.Operands.{CheckedFiles, StartAndSize}
 use Rattle.file_loading.specs.declared.failure.Failure.{Failure}
 use Rattle.file_loading.specs.declared.failure.Failure.TheVariants.{ManyForms}
 use Rattle.report_forms.specs.declared.limits.TheConstants.{DOCUMENT_LIMIT, MOST_FORMS}
-use Rattle.file_loading.specs.Due.{IsFileThere, IsOwnThere, OwnFiles, base_due, bytes_due}
+use Rattle.file_loading.specs.Due.{IsFileThere, IsOwnThere, OwnFiles, base_due, bytes_due_of_file}
 use Rattle.file_loading.specs.Due.{in_force_due}
 
 -- what there is of these and of a document
@@ -34,7 +34,7 @@ printed_due printed lexicon document =
 unfoldable pub checked_due : (Lexicon → List (List ℕ) → Printed) → Found → Result Printed Failure
 checked_due printed found = do
   lexicon ← in_force_due found.dictionary
-  document ← bytes_due DOCUMENT_LIMIT found.document
+  document ← bytes_due_of_file DOCUMENT_LIMIT found.document
   printed_due printed lexicon document
 
 -- the words of `check` ask for the report on a document
@@ -42,8 +42,8 @@ abbrev pub check_due : Found → Result Printed Failure
 check_due found = checked_due report_of found
 
 -- the bytes that are made
-abbrev pub made_by : StartAndSize → Found
-made_by asked =
+abbrev pub bytes_made_by : StartAndSize → Found
+bytes_made_by asked =
     record {
       dictionary = record {
         dictionary = record { aff = Some aff_bytes; dic = Some (dic_bytes asked.size) };
@@ -62,7 +62,7 @@ HasMade size told =
 
 -- the words of `make` ask for a summary of what is made
 abbrev pub make_due : StartAndSize → Result Printed Failure
-make_due asked = checked_due (summary_of asked.size) (made_by asked)
+make_due asked = checked_due (summary_of asked.size) (bytes_made_by asked)
 
 -- what is due of a dictionary whose forms are to be listed: all of them, if they are no more than
 -- are listed
@@ -78,6 +78,6 @@ forms_due files = do
   listing_due lexicon
 
 -- what there is of the names of `check`
-pub record IsFound (told : Option Folder) (names : CheckedFiles) (found : Found) : Type 0 where
+pub record AreInputsFound (told : Option Folder) (names : CheckedFiles) (found : Found) : Type 0 where
   pub dictionary : IsOwnThere told names.dictionary found.dictionary
   pub document : IsFileThere told names.document found.document

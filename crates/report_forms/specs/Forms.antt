@@ -5,7 +5,7 @@ use Rattle.dictionary_swap.specs.Loads.{DictionaryFiles}
 use Rattle.dictionary_swap.specs.declared.fault.LoadFault.TheVariants.{Failed as FailedLoad}
 use Rattle.document_report.specs.Reports.{Printed}
 use Rattle.console_board.specs.Transcripts.{IsThere}
-use Rattle.report_forms.specs.Due.{Found, IsFound, check_due, forms_due, make_due}
+use Rattle.report_forms.specs.Due.{Found, AreInputsFound, check_due, forms_due, make_due}
 use Rattle.file_loading.specs.Failures.{is_fault}
 use Rattle.file_loading.specs.declared.ending.End.{End}
 use Rattle.file_loading.specs.declared.ending.End.TheVariants.{Quiet, Marked, Failed}
@@ -38,13 +38,13 @@ end_printed printed = if printed.marks == 0 then Quiet else Marked
 
 -- how a report may end where this is due: it is printed, or refused as is due, or the files failed,
 -- or memory was wanting
-pub data IsReport (due : Result Printed Failure) (text : List ℕ) (end : End) : Type 0 where
+pub data IsReportEnd (due : Result Printed Failure) (text : List ℕ) (end : End) : Type 0 where
   AllPrinted : (printed : Printed) → due ≡ Ok printed → text ≡ printed.text
-      → end ≡ end_printed printed → IsReport due text end
+      → end ≡ end_printed printed → IsReportEnd due text end
   Refused : (failure : Failure) → is_fault failure ≡ true → due ≡ Err failure → end ≡ Failed failure
-      → IsReport due text end
-  FilesFailed : end ≡ Failed (Load FailedLoad) → IsReport due text end
-  Wanting : end ≡ Failed NoMemory → AreFirstLines (lines_before due) text → IsReport due text end
+      → IsReportEnd due text end
+  FilesFailed : end ≡ Failed (Load FailedLoad) → IsReportEnd due text end
+  Wanting : end ≡ Failed NoMemory → AreFirstLines (lines_before due) text → IsReportEnd due text end
 
 -- all of a report is printed, or memory was wanting
 pub data IsWholeReport (printed : Printed) (text : List ℕ) (end : End) : Type 0 where
@@ -60,7 +60,7 @@ report_form names_files may_be_due = record {
   reads_input = false;
   opens_desk = false;
   answers = λ met text end. (due : Result Printed Failure) × may_be_due met due
-      × IsReport due text end;
+      × IsReportEnd due text end;
   whole = λ met text end. (printed : Printed)
       → ((due : Result Printed Failure) → may_be_due met due → due ≡ Ok printed)
       → met.files_after ≡ met.files_before → IsWholeReport printed text end;
@@ -70,7 +70,7 @@ report_form names_files may_be_due = record {
 abbrev pub check_form : CheckedFiles → Form
 check_form names =
     report_form true
-    (λ met due. (found : Found) × IsFound met.folder names found × (due ≡ check_due found))
+    (λ met due. (found : Found) × AreInputsFound met.folder names found × (due ≡ check_due found))
 
 -- `make START SIZE`
 abbrev pub make_form : StartAndSize → Form

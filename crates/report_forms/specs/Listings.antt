@@ -18,13 +18,13 @@ abbrev pub form_lines : List (List ℕ) → List ℕ
 form_lines words = flat_map form_line words
 
 -- how many forms there are
-abbrev pub count_line : ℕ → List ℕ
-count_line count = decimal count ++ codes " forms\n"
+abbrev pub form_count_line : ℕ → List ℕ
+form_count_line count = decimal count ++ codes " forms\n"
 
 -- each form, and then how many there are; none is marked
 abbrev pub listing : List (List ℕ) → Printed
 listing words = record {
-  text = form_lines words ++ count_line (length words);
+  text = form_lines words ++ form_count_line (length words);
   marks = 0;
   words = length words;
 }

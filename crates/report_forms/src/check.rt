@@ -2,10 +2,10 @@
 
 ghost use Rattle.std.specs.Prelude.{◌≡◌, true, ◌<◌, ◌≤◌, IsErrOf};
 ghost use Rattle.std.specs.Arc.{arc_value};
-ghost use Rattle.lists.specs.Answers.{GivesDue};
+ghost use Rattle.outside.specs.lists.Answers.{GivesDue};
 ghost use Rattle.document_report.specs.Given.{printed_as, printed_by};
 ghost use Rattle.input_lines.specs.Ends.{Reading};
-ghost use Rattle.report_forms.specs.Due.{Found, IsFound, check_due, printed_due};
+ghost use Rattle.report_forms.specs.Due.{Found, AreInputsFound, check_due, printed_due};
 ghost use Rattle.file_loading.specs.Due.{MayCome};
 ghost use Rattle.file_loading.specs.Ends.{EndsAs};
 ghost use Rattle.report_forms.specs.Forms.{check_form};
@@ -85,7 +85,7 @@ fn outcome_of<R: Threads + Sync, F: Files>(
     files: &mut F,
 ) -> Result<Report, Failure>
     // It is what is due of some files, which are those that are told, where some are.
-    ensures due { (found : Found) × IsFound (F.told files.old) names.entry found
+    ensures due { (found : Found) × AreInputsFound (F.told files.old) names.entry found
         × GivesDue MayCome printed_by (check_due found) result }
     ensures failed { IsErrOf result (Load Failed) → F.faults files.old < F.faults files.new }
     ensures same { F.told files.new ≡ F.told files.old }

@@ -1,8 +1,9 @@
 //! What `forms` is asked for, and what it is to print: the forms of a dictionary.
 
-ghost use Rattle.std.specs.Prelude.{◌≡◌, true, ◌++◌, ◌<◌, ◌≤◌, IfOk, IsErrOf, OnOk, encode_utf8_all};
+ghost use Rattle.std.specs.Prelude.{◌≡◌, true, ◌++◌, ◌<◌, ◌≤◌, IfOk, IsErrOf, OnOk};
+ghost use Rattle.std.specs.Prelude.{encode_utf8_all};
 ghost use Rattle.std.specs.String.{string_bytes};
-ghost use Rattle.lists.specs.Answers.{GivesDue};
+ghost use Rattle.outside.specs.lists.Answers.{GivesDue};
 ghost use Rattle.spell_types.specs.Sanity.{IsSane};
 ghost use Rattle.console_board.specs.Transcripts.{IsThere};
 ghost use Rattle.dictionary_swap.specs.Loads.{DictionaryFiles};
@@ -23,7 +24,7 @@ use affix_strip::Stems;
 use document_report::Report;
 use file_loading::{Failure, load_base};
 use form_lister::{FormsFault, forms};
-use lists::NoMemory;
+use outside::lists::NoMemory;
 use outside::{Files, Sink};
 use spell_types::{Chars, Lexicon};
 use std::alloc::{AllocError, Global};

@@ -1,7 +1,7 @@
 //! What `make` is asked for, and what it is to print.
 
 ghost use Rattle.std.specs.Prelude.{◌≡◌, true, ◌<◌, ◌≤◌, ℕ, Option, Some, IfOk, IsErrOf};
-ghost use Rattle.lists.specs.Answers.{GivesDue};
+ghost use Rattle.outside.specs.lists.Answers.{GivesDue};
 ghost use Rattle.outside.specs.Files.{Folder};
 ghost use Rattle.document_report.specs.Given.{printed_by};
 ghost use Rattle.input_lines.specs.Ends.{Reading};
@@ -18,7 +18,7 @@ use crate::check::report_by;
 use crate::printing::put_outcome;
 use document_report::{Output, Report};
 use file_loading::{DictionaryNames, Failure, load_judge};
-use lists::NoMemory;
+use outside::lists::NoMemory;
 use outside::{Files, Sink, SureFiles};
 use std::alloc::Global;
 use std::marker::Model;

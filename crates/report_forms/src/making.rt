@@ -3,18 +3,18 @@
 ghost use Rattle.std.specs.Prelude.{◌≡◌, ◌<◌, ◌≤◌, ℕ, List, Option, Some, IfOk, IfSome, IsErrOf};
 ghost use Rattle.std.specs.Arc.{arc_value};
 ghost use Rattle.std.specs.Thread.{IsSync};
-ghost use Rattle.lists.specs.Answers.{GivesDue};
+ghost use Rattle.outside.specs.lists.Answers.{GivesDue};
 ghost use Rattle.dictionary_swap.specs.declared.fault.LoadFault.TheVariants.{Failed};
-ghost use Rattle.personal_words.specs.Dictionaries.{IsBase, OwnSeen, in_force};
-ghost use Rattle.file_loading.specs.Due.{IsFileThere, MayCome, bytes_due};
+ghost use Rattle.personal_words.specs.Dictionaries.{IsLoadedBase, OwnSeen, in_force};
+ghost use Rattle.file_loading.specs.Due.{IsFileThere, MayCome, bytes_due_of_file};
 ghost use Rattle.file_loading.specs.declared.failure.Failure.TheVariants.{Load};
 ghost use Rattle.report_forms.specs.declared.limits.TheConstants.{DOCUMENT_LIMIT};
 
 use crate::limits::DOCUMENT_LIMIT;
-use file_loading::{Failure, Parts, Workers, judge_in_threads, judge_made, load_bytes};
+use file_loading::{DictionaryParts, Failure, Workers, judge_in_threads, judge_made, load_bytes};
 use joined_tasks::{Task, perform_both};
-use lists::NoMemory;
 use outside::Files;
+use outside::lists::NoMemory;
 use std::alloc::Global;
 use std::sync::Arc;
 use std::thread::Threads;
@@ -26,16 +26,16 @@ pub type JudgeAndDocument = (Result<Arc<Speller>, NoMemory>, Result<Vec<u8>, Fai
 /// The task of making a dictionary. It has nothing of its own, so that what becomes of all that it
 /// is lent is known where it ends.
 #[derive(Drop)]
-struct Making<'r, 'p, 'j, R> {
+struct MakingTask<'r, 'p, 'j, R> {
     rt: &'r R,
     alloc: Global,
-    parts: &'p mut Option<Parts>,
+    parts: &'p mut Option<DictionaryParts>,
     judge: &'j mut Result<Arc<Speller>, NoMemory>,
 }
 
-impl<R: Threads + Sync> Task for Making<'_, '_, '_, R> {
+impl<R: Threads + Sync> Task for MakingTask<'_, '_, '_, R> {
     ghost IsReady = { λ making.
-        IsSync R.row × IfSome making.parts.now (λ parts. IsBase parts.base) };
+        IsSync R.row × IfSome making.parts.now (λ parts. IsLoadedBase parts.base) };
 
     ghost Does = { λ old new. (old.judge.ghost_name ≡ new.judge.ghost_name)
         × ((parts : OwnSeen) → old.parts.now ≡ Some parts
@@ -64,7 +64,7 @@ impl<F: Files> Task for Loading<'_, '_, '_, F> {
     ghost Does = { λ old new. (old.files.ghost_name ≡ new.files.ghost_name)
         × (old.document.ghost_name ≡ new.document.ghost_name)
         × ((file : Option (List ℕ)) × IsFileThere (F.told old.files.now) old.name.now file
-        × GivesDue MayCome (λ bytes. bytes.items) (bytes_due DOCUMENT_LIMIT file) new.document.now)
+        × GivesDue MayCome (λ bytes. bytes.items) (bytes_due_of_file DOCUMENT_LIMIT file) new.document.now)
         × (IsErrOf new.document.now (Load Failed)
         → F.faults old.files.now < F.faults new.files.now)
         × (F.told new.files.now ≡ F.told old.files.now)
@@ -82,14 +82,14 @@ pub fn make_and_load<R: Threads + Sync, F: Files>(
     rt: &R,
     alloc: Global,
     workers: Workers,
-    parts: Parts,
+    parts: DictionaryParts,
     files: &mut F,
     name: &str,
 ) -> JudgeAndDocument
-    requires { IsBase parts.base }
+    requires { IsLoadedBase parts.base }
     ensures made { IfOk result.0 (λ judge. arc_value judge ≡ in_force parts) }
     ensures due { (file : Option (List ℕ)) × IsFileThere (F.told files.old) name.now file
-        × GivesDue MayCome (λ bytes. bytes.items) (bytes_due DOCUMENT_LIMIT file) result.1 }
+        × GivesDue MayCome (λ bytes. bytes.items) (bytes_due_of_file DOCUMENT_LIMIT file) result.1 }
     ensures failed { IsErrOf result.1 (Load Failed) → F.faults files.old < F.faults files.new }
     ensures same { F.told files.new ≡ F.told files.old }
     ensures count { F.faults files.old ≤ F.faults files.new }
@@ -105,14 +105,14 @@ pub fn make_and_load<R: Threads + Sync, F: Files>(
 fn make_beside<R: Threads + Sync, F: Files>(
     rt: &R,
     alloc: Global,
-    parts: Parts,
+    parts: DictionaryParts,
     files: &mut F,
     name: &str,
 ) -> JudgeAndDocument
-    requires { IsBase parts.base }
+    requires { IsLoadedBase parts.base }
     ensures made { IfOk result.0 (λ judge. arc_value judge ≡ in_force parts) }
     ensures due { (file : Option (List ℕ)) × IsFileThere (F.told files.old) name.now file
-        × GivesDue MayCome (λ bytes. bytes.items) (bytes_due DOCUMENT_LIMIT file) result.1 }
+        × GivesDue MayCome (λ bytes. bytes.items) (bytes_due_of_file DOCUMENT_LIMIT file) result.1 }
     ensures failed { IsErrOf result.1 (Load Failed) → F.faults files.old < F.faults files.new }
     ensures same { F.told files.new ≡ F.told files.old }
     ensures count { F.faults files.old ≤ F.faults files.new }
@@ -120,7 +120,7 @@ fn make_beside<R: Threads + Sync, F: Files>(
     let mut parts = Some(parts);
     let mut judge = Err(NoMemory);
     let mut document = Err(Failure::NoMemory);
-    let mut making = Making {
+    let mut making = MakingTask {
         rt,
         alloc,
         parts: &mut parts,
@@ -139,7 +139,7 @@ fn make_beside<R: Threads + Sync, F: Files>(
 /// The bytes of a document.
 fn load_document<F: Files>(alloc: Global, files: &mut F, name: &str) -> Result<Vec<u8>, Failure>
     ensures due { (file : Option (List ℕ)) × IsFileThere (F.told files.old) name.now file
-        × GivesDue MayCome (λ bytes. bytes.items) (bytes_due DOCUMENT_LIMIT file) result }
+        × GivesDue MayCome (λ bytes. bytes.items) (bytes_due_of_file DOCUMENT_LIMIT file) result }
     ensures failed { IsErrOf result (Load Failed) → F.faults files.old < F.faults files.new }
     ensures same { F.told files.new ≡ F.told files.old }
     ensures count { F.faults files.old ≤ F.faults files.new }

@@ -52,8 +52,8 @@ unfoldable pub is_alone_in_case : Case → Lexicon → Derivation → Bool
 is_alone_in_case case lexicon d = is_alone lexicon d && allows_case case lexicon d
 
 -- of what a spelling is asked as a compound where a word is written so
-abbrev pub asked_for : Lexicon → List ℕ → List ℕ → Asked
-asked_for lexicon written spelling = record {
+abbrev pub compound_question : Lexicon → List ℕ → List ℕ → Asked
+compound_question lexicon written spelling = record {
   lexicon = lexicon;
   by_case = not (is_same_word spelling written);
   capital = begins_upper written;
@@ -66,7 +66,7 @@ is_right_spelling lexicon written spelling =
     not (is_barred lexicon spelling)
     && (is_derived (is_alone_in_case (case_of lexicon.affixes.options.sharps written spelling))
     lexicon spelling
-    || is_compound (asked_for lexicon written spelling) spelling)
+    || is_compound (compound_question lexicon written spelling) spelling)
 
 -- A word is accepted as it is written if it is no forbidden word and covers a right spelling.
 unfoldable pub is_base : Lexicon → List ℕ → Bool

@@ -10,16 +10,16 @@ abbrev pub is_one_of : List ℕ → ℕ → Bool
 is_one_of some c = list_any (λ other. other == c) some
 
 -- whether the piece accepts the character
-abbrev pub accepts : Piece → ℕ → Bool
-accepts Any c = true
-accepts (One only) c = only == c
-accepts (Among some) c = is_one_of some c
-accepts (NotAmong some) c = not (is_one_of some c)
+abbrev pub accepts_character : Piece → ℕ → Bool
+accepts_character Any c = true
+accepts_character (One only) c = only == c
+accepts_character (Among some) c = is_one_of some c
+accepts_character (NotAmong some) c = not (is_one_of some c)
 
 -- whether the text has as many characters as the condition has pieces, and each piece accepts its
 -- character
 abbrev pub accepts_each : List Piece → List ℕ → Bool
-accepts_each condition text = pointwise accepts condition text
+accepts_each condition text = pointwise accepts_character condition text
 
 -- Whether the condition fits the front of the word: its first characters, as many as the condition
 -- has pieces. No condition fits a word that is shorter, and the empty condition fits each word.

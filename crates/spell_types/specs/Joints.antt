@@ -15,11 +15,11 @@ use Rattle.spell_types.specs.EntriesOf.{is_entry_word}
 use Rattle.spell_types.specs.Licences.{has_entry_with}
 
 -- the first character of a word, if it has one, and the last
-abbrev pub first_of : List ℕ → Option ℕ
-first_of word = slice_get word 0
+abbrev pub first_character_of : List ℕ → Option ℕ
+first_character_of word = slice_get word 0
 
-abbrev pub last_of : List ℕ → Option ℕ
-last_of word = slice_get word (length word - 1)
+abbrev pub last_character_of : List ℕ → Option ℕ
+last_character_of word = slice_get word (length word - 1)
 
 -- The left part is the right one.
 abbrev pub is_doubled : List ℕ → List ℕ → Bool
@@ -35,8 +35,8 @@ is_dash c = option_map_or (λ c. c == 45) c false
 -- dash.
 abbrev pub is_capital_inside : List ℕ → List ℕ → Bool
 is_capital_inside x y =
-    (is_capital (last_of x) || is_capital (first_of y))
-    && (not (is_dash (last_of x)) && not (is_dash (first_of y)))
+    (is_capital (last_character_of x) || is_capital (first_character_of y))
+    && (not (is_dash (last_character_of x)) && not (is_dash (first_character_of y)))
 
 -- A character stands three times in a row: twice at the end of the left part and at the front of
 -- the right one, or at the end of the left part and twice at the front of the right one.

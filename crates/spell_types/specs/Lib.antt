@@ -22,3 +22,4 @@ pub mod Replacements
 pub mod Rows
 pub mod Sanity
 pub mod Yields
+pub use Rattle.lists.specs as lists

@@ -1,7 +1,8 @@
 //! Attaching affix rules to words, and the conditions of rules.
 
 ghost use Rattle.std.specs.Prelude.{◌≡◌, ◌≤◌, ◌++◌, length, IfOk, IsTrue};
-ghost use Rattle.spell_types.specs.Conditions.{is_one_of, accepts, accepts_each, fits_front};
+ghost use Rattle.spell_types.specs.Conditions.{is_one_of, accepts_character, accepts_each};
+ghost use Rattle.spell_types.specs.Conditions.{fits_front};
 ghost use Rattle.spell_types.specs.Conditions.{fits_back};
 ghost use Rattle.spell_types.specs.Attaching.{may_strip, takes_suffix, takes_prefix};
 ghost use Rattle.spell_types.specs.Attaching.{attached_suffix, attached_prefix, attached};
@@ -126,7 +127,7 @@ fn accepts_each(pieces: &[Piece], text: &[char]) -> bool
 
 /// Whether a piece accepts a character.
 fn accepts(piece: &Piece, c: char) -> bool
-    ensures { result ≡ accepts piece.now c }
+    ensures { result ≡ accepts_character piece.now c }
 {
     match piece {
         Piece::Any => true,

@@ -31,14 +31,14 @@ pub enum FlagKind {
 }
 
 /// The flags of a set, which other sets may share. None is the set that takes no memory.
-type Kept = Option<Arc<Vec<Flag>>>;
+type SharedFlags = Option<Arc<Vec<Flag>>>;
 
 /// A set of flags. Contracts see it as the list of its flags, which rises, so that none stands in
 /// it twice. Copies share their memory up to the next `insert` into one of them.
 #[derive(Debug, Drop)]
 pub struct FlagSet {
     alloc: Global,
-    kept: Kept,
+    kept: SharedFlags,
 }
 
 impl Model for FlagSet {
@@ -101,7 +101,7 @@ impl Copied for FlagSet {
     }
 }
 
-fn slice_of(kept: &Kept) -> &[Flag]
+fn slice_of(kept: &SharedFlags) -> &[Flag]
     ensures { result.now ≡ kept_flags kept.now }
 {
     match kept {
@@ -119,7 +119,7 @@ fn put_in_order(flags: &mut Vec<Flag>)
 }
 
 /// What keeps a list of flags.
-fn kept_of(alloc: Global, flags: Vec<Flag>) -> Result<Kept, NoMemory>
+fn kept_of(alloc: Global, flags: Vec<Flag>) -> Result<SharedFlags, NoMemory>
     ensures { IfOk result (λ kept. kept_flags kept ≡ flags.items) }
 {
     if flags.is_empty() {
@@ -129,7 +129,7 @@ fn kept_of(alloc: Global, flags: Vec<Flag>) -> Result<Kept, NoMemory>
 }
 
 /// The same flags, in memory that both have.
-fn share(kept: &Kept) -> Result<Kept, NoMemory>
+fn share(kept: &SharedFlags) -> Result<SharedFlags, NoMemory>
     ensures { IfOk result (λ shared. kept_flags shared ≡ kept_flags kept.now) }
 {
     match kept {
@@ -139,7 +139,12 @@ fn share(kept: &Kept) -> Result<Kept, NoMemory>
 }
 
 /// Puts a flag at a place. Where other sets share the flags this one gets its own.
-fn insert_at(alloc: Global, kept: &mut Kept, place: usize, flag: Flag) -> Result<(), NoMemory>
+fn insert_at(
+    alloc: Global,
+    kept: &mut SharedFlags,
+    place: usize,
+    flag: Flag,
+) -> Result<(), NoMemory>
     requires { place ≤ length (kept_flags kept.old) }
     ensures ok { OnOk result (kept_flags kept.new ≡ insert (kept_flags kept.old) place flag) }
     ensures err { OnErr result (kept_flags kept.new ≡ kept_flags kept.old) }

@@ -31,6 +31,7 @@ pub use licences::{
     has_prefix_without, has_some_with, has_suffix_without, is_entry_word, licensed, sound,
 };
 pub use limits::{MOST_PAIRS, pairs_are_bounded};
+pub use lists;
 use lists::{Copied, Items, NoMemory};
 pub use parts::{Part, Place, compounds_have_parts};
 pub use patterns::{Pattern, PatternStep, Times, patterns_match};

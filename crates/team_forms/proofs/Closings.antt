@@ -11,9 +11,9 @@ use Rattle.std.proofs.lemmas.List.Elements.{All-from_recursion}
 use Rattle.std.proofs.lemmas.List.FromFn.{length-range_with_len}
 use Rattle.std.proofs.lemmas.List.Sorted.{IsPermutation-refl}
 use Rattle.outside.specs.Files.{Folder}
-use Rattle.spell_types.specs.declared.Lexicon.{Lexicon}
-use Rattle.edit_core.specs.Runs.{Run}
-use Rattle.edit_core.specs.Seen.{Seen}
+use Rattle.mark_types.specs.spell_types.declared.Lexicon.{Lexicon}
+use Rattle.board_share.specs.edit_core.Runs.{Run}
+use Rattle.board_share.specs.edit_core.Seen.{Seen}
 use Rattle.board_share.specs.Endings.{HasEventsOf, IsTheirs}
 use Rattle.board_share.specs.Eyes.{EyeSeen, events_in, fresh_eye}
 use Rattle.console_lang.specs.declared.command.Command.{Command}
@@ -23,7 +23,7 @@ use Rattle.desk_console.specs.declared.stop.Stop.TheVariants as stop
 use Rattle.team_history.specs.Eyes.{HasHeard, IsAtLastPoint}
 use Rattle.team_history.specs.ToldBy.{AreOf, IsToldBy, Session, session_asks}
 use Rattle.team_forms.specs.Pairs.{IsLoaded}
-use Rattle.team_forms.specs.Seats.{AreBehind, first_stop, fresh_eyes, seats}
+use Rattle.team_forms.specs.Seats.{AreSeatsBehind, first_stop, fresh_eyes, seats}
 use Rattle.team_forms.specs.Sessions.{HasPerformed, MayStop, SessionSeen}
 use Rattle.team_forms.specs.Teamwork.{AreToldBy, IsTeamwork, Script}
 use Rattle.team_forms.specs.declared.pairs.LoadedPair.{LoadedPair}
@@ -156,7 +156,7 @@ none-spent lexicon_of (old ∷ olds) (new ∷ news) performed none point is =
 module _ {J : Type 0} (lexicon_of : J → Lexicon) (pairs : List (LoadedPair J)) (opening : Seen)
     (workers : ℕ) (scripts : List Script) (eyes : List EyeSeen) (texts : List (List ℕ))
     (stopped : Option Stop)
-    (behind : AreBehind lexicon_of
+    (behind : AreSeatsBehind lexicon_of
     (seats pairs scripts (fresh_eyes opening workers (length scripts)))
     (fresh_eyes opening 0 workers) eyes texts stopped) where
   -- with the eye that asked for nothing behind the others

@@ -8,19 +8,19 @@ use Rattle.std.proofs.lemmas.List.Elements.{recursion_from_All}
 use Rattle.std.proofs.lemmas.Option.{same_Some}
 use Rattle.std.proofs.lemmas.Slice.Eq.{bytes_eq-Decides}
 use Rattle.outside.specs.Files.{Folder}
-use Rattle.spell_types.specs.declared.Lexicon.{Lexicon}
+use Rattle.mark_types.specs.spell_types.declared.Lexicon.{Lexicon}
 use Rattle.console_board.specs.Transcripts.{IsThere}
-use Rattle.team_script.specs.Pairs.{is_among, is_same}
+use Rattle.team_script.specs.Pairs.{is_pair_among, is_same}
 use Rattle.std.specs.Arc.{arc_value}
-use Rattle.dictionary_swap.specs.Loads.{lexicon_due}
-use Rattle.dictionary_swap.specs.declared.fault.LoadFault.{LoadFault}
+use Rattle.own_dictionary.specs.dictionary_swap.Loads.{lexicon_due}
+use Rattle.own_dictionary.specs.dictionary_swap.declared.fault.LoadFault.{LoadFault}
 use Rattle.board_share.specs.Eyes.{EyeSeen}
 use Rattle.console_lang.specs.declared.reply.Reply.{Reply}
 use Rattle.team_history.specs.Eyes.{IsLoadedTold, IsPairTold}
 use Rattle.team_history.specs.ToldBy.{Session}
 use Rattle.console_board.specs.OwnConsoles.{fault_reply}
 use Rattle.console_history.specs.Told.{IsLexiconTold}
-use Rattle.team_forms.specs.Pairs.{Holds, IsLoaded, is_named, names_of}
+use Rattle.team_forms.specs.Pairs.{Holds, IsLoaded, has_names, names_of}
 use Rattle.team_forms.specs.declared.pairs.LoadedPair.{LoadedPair}
 
 -- where one of some has a property, the first that has it is found
@@ -51,8 +51,8 @@ found-has P test (first ∷ xs) x found all =
     by false is rest found = rest found
 
 pub is-held : {J : Type 0} (pairs : List (LoadedPair J)) (aff dic : List ℕ)
-    → find (is_named aff dic) pairs ≡ None
-    → is_among (map names_of pairs) (record { aff = aff; dic = dic }) ≡ true → ⊥
+    → find (has_names aff dic) pairs ≡ None
+    → is_pair_among (map names_of pairs) (record { aff = aff; dic = dic }) ≡ true → ⊥
 is-held pairs aff dic none there =
     true≢false (sym there
     ∙ none-any names_of (λ other. is_same other (record { aff = aff; dic = dic })) pairs none)
@@ -60,10 +60,10 @@ is-held pairs aff dic none there =
 -- the pair that is found was loaded, under these names
 pub is-loaded : {J : Type 0} (lexicon_of : J → Lexicon) (folder : Option Folder)
     (pairs : List (LoadedPair J)) (pair : LoadedPair J) (aff dic : List ℕ)
-    → find (is_named aff dic) pairs ≡ Some pair → All (IsLoaded lexicon_of folder) pairs
+    → find (has_names aff dic) pairs ≡ Some pair → All (IsLoaded lexicon_of folder) pairs
     → IsLoaded lexicon_of folder pair × ((pair.aff ≡ aff) × (pair.dic ≡ dic))
 is-loaded lexicon_of folder pairs pair aff dic found all =
-    let has = found-has (IsLoaded lexicon_of folder) (is_named aff dic) pairs pair found
+    let has = found-has (IsLoaded lexicon_of folder) (has_names aff dic) pairs pair found
     (recursion_from_All (IsLoaded lexicon_of folder) pairs all) in
     let names = and_parts (bytes_eq pair.aff aff) (bytes_eq pair.dic dic) has.0 in (
       has.1,
@@ -74,7 +74,7 @@ is-loaded lexicon_of folder pairs pair aff dic found all =
 pub pair-brought : {J : Type 0} (lexicon_of : J → Lexicon) (session : Session)
     (pairs : List (LoadedPair J)) (pair : LoadedPair J) (aff dic : List ℕ)
     {old new : EyeSeen} {reply : Reply}
-    → find (is_named aff dic) pairs ≡ Some pair → All (IsLoaded lexicon_of session.folder) pairs
+    → find (has_names aff dic) pairs ≡ Some pair → All (IsLoaded lexicon_of session.folder) pairs
     → ((due : Result Lexicon LoadFault)
     → Holds (λ held. lexicon_of (arc_value held)) due pair.loaded → IsLoadedTold due old new reply)
     → IsPairTold session aff dic old new reply

@@ -9,19 +9,21 @@ use Rattle.input_lines.specs.Answers.{HasNoBreak}
 use Rattle.team_forms.specs.Pairs.{LoadsHeld}
 use Rattle.std.specs.Option.{option_map}
 use Rattle.std.proofs.lemmas.Grind.{flat_map-append}
-use Rattle.spell_types.specs.declared.Lexicon.{Lexicon}
-use Rattle.edit_core.specs.Seen.{Seen}
+use Rattle.mark_types.specs.spell_types.declared.Lexicon.{Lexicon}
+use Rattle.board_share.specs.edit_core.Seen.{Seen}
 use Rattle.board_share.specs.Eyes.{EyeSeen}
 use Rattle.console_lang.specs.Replies.{reply_text}
 use Rattle.console_lang.specs.declared.command.Command.{Command}
 use Rattle.console_lang.specs.declared.reply.Reply.{Reply}
 use Rattle.input_lines.specs.declared.responder.Flow.TheVariants.{On, Quit}
 use Rattle.console_board.specs.Starts.{asked-nothing}
-use Rattle.console_board.specs.Transcripts.{asked_by, asked_for, before_quit, is_quit, line_says}
+use Rattle.console_board.specs.Transcripts.{commands_asked_by, asked_for, lines_before_quit}
+use Rattle.console_board.specs.Transcripts.{is_quit, line_says}
 use Rattle.console_board.specs.Transcripts.{written_of}
 use Rattle.team_history.specs.Eyes.{HasHeard, IsSaidTo}
 use Rattle.team_history.specs.ToldBy.{Session, session_asks, without_own}
-use Rattle.team_forms.specs.Sessions.{AnswersAll, AnswersLine, IsAnswered, IsOf, line_asks}
+use Rattle.team_forms.specs.Sessions.{AnswersAll, AnswersSessionLine, IsSessionAnswered, IsOf}
+use Rattle.team_forms.specs.Sessions.{line_asks}
 use Rattle.team_forms.specs.declared.pairs.LoadedPair.{LoadedPair}
 
 -- ---- what lines ask for
@@ -29,7 +31,7 @@ pub asks-none : session_asks [] ≡ []
 asks-none = ap (map without_own) asked-nothing
 
 asks-until : (line : List ℕ) (rest : List (List ℕ)) (quits : Bool) → is_quit line ≡ quits
-    → before_quit (line ∷ rest) ≡ cond quits [] (line ∷ before_quit rest)
+    → lines_before_quit (line ∷ rest) ≡ cond quits [] (line ∷ lines_before_quit rest)
 asks-until line rest true is = rw is refl
 asks-until line rest false is = rw is (ap (λ n. take n (line ∷ rest)) (next _))
   where
@@ -39,11 +41,11 @@ asks-until line rest false is = rw is (ap (λ n. take n (line ∷ rest)) (next _
 asks-quit : (line : List ℕ) (rest : List (List ℕ)) → is_quit line ≡ true
     → session_asks (line ∷ rest) ≡ []
 asks-quit line rest is =
-    ap (λ lines. map without_own (asked_by lines)) (asks-until line rest true is) ∙ asks-none
+    ap (λ lines. map without_own (commands_asked_by lines)) (asks-until line rest true is) ∙ asks-none
 
 first-asked : (line : List ℕ) (rest : List (List ℕ))
-    → asked_by (line ∷ rest) ≡ cons_option (asked_for (line_says line)) (asked_by rest)
-unfolding asked_by
+    → commands_asked_by (line ∷ rest) ≡ cons_option (asked_for (line_says line)) (commands_asked_by rest)
+unfolding commands_asked_by
 first-asked line rest = refl
 
 map-cons : {X Y : Type 0} (f : X → Y) (x : Option X) (xs : List X)
@@ -54,9 +56,9 @@ map-cons f (Some x) xs = refl
 asks-on : (line : List ℕ) (rest : List (List ℕ)) → is_quit line ≡ false
     → session_asks (line ∷ rest) ≡ cons_option (line_asks line) (session_asks rest)
 asks-on line rest is =
-    ap (λ lines. map without_own (asked_by lines)) (asks-until line rest false is)
-    ∙ ap (map without_own) (first-asked line (before_quit rest))
-    ∙ map-cons without_own (asked_for (line_says line)) (asked_by (before_quit rest))
+    ap (λ lines. map without_own (commands_asked_by lines)) (asks-until line rest false is)
+    ∙ ap (map without_own) (first-asked line (lines_before_quit rest))
+    ∙ map-cons without_own (asked_for (line_says line)) (commands_asked_by (lines_before_quit rest))
 
 -- ---- one line after another
 
@@ -98,7 +100,7 @@ module _ {J : Type 0} (lexicon_of : J → Lexicon) (pairs : List (LoadedPair J))
       (rest : List (List ℕ)) (asks : Option (Option Command))
       → session_asks (line ∷ rest) ≡ cons_option asks (session_asks rest)
       → AreMidway lexicon_of pairs number lines (line ∷ rest) old here text text_here
-      → IsAnswered lexicon_of pairs number asks here new text_here text_now
+      → IsSessionAnswered lexicon_of pairs number asks here new text_here text_now
       → AreMidway lexicon_of pairs number lines rest old new text text_now
   on-by one_more here new text_here text_now line rest None says so_far answered session opening of
       heard =
@@ -129,7 +131,7 @@ module _ {J : Type 0} (lexicon_of : J → Lexicon) (pairs : List (LoadedPair J))
   pub goes-on : OneMore → (here new : EyeSeen) (text_here text_now : List ℕ) (line : List ℕ)
       (rest : List (List ℕ))
       → AreMidway lexicon_of pairs number lines (line ∷ rest) old here text text_here
-      → AnswersLine lexicon_of pairs number line here new text_here text_now On
+      → AnswersSessionLine lexicon_of pairs number line here new text_here text_now On
       → AreMidway lexicon_of pairs number lines rest old new text text_now
   goes-on one_more here new text_here text_now line rest so_far answered =
       on-by one_more here new text_here text_now line rest (line_asks line)
@@ -158,7 +160,7 @@ module _ {J : Type 0} (lexicon_of : J → Lexicon) (pairs : List (LoadedPair J))
   pub quit-answered : (here new : EyeSeen) (text_here text_now : List ℕ) (line : List ℕ)
       (rest : List (List ℕ))
       → AreMidway lexicon_of pairs number lines (line ∷ rest) old here text text_here
-      → AnswersLine lexicon_of pairs number line here new text_here text_now Quit
+      → AnswersSessionLine lexicon_of pairs number line here new text_here text_now Quit
       → AnswersAll lexicon_of pairs number lines old new text text_now
   quit-answered here new text_here text_now line rest so_far answered =
       subst (λ (eye : EyeSeen). AnswersAll lexicon_of pairs number lines old eye text text_now)

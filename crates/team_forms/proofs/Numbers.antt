@@ -2,9 +2,9 @@
 use Rattle.std.proofs.Common.{◌≡◌, ◌∙◌, refl, ap, ℕ, ◌+◌, List, [], ◌∷◌, length, ◌≤◌, map, Option}
 use Rattle.std.proofs.Common.{None, Some, arith}
 use Rattle.std.specs.List.{AllByRecursion, AllZip, range_with_len}
-use Rattle.spell_types.specs.declared.Lexicon.{Lexicon}
-use Rattle.edit_core.specs.Events.{SeenEvent}
-use Rattle.edit_core.specs.Seen.{Seen}
+use Rattle.mark_types.specs.spell_types.declared.Lexicon.{Lexicon}
+use Rattle.board_share.specs.edit_core.Events.{SeenEvent}
+use Rattle.board_share.specs.edit_core.Seen.{Seen}
 use Rattle.board_share.specs.Eyes.{EyeSeen, events_in, fresh_eye, last_of}
 use Rattle.worker_crew.specs.Crews.{HasWorked}
 use Rattle.console_lang.specs.declared.command.Command.{Command}

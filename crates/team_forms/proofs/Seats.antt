@@ -5,18 +5,18 @@ use Rattle.std.proofs.Common.{length-append, zero-add, subst, arith, Result, Ok,
 use Rattle.std.proofs.Common.{None, Some}
 use Rattle.std.specs.Option.{option_or}
 use Rattle.desk_console.specs.declared.stop.Stop.{Stop}
-use Rattle.spell_types.specs.declared.Lexicon.{Lexicon}
+use Rattle.mark_types.specs.spell_types.declared.Lexicon.{Lexicon}
 use Rattle.std.specs.List.{AllByRecursion, range_with_len}
 use Rattle.std.proofs.lemmas.List.{length-map, map-append, nil_from_length, same_from_push}
 use Rattle.std.proofs.lemmas.List.Elements.{All-from_recursion, recursion_from_All}
 use Rattle.std.proofs.lemmas.List.FromFn.{length-range_with_len, map-range_with_len_more}
 use Rattle.std.proofs.lemmas.List.FromFn.{take-map-range_with_len}
-use Rattle.edit_core.specs.Seen.{Seen}
+use Rattle.board_share.specs.edit_core.Seen.{Seen}
 use Rattle.input_lines.specs.Answers.{HasNoBreak}
 use Rattle.board_share.specs.Eyes.{EyeSeen, fresh_eye}
 use Rattle.team_forms.specs.Pairs.{LoadsHeld}
-use Rattle.team_forms.specs.Seats.{AreBehind, first_stop, fresh_eyes, seat, seats}
-use Rattle.team_forms.specs.Sessions.{IsReady, SessionSeen}
+use Rattle.team_forms.specs.Seats.{AreSeatsBehind, first_stop, fresh_eyes, seat, seats}
+use Rattle.team_forms.specs.Sessions.{IsSessionReady, SessionSeen}
 use Rattle.team_forms.proofs.Ranges.{map-drop, range-drop}
 use Rattle.team_forms.specs.Teamwork.{Script}
 use Rattle.team_forms.specs.declared.pairs.LoadedPair.{LoadedPair}
@@ -106,10 +106,10 @@ pub are-ready : {J : Type 0} (pairs : List (LoadedPair J)) (scripts : List Scrip
     (eyes : List EyeSeen) {sessions : List (SessionSeen J)} → sessions ≡ seats pairs scripts eyes
     → All (λ (script : Script). All HasNoBreak script.lines) scripts
     → All (λ (script : Script). All (LoadsHeld pairs) script.lines) scripts
-    → All (IsReady {J = J}) sessions
+    → All (IsSessionReady {J = J}) sessions
 are-ready {J} pairs scripts eyes is whole held =
-    subst (All (IsReady {J = J})) (sym is)
-    (All-from_recursion (IsReady {J = J}) (seats pairs scripts eyes)
+    subst (All (IsSessionReady {J = J})) (sym is)
+    (All-from_recursion (IsSessionReady {J = J}) (seats pairs scripts eyes)
     (by scripts eyes
     (recursion_from_All (λ (script : Script). All HasNoBreak script.lines) scripts whole)
     (recursion_from_All (λ (script : Script). All (LoadsHeld pairs) script.lines) scripts held)))
@@ -117,7 +117,7 @@ are-ready {J} pairs scripts eyes is whole held =
     by : (scripts : List Script) (eyes : List EyeSeen)
         → AllByRecursion (λ (script : Script). All HasNoBreak script.lines) scripts
         → AllByRecursion (λ (script : Script). All (LoadsHeld pairs) script.lines) scripts
-        → AllByRecursion (IsReady {J = J}) (seats pairs scripts eyes)
+        → AllByRecursion (IsSessionReady {J = J}) (seats pairs scripts eyes)
     by scripts [] whole held = tt
     by [] (eye ∷ eyes) whole held = tt
     by (script ∷ scripts) (eye ∷ eyes) whole held =
@@ -133,14 +133,14 @@ pub behind-seats : {J R E : Type 0} (lexicon_of : J → Lexicon) (pairs : List (
     (stop_of : R → Option Stop) (result : Result R E)
     {sessions : List (SessionSeen J)} {taken later crew first : List EyeSeen}
     → sessions ≡ seats pairs scripts taken → taken ≡ later → crew ≡ first
-    → IfOk result (λ r. AreBehind lexicon_of sessions crew (eyes_of r) (texts_of r) (stop_of r))
-    → IfOk result (λ r. AreBehind lexicon_of (seats pairs scripts later) first (eyes_of r)
+    → IfOk result (λ r. AreSeatsBehind lexicon_of sessions crew (eyes_of r) (texts_of r) (stop_of r))
+    → IfOk result (λ r. AreSeatsBehind lexicon_of (seats pairs scripts later) first (eyes_of r)
     (texts_of r) (stop_of r))
 behind-seats lexicon_of pairs scripts eyes_of texts_of stop_of (Ok r) {later = later} {crew = crew}
     are is first_is behind =
-    subst (λ workers. AreBehind lexicon_of (seats pairs scripts later) workers (eyes_of r)
+    subst (λ workers. AreSeatsBehind lexicon_of (seats pairs scripts later) workers (eyes_of r)
     (texts_of r) (stop_of r)) first_is
-    (subst (λ sessions. AreBehind lexicon_of sessions crew (eyes_of r) (texts_of r) (stop_of r))
+    (subst (λ sessions. AreSeatsBehind lexicon_of sessions crew (eyes_of r) (texts_of r) (stop_of r))
     (are ∙ ap (seats pairs scripts) is) behind)
 behind-seats lexicon_of pairs scripts eyes_of texts_of stop_of (Err fault) are is first_is behind =
     tt

@@ -9,22 +9,24 @@ use Rattle.std.specs.Arc.{arc_value}
 use Rattle.std.specs.declared.alloc.Global.{Global}
 use Rattle.std.specs.declared.sync.Arc.{Arc}
 use Rattle.std.specs.List.{All, AllZip, flat_map}
-use Rattle.lists.specs.AnswerLaws.{fails-then}
-use Rattle.lists.specs.Answers.{◌>>=◌, failing, FailsAs}
+use Rattle.outside.specs.lists.AnswerLaws.{fails-then}
+use Rattle.outside.specs.lists.Answers.{◌>>=◌, failing, FailsAs}
 use Rattle.outside.specs.Files.{Folder}
-use Rattle.spell_types.specs.declared.Lexicon.{Lexicon}
-use Rattle.dictionary_swap.specs.Loads.{DictionaryFiles, MayCome as LoadMayCome, found_in}
-use Rattle.dictionary_swap.specs.Loads.{lexicon_due}
-use Rattle.dictionary_swap.specs.declared.fault.LoadFault.{LoadFault}
-use Rattle.dictionary_swap.specs.declared.fault.LoadFault.TheVariants.{Failed as FailedLoad}
-use Rattle.dictionary_swap.specs.declared.fault.LoadFault.TheVariants.{Missing, TooLong, Aff, Dic}
-use Rattle.dictionary_swap.specs.declared.fault.LoadFault.TheVariants.{NoMemory as LoadWanting}
-use Rattle.edit_core.specs.Runs.{Run}
-use Rattle.edit_core.specs.Seen.{opening_of}
+use Rattle.mark_types.specs.spell_types.declared.Lexicon.{Lexicon}
+use Rattle.own_dictionary.specs.dictionary_swap.Loads.{DictionaryFiles, MayComeOfLoads, found_in}
+use Rattle.own_dictionary.specs.dictionary_swap.Loads.{lexicon_due}
+use Rattle.own_dictionary.specs.dictionary_swap.declared.fault.LoadFault.{LoadFault}
+use Rattle.own_dictionary.specs.dictionary_swap.declared.fault.LoadFault.TheVariants.{Failed as FailedLoad}
+use Rattle.own_dictionary.specs.dictionary_swap.declared.fault.LoadFault.TheVariants.{Missing}
+use Rattle.own_dictionary.specs.dictionary_swap.declared.fault.LoadFault.TheVariants.{TooLong, Aff}
+use Rattle.own_dictionary.specs.dictionary_swap.declared.fault.LoadFault.TheVariants.{Dic}
+use Rattle.own_dictionary.specs.dictionary_swap.declared.fault.LoadFault.TheVariants.{NoMemory as LoadWanting}
+use Rattle.board_share.specs.edit_core.Runs.{Run}
+use Rattle.board_share.specs.edit_core.Seen.{opening_of}
 use Rattle.board_share.specs.Eyes.{last_of}
 use Rattle.console_board.specs.Transcripts.{IsThere}
-use Rattle.team_script.specs.Due.{MayCome as ScriptMayCome, script_due}
-use Rattle.team_script.specs.Told.{Told}
+use Rattle.team_script.specs.Due.{MayComeOfScripts, script_due}
+use Rattle.team_script.specs.Told.{ScriptTold}
 use Rattle.team_script.specs.declared.fault.ScriptFault.{ScriptFault}
 use Rattle.team_script.specs.declared.fault.ScriptFault.TheVariants.{Bad, LongLine, ManyPairs}
 use Rattle.team_script.specs.declared.fault.ScriptFault.TheVariants.{NoMemory as ScriptWanting}
@@ -32,7 +34,7 @@ use Rattle.team_script.specs.declared.pairs.Pair.{Pair}
 use Rattle.team_forms.specs.Pairs.{Holds, IsLoaded, names_of}
 use Rattle.team_forms.specs.Teamwork.{IsTeamwork, Script, scripts_in, total_line}
 use Rattle.team_forms.specs.declared.pairs.LoadedPair.{LoadedPair}
-use Rattle.file_loading.specs.Due.{IsFileThere, MayCome, base_due, bytes_due}
+use Rattle.file_loading.specs.Due.{IsFileThere, MayCome, base_due, bytes_due_of_file}
 use Rattle.team_forms.specs.Teams.{script_failure, ArePairs, AreTeamFiles, IsTeamPrinted, TeamFiles}
 use Rattle.team_forms.specs.Teams.{TeamSeen, or_else, pair_failure, pairs_failure, pairs_found_in}
 use Rattle.team_forms.specs.Teams.{read_due, team_due, team_found_in}
@@ -48,12 +50,12 @@ use Rattle.file_loading.specs.declared.failure.Failure.{Failure}
 use Rattle.file_loading.specs.declared.failure.Failure.TheVariants.{Load, NoMemory}
 use Rattle.file_loading.specs.DueLaws.{IsOfNeither, IsTold, any-file, base-told, bytes-told}
 use Rattle.file_loading.specs.DueLaws.{comes-as, neither-caused, told-neither}
-use Rattle.dictionary_swap.specs.declared.limits.TheConstants.{SIZE_LIMIT}
+use Rattle.own_dictionary.specs.dictionary_swap.declared.limits.TheConstants.{SIZE_LIMIT}
 
 -- ---- a script
 
 -- what may come at any time
-pub script-comes : (fault : ScriptFault) → ScriptMayCome fault → MayCome (script_failure fault)
+pub script-comes : (fault : ScriptFault) → MayComeOfScripts fault → MayCome (script_failure fault)
 script-comes ScriptWanting comes = tt
 script-comes _ comes = absurd comes
 
@@ -86,7 +88,7 @@ module _ (told : Option Folder) (aff dic : List ℕ) where
   -- a fault in a line
   pub fault-held : (fault : LoadFault) → ending_of fault ≡ None
       → (there : DictionaryFiles) × IsThere told aff dic there
-      × FailsAs LoadMayCome (lexicon_due there) fault
+      × FailsAs MayComeOfLoads (lexicon_due there) fault
       → IsHeld told aff dic (Err fault)
   fault-held (Aff line why) goes_on (there, is, inl comes) = absurd comes
   fault-held (Aff line why) goes_on (there, is, inr due) = record {
@@ -107,7 +109,7 @@ module _ (told : Option Folder) (aff dic : List ℕ) where
   -- any other fault ends the call
   pub fault-ends : (fault : LoadFault) {failure : Failure} → ending_of fault ≡ Some failure
       → (there : DictionaryFiles) × IsThere told aff dic there
-      × FailsAs LoadMayCome (lexicon_due there) fault
+      × FailsAs MayComeOfLoads (lexicon_due there) fault
       → IsNotHeld told aff dic failure
   fault-ends (Aff line why) ends some = absurd (cc)
   fault-ends (Dic line why) ends some = absurd (cc)
@@ -259,7 +261,7 @@ BaseIs told names holds = (there : DictionaryFiles)
     × IsThere told names.aff names.dic there × holds (base_due there)
 
 -- and of a script
-abbrev pub ScriptIs : Option Folder → TeamNamed → (Result Told Failure → Type 0) → Type 0
+abbrev pub ScriptIs : Option Folder → TeamNamed → (Result ScriptTold Failure → Type 0) → Type 0
 ScriptIs told names holds = (file : Option (List ℕ))
     × IsFileThere told names.script file × holds (read_due file)
 
@@ -294,7 +296,7 @@ module _ (told : Option Folder) (names : TeamNamed) where
       (fails-then MayCome _ fails))
 
   -- both are due
-  pub team-is-due : {lexicon : Lexicon} {script : Told}
+  pub team-is-due : {lexicon : Lexicon} {script : ScriptTold}
       (base : BaseIs told names (λ due. due ≡ Ok lexicon))
       (read : ScriptIs told names (λ due. due ≡ Ok script))
       → team_due (record { dictionary = base.0; script = read.0 })
@@ -304,14 +306,14 @@ module _ (told : Option Folder) (names : TeamNamed) where
       ap (λ due. due >>= and_script read.0) base.2
       ∙ ap (λ due. due >>= (λ script. Ok (record { lexicon = lexicon; script = script }))) read.2
 
-  team-there : {lexicon : Lexicon} {script : Told}
+  team-there : {lexicon : Lexicon} {script : ScriptTold}
       (base : BaseIs told names (λ due. due ≡ Ok lexicon))
       (read : ScriptIs told names (λ due. due ≡ Ok script))
       → AreTeamFiles told names (record { dictionary = base.0; script = read.0 })
   team-there base read = record { dictionary = base.1; script = read.1 }
 
   -- a pair of its script is not loaded
-  pub team-no-pair : {lexicon : Lexicon} {script : Told} {failure : Failure}
+  pub team-no-pair : {lexicon : Lexicon} {script : ScriptTold} {failure : Failure}
       → BaseIs told names (λ due. due ≡ Ok lexicon)
       → ScriptIs told names (λ due. due ≡ Ok script)
       → AreNotLoaded told script.pairs failure → IsNotLoaded told names failure
@@ -321,7 +323,7 @@ module _ (told : Option Folder) (names : TeamNamed) where
       (team-is-due base read) are ends
 
   -- all of it is
-  pub team-loaded : {lexicon : Lexicon} {script : Told} {loaded : List (LoadedPair Lexicon)}
+  pub team-loaded : {lexicon : Lexicon} {script : ScriptTold} {loaded : List (LoadedPair Lexicon)}
       → BaseIs told names (λ due. due ≡ Ok lexicon)
       → ScriptIs told names (λ due. due ≡ Ok script)
       → AreLoaded told script.pairs loaded
@@ -397,7 +399,8 @@ then-neither : {A B : Type 0} (due : Result A Failure) (next : A → Result B Fa
 then-neither (Ok given) next neither later = later given
 then-neither (Err failure) next neither later = neither
 
-script-neither : (due : Result Told ScriptFault) → IfErr (failing script_failure due) IsOfNeither
+script-neither : (due : Result ScriptTold ScriptFault)
+    → IfErr (failing script_failure due) IsOfNeither
 script-neither (Ok script) = tt
 script-neither (Err (Bad line)) = tt
 script-neither (Err LongLine) = tt
@@ -407,8 +410,8 @@ script-neither (Err ScriptWanting) = tt
 read-neither : (file : Option (List ℕ)) → IfErr (read_due file) IsOfNeither
 unfolding read_due
 read-neither file =
-    then-neither (bytes_due SIZE_LIMIT file) _
-    (IfErr-weaker (bytes_due SIZE_LIMIT file) IsTold IsOfNeither told-neither
+    then-neither (bytes_due_of_file SIZE_LIMIT file) _
+    (IfErr-weaker (bytes_due_of_file SIZE_LIMIT file) IsTold IsOfNeither told-neither
     (bytes-told SIZE_LIMIT file)) (λ bytes. script-neither (script_due bytes))
 
 team-neither : (files : TeamFiles) → IfErr (team_due files) IsOfNeither

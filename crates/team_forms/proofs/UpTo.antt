@@ -7,7 +7,7 @@ use Rattle.std.proofs.lemmas.List.Elements.{All-append, All-from_recursion}
 use Rattle.team_forms.proofs.Ranges.{range-append}
 use Rattle.team_script.specs.Lines.{HasNoBreak, is_of, texts_of}
 use Rattle.team_script.specs.Pairs.{LoadsAmong}
-use Rattle.team_script.specs.Told.{Told}
+use Rattle.team_script.specs.Told.{ScriptTold}
 use Rattle.team_script.specs.declared.line.SessionLine.{SessionLine}
 use Rattle.team_forms.specs.Teamwork.{Script}
 
@@ -18,14 +18,14 @@ scripts_among lines numbers =
     (filter (λ session. list_any (is_of session) lines) numbers)
 
 -- the scripts of the first so many numbers
-pub record AreUpTo (script : Told) (count : ℕ) (scripts : List Script) : Type 0 where
+pub record AreUpTo (script : ScriptTold) (count : ℕ) (scripts : List Script) : Type 0 where
   pub scripts_are : scripts ≡ scripts_among script.lines (range_with_len 1 count)
   pub few : length scripts ≤ count
   pub short : All (λ (one : Script). length one.lines ≤ length script.lines) scripts
   pub whole : All (λ (one : Script). All HasNoBreak one.lines) scripts
   pub named : All (λ (one : Script). All (LoadsAmong script.pairs) one.lines) scripts
 
-pub none-yet : (script : Told) → AreUpTo script 0 []
+pub none-yet : (script : ScriptTold) → AreUpTo script 0 []
 none-yet script = record {
   scripts_are = refl;
   few = omega arith;
@@ -60,7 +60,7 @@ among-more lines count =
     (filter (λ session. list_any (is_of session) lines) ((1 + count) ∷ []))
 
 -- a session that is not there
-pub passed-over : (script : Told) (count : ℕ) (scripts : List Script)
+pub passed-over : (script : ScriptTold) (count : ℕ) (scripts : List Script)
     → list_any (is_of (count + 1)) script.lines ≡ false → AreUpTo script count scripts
     → AreUpTo script (count + 1) scripts
 passed-over script count scripts absent are = record {
@@ -105,7 +105,7 @@ texts-few session lines =
         by false few = omega (arith, few)
 
 -- a session that is there
-pub one-more : (script : Told) (count : ℕ) (scripts : List Script) (texts : List (List ℕ))
+pub one-more : (script : ScriptTold) (count : ℕ) (scripts : List Script) (texts : List (List ℕ))
     → list_any (is_of (count + 1)) script.lines ≡ true
     → texts ≡ texts_of (count + 1) script.lines → All HasNoBreak texts
     → All (LoadsAmong script.pairs) texts → AreUpTo script count scripts
@@ -143,7 +143,8 @@ one-more script count scripts texts there are_texts whole named are =
     swap n = omega arith
 
 -- all numbers
-pub up-to-all : {script : Told} {count : ℕ} {scripts : List Script} → AreUpTo script count scripts
+pub up-to-all : {script : ScriptTold} {count : ℕ} {scripts : List Script}
+    → AreUpTo script count scripts
     → 16 ≤ count → count ≤ 16 → AreUpTo script 16 scripts
 up-to-all {script} {count} {scripts} are least most =
     subst (λ n. AreUpTo script n scripts) (same count least most) are

@@ -1,8 +1,8 @@
 -- What there is to say of the words that ask for sessions at once.
 use Rattle.std.specs.Prelude.{◌≡◌, ℕ, true, false, List, [], Some, None, Ok, Err}
 use Rattle.outside.specs.Files.{Folder}
-use Rattle.dictionary_swap.specs.Loads.{DictionaryFiles}
-use Rattle.dictionary_swap.specs.declared.fault.LoadFault.TheVariants.{Failed as FailedLoad}
+use Rattle.own_dictionary.specs.dictionary_swap.Loads.{DictionaryFiles}
+use Rattle.own_dictionary.specs.dictionary_swap.declared.fault.LoadFault.TheVariants.{Failed as FailedLoad}
 use Rattle.team_forms.specs.Operands.{TeamNamed}
 use Rattle.team_forms.specs.Teams.{ArePairs, AreTeamFiles, IsTeamPrinted, TeamFiles, TeamSeen}
 use Rattle.team_forms.specs.Teams.{pairs_failure, pairs_found_in, team_due, team_found_in}

@@ -2,9 +2,9 @@
 use Rattle.std.specs.Prelude.{◌≡◌, ℕ, Bool, List, map, Option, Result, Ok, Err}
 use Rattle.std.specs.Arc.{arc_value}
 use Rattle.outside.specs.Files.{Folder}
-use Rattle.spell_types.specs.declared.Lexicon.{Lexicon}
-use Rattle.dictionary_swap.specs.Loads.{DictionaryFiles, lexicon_due}
-use Rattle.dictionary_swap.specs.declared.fault.LoadFault.{LoadFault}
+use Rattle.mark_types.specs.spell_types.declared.Lexicon.{Lexicon}
+use Rattle.own_dictionary.specs.dictionary_swap.Loads.{DictionaryFiles, lexicon_due}
+use Rattle.own_dictionary.specs.dictionary_swap.declared.fault.LoadFault.{LoadFault}
 use Rattle.console_board.specs.Transcripts.{IsThere}
 use Rattle.team_script.specs.Pairs.{LoadsAmong, is_same}
 use Rattle.team_script.specs.declared.pairs.Pair.{Pair}
@@ -30,8 +30,8 @@ abbrev pub names_of : {J : Type 0} → LoadedPair J → Pair
 names_of pair = record { aff = pair.aff; dic = pair.dic }
 
 -- whether these are its names
-abbrev pub is_named : {J : Type 0} → List ℕ → List ℕ → LoadedPair J → Bool
-is_named aff dic pair = is_same (names_of pair) (record { aff = aff; dic = dic })
+abbrev pub has_names : {J : Type 0} → List ℕ → List ℕ → LoadedPair J → Bool
+has_names aff dic pair = is_same (names_of pair) (record { aff = aff; dic = dic })
 
 -- if a line loads a pair, it is among these
 abbrev pub LoadsHeld : {J : Type 0} → List (LoadedPair J) → List ℕ → Type 0

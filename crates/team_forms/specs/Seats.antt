@@ -2,8 +2,8 @@
 use Rattle.std.specs.Prelude.{◌≡◌, ℕ, List, [], ◌∷◌, ◌++◌, map, Option, None}
 use Rattle.std.specs.List.{AllZip, range_with_len}
 use Rattle.std.specs.Option.{option_or}
-use Rattle.spell_types.specs.declared.Lexicon.{Lexicon}
-use Rattle.edit_core.specs.Seen.{Seen}
+use Rattle.mark_types.specs.spell_types.declared.Lexicon.{Lexicon}
+use Rattle.board_share.specs.edit_core.Seen.{Seen}
 use Rattle.board_share.specs.Eyes.{EyeSeen, fresh_eye}
 use Rattle.worker_crew.specs.Crews.{HasWorked}
 use Rattle.desk_console.specs.declared.stop.Stop.{Stop}
@@ -40,7 +40,7 @@ first_stop (session ∷ sessions) = option_or session.stopped (first_stop sessio
 
 -- the eyes of the workers and then those of the sessions, which have performed; what is to be
 -- printed of these; and why the first was stopped of those that were
-pub record AreBehind {J : Type 0} (lexicon_of : J → Lexicon) (olds : List (SessionSeen J))
+pub record AreSeatsBehind {J : Type 0} (lexicon_of : J → Lexicon) (olds : List (SessionSeen J))
     (workers eyes : List EyeSeen) (texts : List (List ℕ)) (stopped : Option Stop) : Type 0 where
   pub others : List EyeSeen
   pub worked : AllZip HasWorked workers others

@@ -2,8 +2,8 @@
 use Rattle.std.specs.Prelude.{◌≡◌, ℕ, true, false, List, [], ◌∷◌, ◌++◌, length, All, Option, None}
 use Rattle.std.specs.Prelude.{Some, IfSome}
 use Rattle.std.specs.Option.{option_map}
-use Rattle.spell_types.specs.declared.Lexicon.{Lexicon}
-use Rattle.edit_core.specs.Seen.{Seen}
+use Rattle.mark_types.specs.spell_types.declared.Lexicon.{Lexicon}
+use Rattle.board_share.specs.edit_core.Seen.{Seen}
 use Rattle.board_share.specs.Eyes.{EyeSeen}
 use Rattle.console_lang.specs.declared.command.Command.{Command}
 use Rattle.console_lang.specs.declared.reply.Reply.{Reply}
@@ -38,7 +38,7 @@ pub record IsOf {J : Type 0} (lexicon_of : J → Lexicon) (pairs : List (LoadedP
   pub loaded : All (IsLoaded lexicon_of session.folder) pairs
 
 -- what is asked for was replied to, and the reply was added to a text
-pub record IsReplied {J : Type 0} (lexicon_of : J → Lexicon) (pairs : List (LoadedPair J))
+pub record IsSessionReplied {J : Type 0} (lexicon_of : J → Lexicon) (pairs : List (LoadedPair J))
     (number : ℕ) (asked : Option Command) (old new : EyeSeen) (text text_now : List ℕ) : Type
     0 where
   pub reply : Reply
@@ -47,19 +47,20 @@ pub record IsReplied {J : Type 0} (lexicon_of : J → Lexicon) (pairs : List (Lo
   pub text_is : text_now ≡ text ++ written_of (reply ∷ [])
 
 -- nothing is done for a line that asks for nothing
-abbrev pub IsAnswered : {J : Type 0} → (J → Lexicon) → List (LoadedPair J) → ℕ
+abbrev pub IsSessionAnswered : {J : Type 0} → (J → Lexicon) → List (LoadedPair J) → ℕ
     → Option (Option Command) → EyeSeen → EyeSeen → List ℕ → List ℕ → Type 0
-IsAnswered lexicon_of pairs number None old new text text_now = (new ≡ old) × (text_now ≡ text)
-IsAnswered lexicon_of pairs number (Some asked) old new text text_now =
-    IsReplied lexicon_of pairs number asked old new text text_now
+IsSessionAnswered lexicon_of pairs number None old new text text_now = (new ≡ old) × (text_now ≡ text)
+IsSessionAnswered lexicon_of pairs number (Some asked) old new text text_now =
+    IsSessionReplied lexicon_of pairs number asked old new text text_now
 
 -- a line was answered, or it ends the session
-abbrev pub AnswersLine : {J : Type 0} → (J → Lexicon) → List (LoadedPair J) → ℕ → List ℕ → EyeSeen
+abbrev pub AnswersSessionLine : {J : Type 0} → (J → Lexicon) → List (LoadedPair J) → ℕ → List ℕ
+    → EyeSeen
     → EyeSeen → List ℕ → List ℕ → Flow → Type 0
-AnswersLine lexicon_of pairs number line old new text text_now On =
+AnswersSessionLine lexicon_of pairs number line old new text text_now On =
     (is_quit line ≡ false)
-    × IsAnswered lexicon_of pairs number (line_asks line) old new text text_now
-AnswersLine lexicon_of pairs number line old new text text_now Quit =
+    × IsSessionAnswered lexicon_of pairs number (line_asks line) old new text text_now
+AnswersSessionLine lexicon_of pairs number line old new text text_now Quit =
     (is_quit line ≡ true) × ((new ≡ old) × (text_now ≡ text))
 
 -- ---- all lines
@@ -89,7 +90,7 @@ pub record SessionSeen (J : Type 0) : Type 0 where
   pub stopped : Option Stop
 
 -- its lines can be answered: they have no line feeds, and the pairs that they load are there
-pub record IsReady {J : Type 0} (session : SessionSeen J) : Type 0 where
+pub record IsSessionReady {J : Type 0} (session : SessionSeen J) : Type 0 where
   pub whole : All HasNoBreak session.lines
   pub held : All (LoadsHeld session.pairs) session.lines
 

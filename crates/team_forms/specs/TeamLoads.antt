@@ -4,10 +4,10 @@ use Rattle.std.specs.Arc.{arc_value}
 use Rattle.std.specs.declared.alloc.Global.{Global}
 use Rattle.std.specs.declared.sync.Arc.{Arc}
 use Rattle.outside.specs.Files.{Folder}
-use Rattle.spell_types.specs.declared.Lexicon.{Lexicon}
-use Rattle.dictionary_swap.specs.Loads.{DictionaryFiles, lexicon_due}
-use Rattle.dictionary_swap.specs.declared.fault.LoadFault.{LoadFault}
-use Rattle.dictionary_swap.specs.declared.fault.LoadFault.TheVariants.{Aff, Dic}
+use Rattle.mark_types.specs.spell_types.declared.Lexicon.{Lexicon}
+use Rattle.own_dictionary.specs.dictionary_swap.Loads.{DictionaryFiles, lexicon_due}
+use Rattle.own_dictionary.specs.dictionary_swap.declared.fault.LoadFault.{LoadFault}
+use Rattle.own_dictionary.specs.dictionary_swap.declared.fault.LoadFault.TheVariants.{Aff, Dic}
 use Rattle.console_board.specs.Transcripts.{IsThere}
 use Rattle.team_script.specs.declared.pairs.Pair.{Pair}
 use Rattle.team_forms.specs.Pairs.{Holds, IsLoaded, names_of}

@@ -1,8 +1,9 @@
 -- What is due of the files of `team`, and what it prints.
 use Rattle.std.specs.Prelude.{ℕ, List, ◌++◌, ◌≡◌, [], ◌∷◌, map, Option, Some, None, IfSome, Result}
 use Rattle.std.specs.Prelude.{Ok, Err}
-use Rattle.dictionary_swap.specs.declared.fault.LoadFault.{LoadFault}
-use Rattle.dictionary_swap.specs.declared.fault.LoadFault.TheVariants.{Missing, TooLong}
+use Rattle.own_dictionary.specs.dictionary_swap.declared.fault.LoadFault.{LoadFault}
+use Rattle.own_dictionary.specs.dictionary_swap.declared.fault.LoadFault.TheVariants.{Missing}
+use Rattle.own_dictionary.specs.dictionary_swap.declared.fault.LoadFault.TheVariants.{TooLong}
 use Rattle.team_script.specs.declared.fault.ScriptFault.{ScriptFault}
 use Rattle.team_script.specs.declared.fault.ScriptFault.TheVariants.{Bad, LongLine, ManyPairs}
 use Rattle.team_script.specs.declared.fault.ScriptFault.TheVariants.{NoMemory as ScriptWanting}
@@ -11,21 +12,21 @@ use Rattle.team_forms.specs.declared.limits.TheConstants.{MOST_PAIRS}
 use Rattle.file_loading.specs.declared.failure.Failure.{Failure}
 use Rattle.file_loading.specs.declared.failure.Failure.TheVariants.{Load, Limit, NoMemory, Script}
 use Rattle.std.specs.List.{AllZip, flat_map}
-use Rattle.lists.specs.Answers.{◌>>=◌, failing}
+use Rattle.outside.specs.lists.Answers.{◌>>=◌, failing}
 use Rattle.outside.specs.Files.{Folder}
-use Rattle.spell_types.specs.declared.Lexicon.{Lexicon}
-use Rattle.dictionary_swap.specs.Loads.{DictionaryFiles, found_in, lexicon_due}
-use Rattle.edit_core.specs.Runs.{Run}
-use Rattle.edit_core.specs.Seen.{opening_of}
+use Rattle.mark_types.specs.spell_types.declared.Lexicon.{Lexicon}
+use Rattle.own_dictionary.specs.dictionary_swap.Loads.{DictionaryFiles, found_in, lexicon_due}
+use Rattle.board_share.specs.edit_core.Runs.{Run}
+use Rattle.board_share.specs.edit_core.Seen.{opening_of}
 use Rattle.board_share.specs.Eyes.{last_of}
 use Rattle.console_board.specs.Transcripts.{IsThere}
 use Rattle.team_script.specs.Due.{script_due}
-use Rattle.team_script.specs.Told.{Told}
+use Rattle.team_script.specs.Told.{ScriptTold}
 use Rattle.team_script.specs.declared.pairs.Pair.{Pair}
 use Rattle.team_forms.specs.Teamwork.{IsTeamwork, scripts_in, total_line}
-use Rattle.file_loading.specs.Due.{IsFileThere, base_due, bytes_due}
+use Rattle.file_loading.specs.Due.{IsFileThere, base_due, bytes_due_of_file}
 use Rattle.team_forms.specs.Operands.{TeamNamed}
-use Rattle.dictionary_swap.specs.declared.limits.TheConstants.{SIZE_LIMIT}
+use Rattle.own_dictionary.specs.dictionary_swap.declared.limits.TheConstants.{SIZE_LIMIT}
 
 -- why a file is no script
 abbrev pub script_failure : ScriptFault → Failure
@@ -42,12 +43,12 @@ pub record TeamFiles : Type 0 where
 -- what is due of them: the dictionary that the text is opened by, and what the script says
 pub record TeamSeen : Type 0 where
   pub lexicon : Lexicon
-  pub script : Told
+  pub script : ScriptTold
 
 -- what is due of a script
-unfoldable pub read_due : Option (List ℕ) → Result Told Failure
+unfoldable pub read_due : Option (List ℕ) → Result ScriptTold Failure
 read_due file = do
-  bytes ← bytes_due SIZE_LIMIT file
+  bytes ← bytes_due_of_file SIZE_LIMIT file
   failing script_failure (script_due bytes)
 
 -- the dictionary comes first

@@ -3,8 +3,8 @@ use Rattle.std.specs.Prelude.{◌≡◌, ℕ, ◌+◌, List, [], ◌∷◌, ◌+
 use Rattle.std.specs.Fmt.{decimal}
 use Rattle.std.specs.List.{list_any, range_with_len}
 use Rattle.outside.specs.Files.{Folder}
-use Rattle.edit_core.specs.Runs.{IsRun, Run}
-use Rattle.edit_core.specs.Seen.{Seen}
+use Rattle.board_share.specs.edit_core.Runs.{IsRun, Run}
+use Rattle.board_share.specs.edit_core.Seen.{Seen}
 use Rattle.console_lang.specs.declared.reply.Reply.{Reply}
 use Rattle.console_board.specs.Transcripts.{written_of}
 use Rattle.team_history.specs.ToldBy.{AreOf, IsToldBy, session_asks}

@@ -8,10 +8,10 @@ ghost use Rattle.console_board.specs.Transcripts.{HasWholeText};
 ghost use Rattle.input_lines.specs.Answers.{HasNoBreak};
 ghost use Rattle.team_history.specs.Eyes.{AsksAtMost, IsPairTold, IsSaidTo};
 ghost use Rattle.team_history.specs.ToldBy.{Session as SessionOf, without_own};
-ghost use Rattle.team_script.specs.Pairs.{is_among, loads};
+ghost use Rattle.team_script.specs.Pairs.{is_pair_among, loads};
 ghost use Rattle.team_script.specs.declared.pairs.Pair.{Pair};
-ghost use Rattle.team_forms.specs.Pairs.{LoadsHeld, is_named, names_of};
-ghost use Rattle.team_forms.specs.Sessions.{AnswersAll, AnswersLine, IsOf, MayStop};
+ghost use Rattle.team_forms.specs.Pairs.{LoadsHeld, has_names, names_of};
+ghost use Rattle.team_forms.specs.Sessions.{AnswersAll, AnswersSessionLine, IsOf, MayStop};
 
 use crate::pairs::LoadedPair;
 use board_share::Naming;
@@ -64,7 +64,7 @@ fn answer<J: Judge + Drop, D: Naming, W: Wait + Drop, R: Wait>(
     requires held { LoadsHeld pairs.now line.now }
     ensures asks { AsksAtMost 1 console.old.eye console.new.eye }
     ensures cut { IfErr result (MayStop console.new.eye) }
-    ensures answered { IfOk result (AnswersLine J.lexicon pairs.now session line.now
+    ensures answered { IfOk result (AnswersSessionLine J.lexicon pairs.now session line.now
         console.old.eye console.new.eye (string_bytes replies.old) (string_bytes replies.new)) }
 {
     commands_have_whole_texts();
@@ -98,7 +98,7 @@ fn reply_to<J: Judge + Drop, D: Naming, W: Wait + Drop, R: Wait>(
     requires asked { ¬ (command ≡ Command.Quit) }
     requires whole { HasWholeText command }
     requires held { (pair : Pair) → loads command ≡ Some pair
-        → is_among (map names_of pairs.now) pair ≡ true }
+        → is_pair_among (map names_of pairs.now) pair ≡ true }
     ensures asks { AsksAtMost 1 console.old.eye console.new.eye }
     ensures cut { IfErr result (MayStop console.new.eye) }
     ensures said { IfOk result (λ reply. (of : SessionOf) → IsOf J.lexicon pairs.now session of
@@ -121,7 +121,7 @@ fn load<J: Judge + Drop, D: Naming, W: Wait + Drop, R: Wait>(
     pairs: &[LoadedPair<J>],
     console: &mut DeskConsole<'_, J, (), D, W, R>,
 ) -> Result<Reply, Stop>
-    requires held { is_among (map names_of pairs.now) (record { aff = aff.now; dic = dic.now })
+    requires held { is_pair_among (map names_of pairs.now) (record { aff = aff.now; dic = dic.now })
         ≡ true }
     ensures asks { AsksAtMost 1 console.old.eye console.new.eye }
     ensures cut { IfErr result (MayStop console.new.eye) }
@@ -148,7 +148,7 @@ fn pair_named<'p, J: Judge + Drop>(
     aff: &str,
     dic: &str,
 ) -> Option<&'p LoadedPair<J>>
-    ensures { option_copied result ≡ find (is_named aff.now dic.now) pairs.now }
+    ensures { option_copied result ≡ find (has_names aff.now dic.now) pairs.now }
 {
     pairs.iter().find(|pair| pair.is_named(aff, dic))
 }

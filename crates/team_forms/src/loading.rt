@@ -2,21 +2,22 @@
 
 ghost use Rattle.std.specs.Prelude.{◌≡◌, ◌<◌, ◌≤◌, ℕ, List, length, Option, IfOk, IsErrOf};
 ghost use Rattle.std.specs.Arc.{arc_value};
-ghost use Rattle.lists.specs.Answers.{GivesDue, failing};
+ghost use Rattle.outside.specs.lists.Answers.{GivesDue, failing};
 ghost use Rattle.console_board.specs.Transcripts.{IsThere};
-ghost use Rattle.dictionary_swap.specs.Loads.{DictionaryFiles, MayCome as LoadMayCome, lexicon_due};
-ghost use Rattle.dictionary_swap.specs.declared.fault.LoadFault.TheVariants.{Failed};
-ghost use Rattle.dictionary_swap.specs.declared.limits.TheConstants.{SIZE_LIMIT};
+ghost use Rattle.own_dictionary.specs.dictionary_swap.Loads.{DictionaryFiles, MayComeOfLoads};
+ghost use Rattle.own_dictionary.specs.dictionary_swap.Loads.{lexicon_due};
+ghost use Rattle.own_dictionary.specs.dictionary_swap.declared.fault.LoadFault.TheVariants.{Failed};
+ghost use Rattle.own_dictionary.specs.dictionary_swap.declared.limits.TheConstants.{SIZE_LIMIT};
 ghost use Rattle.team_script.specs.Due.{script_due};
 ghost use Rattle.file_loading.specs.Due.{IsFileThere, MayCome, base_due};
 ghost use Rattle.team_forms.specs.Teams.{script_failure, read_due};
 ghost use Rattle.file_loading.specs.declared.failure.Failure.TheVariants.{Load};
 
 use crate::limits::MOST_PAIRS;
-use dictionary_swap::{LoadFault, SIZE_LIMIT};
 use file_loading::{Failure, load_bytes, shared};
 use input_lines::LINE_LIMIT;
 use outside::Files;
+use own_dictionary::dictionary_swap::{LoadFault, SIZE_LIMIT};
 use own_dictionary::load;
 use std::alloc::Global;
 use std::sync::Arc;
@@ -50,7 +51,7 @@ pub fn load_speller<F: Files>(
     dic: &str,
 ) -> Result<Arc<Speller>, LoadFault>
     ensures due { (there : DictionaryFiles) × IsThere (F.told files.old) aff.now dic.now there
-        × GivesDue LoadMayCome (λ judge. arc_value judge) (lexicon_due there) result }
+        × GivesDue MayComeOfLoads (λ judge. arc_value judge) (lexicon_due there) result }
     ensures failed { IsErrOf result Failed → F.faults files.old < F.faults files.new }
     ensures same { F.told files.new ≡ F.told files.old }
     ensures count { F.faults files.old ≤ F.faults files.new }

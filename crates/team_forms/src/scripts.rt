@@ -5,7 +5,7 @@ ghost use Rattle.team_script.specs.Lines.{HasNoBreak};
 ghost use Rattle.team_script.specs.Pairs.{LoadsAmong};
 ghost use Rattle.team_forms.specs.Teamwork.{scripts_in};
 
-use lists::NoMemory;
+use outside::lists::NoMemory;
 use std::alloc::Global;
 use std::marker::Model;
 use team_script::Script;

@@ -2,7 +2,7 @@
 
 ghost use Rattle.std.specs.Prelude.{◌≡◌, IfOk, None, map};
 ghost use Rattle.std.specs.String.{string_bytes};
-ghost use Rattle.team_forms.specs.Sessions.{HasPerformed, IsReady};
+ghost use Rattle.team_forms.specs.Sessions.{HasPerformed, IsSessionReady};
 ghost use Rattle.team_forms.specs.Teamwork.{session_line};
 
 use crate::answering::answer_all;
@@ -12,16 +12,16 @@ use board_share::{Desk, Eye, Naming};
 use check_workers::Bell;
 use desk_console::{DeskConsole, Stop};
 use joined_tasks::Task;
-use lists::NoMemory;
 use mark_types::Judge;
 use outside::Gate;
+use outside::lists::NoMemory;
 use std::alloc::{AllocError, Global};
 use std::marker::Model;
 use std::sync::Wait;
 
 /// A session: a console over an eye of its own, what it is to do, and what is to be printed of it.
 #[derive(Drop)]
-pub(crate) struct Session<
+pub(crate) struct TeamSession<
     'a,
     'p,
     's,
@@ -44,7 +44,7 @@ pub(crate) struct Session<
 }
 
 impl<'a, 'p, 's, 't, J: Judge + Drop, D: Naming, W: Wait + Drop, R: Wait, G: Gate> Model
-    for Session<'a, 'p, 's, 't, J, D, W, R, G> {
+    for TeamSession<'a, 'p, 's, 't, J, D, W, R, G> {
     ghost use Rattle.std.specs.Prelude.{map};
     ghost use Rattle.std.specs.String.{string_bytes};
     ghost use Rattle.team_forms.specs.Sessions.{SessionSeen};
@@ -62,8 +62,8 @@ impl<'a, 'p, 's, 't, J: Judge + Drop, D: Naming, W: Wait + Drop, R: Wait, G: Gat
 }
 
 impl<J: Judge + Drop, D: Naming, W: Wait + Drop, R: Wait, G: Gate> Task
-    for Session<'_, '_, '_, '_, J, D, W, R, G> {
-    ghost IsReady = { IsReady };
+    for TeamSession<'_, '_, '_, '_, J, D, W, R, G> {
+    ghost IsReady = { IsSessionReady };
 
     ghost Does = { HasPerformed J.lexicon };
 
@@ -108,7 +108,7 @@ pub(crate) fn session_of<
     hall: &Hall<'a, 'p, J, D, W, R, G>,
     script: &'s SessionLines<'t>,
     eye: Eye<J, D>,
-) -> Result<Session<'a, 'p, 's, 't, J, D, W, R, G>, NoMemory>
+) -> Result<TeamSession<'a, 'p, 's, 't, J, D, W, R, G>, NoMemory>
     ensures { IfOk result (λ session. session ≡ record {
       number = script.now.session;
       lines = script.now.lines;
@@ -119,7 +119,7 @@ pub(crate) fn session_of<
     }) }
 {
     let text = head_of(hall.alloc, script.session)?;
-    Ok(Session {
+    Ok(TeamSession {
         alloc: hall.alloc,
         gate: hall.gate,
         number: script.session,
@@ -140,7 +140,7 @@ fn head_of(alloc: Global, session: u32) -> Result<String, AllocError>
     Ok(text)
 }
 
-impl<J: Judge + Drop, D: Naming, W: Wait + Drop, R: Wait, G: Gate> Session<
+impl<J: Judge + Drop, D: Naming, W: Wait + Drop, R: Wait, G: Gate> TeamSession<
     '_,
     '_,
     '_,
@@ -157,7 +157,7 @@ impl<J: Judge + Drop, D: Naming, W: Wait + Drop, R: Wait, G: Gate> Session<
         ensures text { string_bytes result.1 ≡ self.entry.text }
         ensures stopped { result.2 ≡ self.entry.stopped }
     {
-        let Session {
+        let TeamSession {
             console,
             text,
             stopped,

@@ -8,9 +8,9 @@ ghost use Rattle.std.specs.List.{flat_map};
 ghost use Rattle.std.specs.String.{string_bytes};
 ghost use Rattle.outside.specs.Files.{Folder};
 ghost use Rattle.outside.specs.Sink.{Appends, AppendsFront};
-ghost use Rattle.dictionary_swap.specs.declared.fault.LoadFault.TheVariants.{Failed as FailedLoad};
-ghost use Rattle.dictionary_swap.specs.declared.limits.TheConstants.{SIZE_LIMIT};
-ghost use Rattle.edit_core.specs.Seen.{opening_of};
+ghost use Rattle.own_dictionary.specs.dictionary_swap.declared.fault.LoadFault.TheVariants.{Failed as FailedLoad};
+ghost use Rattle.own_dictionary.specs.dictionary_swap.declared.limits.TheConstants.{SIZE_LIMIT};
+ghost use Rattle.board_share.specs.edit_core.Seen.{opening_of};
 ghost use Rattle.board_share.specs.Eyes.{last_of};
 ghost use Rattle.input_lines.specs.Ends.{Reading};
 ghost use Rattle.team_forms.specs.Pairs.{IsLoaded, names_of};
@@ -27,18 +27,18 @@ use crate::pairs::LoadedPair;
 use crate::scripts::scripts_of;
 use crate::teamwork::{Teamed, answer_at_once};
 use board_share::Closed;
-use dictionary_swap::LoadFault;
-use edit_core::Versions;
+use board_share::edit_core::Versions;
 use file_loading::{End, Ended, Failure, SINK_FAILED, Workers, put_end};
-use lists::{Copied, NoMemory};
+use outside::lists::{Copied, NoMemory};
 use outside::{Failed, Files, Gate, Sink};
+use own_dictionary::dictionary_swap::LoadFault;
 use std::alloc::{AllocError, Global};
 use std::marker::Model;
 use std::sync::{Arc, Wait};
 use std::thread::Threads;
 use team_script::{Pair, Script};
 use word_verdict::Speller;
-use worker_crew::Place;
+use worker_crew::Workplace;
 
 /// The files that the words `team AFF DIC SCRIPT` name. Contracts see their names.
 #[derive(Drop)]
@@ -63,7 +63,7 @@ impl<'a> Model for TeamNames<'a> {
 /// Runs the sessions of a script at once, while so many workers check beside them. Then it writes
 /// what each was replied, and the versions of the last board.
 pub fn team<R, F, K, G>(
-    place: &Place<'_, R, G>,
+    place: &Workplace<'_, R, G>,
     names: TeamNames<'_>,
     workers: Workers,
     files: &mut F,
@@ -234,7 +234,7 @@ struct Printed {
 
 /// Lets the sessions of a team answer their lines at once, beside so many workers.
 fn perform<R, G>(
-    place: &Place<'_, R, G>,
+    place: &Workplace<'_, R, G>,
     team: &LoadedTeam,
     workers: Workers,
 ) -> Result<Printed, NoMemory>

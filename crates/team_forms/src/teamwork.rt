@@ -5,26 +5,26 @@ ghost use Rattle.std.specs.Prelude.{Some, length, map};
 ghost use Rattle.std.specs.Arc.{arc_value};
 ghost use Rattle.std.specs.String.{string_bytes};
 ghost use Rattle.outside.specs.Files.{Folder};
-ghost use Rattle.edit_core.specs.Seen.{opening_of};
+ghost use Rattle.board_share.specs.edit_core.Seen.{opening_of};
 ghost use Rattle.board_share.specs.Namings.{IsNamed};
 ghost use Rattle.input_lines.specs.Answers.{HasNoBreak};
 ghost use Rattle.team_forms.specs.Pairs.{IsLoaded, LoadsHeld};
 ghost use Rattle.desk_console.specs.declared.stop.Stop.TheVariants.{Spent};
-ghost use Rattle.team_forms.specs.Seats.{AreBehind, first_stop, fresh_eyes, seats};
-ghost use Rattle.team_forms.specs.Sessions.{IsReady};
+ghost use Rattle.team_forms.specs.Seats.{AreSeatsBehind, first_stop, fresh_eyes, seats};
+ghost use Rattle.team_forms.specs.Sessions.{IsSessionReady};
 ghost use Rattle.team_forms.specs.Teamwork.{IsTeamwork};
 
-use crate::closing::Closing;
+use crate::closing::BellTask;
 use crate::pairs::LoadedPair;
 use crate::scripts::SessionLines;
-use crate::session::{Hall, Session, session_of};
+use crate::session::{Hall, TeamSession, session_of};
+use board_share::edit_core::Board;
 use board_share::{Blank, Closed, Desk, Eye, Naming};
 use check_workers::Bell;
 use desk_console::Stop;
-use edit_core::Board;
-use lists::NoMemory;
 use mark_types::Judge;
 use outside::Gate;
+use outside::lists::NoMemory;
 use std::alloc::Global;
 use std::marker::Brand;
 use std::sync::{Arc, Wait};
@@ -33,7 +33,7 @@ use team_history::{
     closed_sessions_are_not_spent, closed_sessions_are_told, heard_sessions_go_on,
     only_sessions_ask,
 };
-use worker_crew::{Crew, Place, Room, crew_of, work_beside_crowd};
+use worker_crew::{Crew, Room, Workplace, crew_of, work_beside_crowd};
 
 /// How many workers and sessions there may be together.
 pub const MOST_AT_ONCE: u64 = 63;
@@ -55,7 +55,7 @@ pub struct Teamed<J: Judge + Drop> {
 /// no thread can be made, they come one after another. The desk is closed at the end. Where memory
 /// for any session is wanting, nothing is told.
 pub fn answer_at_once<J, R, G>(
-    place: &Place<'_, R, G>,
+    place: &Workplace<'_, R, G>,
     workers: u32,
     judge: Arc<J>,
     pairs: &[LoadedPair<J>],
@@ -94,7 +94,7 @@ fn empty_board<J: Judge + Drop>(alloc: Global, judge: Arc<J>) -> Result<Board<J>
 /// Starts a desk of this name with an eye for each worker and each session, and one more, so that
 /// there is a desk where there are none.
 fn answer_named<J, D, R, G>(
-    place: &Place<'_, R, G>,
+    place: &Workplace<'_, R, G>,
     workers: u32,
     opening: Board<J>,
     blank: Blank<J>,
@@ -125,7 +125,7 @@ where
 
 /// Lets the workers and the sessions of a desk work, and closes the desk.
 fn answer_over<J, D, W, R, G>(
-    place: &Place<'_, R, G>,
+    place: &Workplace<'_, R, G>,
     workers: u32,
     desk: Desk<J, D, W>,
     eyes: Vec<Eye<J, D>>,
@@ -198,7 +198,7 @@ struct Answered<J: Judge + Drop, D: Naming> {
 
 /// Lets the workers and the sessions of a desk work: the first eyes are those of the workers.
 fn answer_by<J, D, W, R, G>(
-    place: &Place<'_, R, G>,
+    place: &Workplace<'_, R, G>,
     workers: u32,
     desk: &Desk<J, D, W>,
     eyes: Vec<Eye<J, D>>,
@@ -215,7 +215,7 @@ where
     requires whole { All (λ script. All HasNoBreak script.lines) scripts.now }
     requires held { All (λ script. All (LoadsHeld pairs.now) script.lines) scripts.now }
     requires eyes { eyes.items ≡ fresh_eyes D.opening 0 (workers + length scripts.now) }
-    ensures { IfOk result (λ answered. AreBehind J.lexicon
+    ensures { IfOk result (λ answered. AreSeatsBehind J.lexicon
         (seats pairs.now scripts.now (fresh_eyes D.opening workers (length scripts.now)))
         (fresh_eyes D.opening 0 workers) answered.eyes.items
         (map string_bytes answered.texts.items) answered.stopped) }
@@ -240,7 +240,7 @@ where
         pairs,
     };
     let sessions = sessions_of(&hall, others, scripts)?;
-    let closing = Closing {
+    let closing = BellTask {
         rt: place.rt,
         bell: &bell,
     };
@@ -252,7 +252,7 @@ fn sessions_of<'a, 'p, 's, 't, J, D, W, R, G>(
     hall: &Hall<'a, 'p, J, D, W, R, G>,
     eyes: Vec<Eye<J, D>>,
     scripts: &'s [SessionLines<'t>],
-) -> Result<Vec<Session<'a, 'p, 's, 't, J, D, W, R, G>>, NoMemory>
+) -> Result<Vec<TeamSession<'a, 'p, 's, 't, J, D, W, R, G>>, NoMemory>
 where
     J: Judge + Drop,
     D: Naming,
@@ -277,8 +277,8 @@ where
 fn answer_beside<J, D, W, R, G>(
     alloc: Global,
     crew: Crew<'_, J, D, W, R, G>,
-    closing: Closing<'_, R>,
-    sessions: Vec<Session<'_, '_, '_, '_, J, D, W, R, G>>,
+    closing: BellTask<'_, R>,
+    sessions: Vec<TeamSession<'_, '_, '_, '_, J, D, W, R, G>>,
 ) -> Result<Answered<J, D>, NoMemory>
 where
     J: Judge + Drop + Send + Sync,
@@ -286,8 +286,8 @@ where
     W: Wait + Drop + Send + Sync,
     R: Threads + Wait + Sync,
     G: Gate + Sync,
-    requires { All IsReady sessions.items }
-    ensures { IfOk result (λ answered. AreBehind J.lexicon sessions.entry.items crew.entry
+    requires { All IsSessionReady sessions.items }
+    ensures { IfOk result (λ answered. AreSeatsBehind J.lexicon sessions.entry.items crew.entry
         answered.eyes.items (map string_bytes answered.texts.items) answered.stopped) }
 {
     let mut sessions = sessions;
@@ -301,7 +301,7 @@ where
 fn gather<J: Judge + Drop, D: Naming, W: Wait + Drop, R: Wait, G: Gate>(
     alloc: Global,
     eyes: Vec<Eye<J, D>>,
-    sessions: Vec<Session<'_, '_, '_, '_, J, D, W, R, G>>,
+    sessions: Vec<TeamSession<'_, '_, '_, '_, J, D, W, R, G>>,
 ) -> Result<Answered<J, D>, NoMemory>
     ensures stopped { IfOk result
         (λ answered. answered.stopped ≡ first_stop sessions.entry.items) }

@@ -9,7 +9,7 @@ use Rattle.std.proofs.lemmas.List.FromFn.{get_or-range_with_len, length-range_wi
 use Rattle.std.proofs.lemmas.List.Sorted.{All-permutation, IsPermutation-sym}
 use Rattle.std.proofs.lemmas.List.Sums.{sum_by-cons}
 use Rattle.spell_types.specs.JointLaws.{nat-own}
-use Rattle.edit_core.specs.Runs.{Entry, Run, asked_by, is_quiet}
+use Rattle.board_share.specs.edit_core.Runs.{Entry, Run, events_asked_by, is_quiet}
 use Rattle.board_share.specs.Endings.{HasEventsOf, IsTheirs}
 use Rattle.board_share.specs.Eyes.{EyeSeen, events_in}
 use Rattle.team_history.specs.ToldBy.{AreOf}
@@ -34,7 +34,7 @@ counts-none false false is none = absurd (cc (is))
 -- where each number asks for nothing or is one of these, so is each entry that is asked for
 pub asked-of : (first count bound : ℕ) (entries : List Entry)
     → AllByRecursion (λ entry. entry.by < bound) entries
-    → ((k : ℕ) → k < bound → (asked_by k entries ≡ 0) ⊎ IsOneOf first count k)
+    → ((k : ℕ) → k < bound → (events_asked_by k entries ≡ 0) ⊎ IsOneOf first count k)
     → AreOf first count entries
 asked-of first count bound [] below each = tt
 asked-of first count bound (entry ∷ entries) below each = (
@@ -45,21 +45,21 @@ asked-of first count bound (entry ∷ entries) below each = (
     test : ℕ → Entry → ℕ
     test k e = cond {A = ℕ} (not (is_quiet e.event) && (e.by == k)) 1 0
 
-    sums : (k : ℕ) → asked_by k (entry ∷ entries) ≡ test k entry + asked_by k entries
+    sums : (k : ℕ) → events_asked_by k (entry ∷ entries) ≡ test k entry + events_asked_by k entries
     sums k = sum_by-cons (test k) entry entries
 
-    here : (asked_by entry.by (entry ∷ entries) ≡ 0) ⊎ IsOneOf first count entry.by
+    here : (events_asked_by entry.by (entry ∷ entries) ≡ 0) ⊎ IsOneOf first count entry.by
         → (is_quiet entry.event ≡ true) ⊎ IsOneOf first count entry.by
     here (inl none) =
         inl (counts-none (is_quiet entry.event) (entry.by == entry.by) (nat-own entry.by)
-        (left-none (test entry.by entry) (asked_by entry.by entries)
-        (asked_by entry.by (entry ∷ entries)) (sums entry.by) none))
+        (left-none (test entry.by entry) (events_asked_by entry.by entries)
+        (events_asked_by entry.by (entry ∷ entries)) (sums entry.by) none))
     here (inr one) = inr one
 
-    rest : (k : ℕ) → (asked_by k (entry ∷ entries) ≡ 0) ⊎ IsOneOf first count k
-        → (asked_by k entries ≡ 0) ⊎ IsOneOf first count k
+    rest : (k : ℕ) → (events_asked_by k (entry ∷ entries) ≡ 0) ⊎ IsOneOf first count k
+        → (events_asked_by k entries ≡ 0) ⊎ IsOneOf first count k
     rest k (inl none) =
-        inl (right-none (test k entry) (asked_by k entries) (asked_by k (entry ∷ entries)) (sums k)
+        inl (right-none (test k entry) (events_asked_by k entries) (events_asked_by k (entry ∷ entries)) (sums k)
         none)
     rest k (inr one) = inr one
 
@@ -85,11 +85,11 @@ theirs-asked first count eyes history theirs numbers all =
     let has : All (HasEventsOf history) eyes =
     All-from_recursion (HasEventsOf history) eyes theirs.each in
     asked-of first count (length eyes) history.entries theirs.others
-    (each-number (λ k. (asked_by k history.entries ≡ 0) ⊎ IsOneOf first count k) (length eyes) eyes
+    (each-number (λ k. (events_asked_by k history.entries ≡ 0) ⊎ IsOneOf first count k) (length eyes) eyes
     numbers (λ k d less. one _ (has k d less) (all k d less)))
   where
     one : (eye : EyeSeen) → HasEventsOf history eye
         → (events_in eye.counts ≡ 0) ⊎ IsOneOf first count eye.number
-        → (asked_by eye.number history.entries ≡ 0) ⊎ IsOneOf first count eye.number
+        → (events_asked_by eye.number history.entries ≡ 0) ⊎ IsOneOf first count eye.number
     one eye has (inl none) = inl (has.events ∙ none)
     one eye has (inr is) = inr is

@@ -9,10 +9,11 @@ use Rattle.std.proofs.lemmas.Bool.Decides.{nat_tests}
 use Rattle.std.proofs.lemmas.List.Elements.{All-from_recursion}
 use Rattle.std.proofs.lemmas.List.Sums.{sum_by-cons}
 use Rattle.spell_types.specs.declared.Lexicon.{Lexicon}
-use Rattle.edit_core.specs.Events.{ALoad}
-use Rattle.edit_core.specs.Runs.{Entry, IsRun, Run, asked_by, asked_of, is_quiet, last_board}
-use Rattle.edit_core.specs.Seen.{Seen}
-use Rattle.edit_core.specs.declared.limits.TheConstants.{MOST_MOVED}
+use Rattle.board_share.specs.edit_core.Events.{ALoad}
+use Rattle.board_share.specs.edit_core.Runs.{Entry, IsRun, Run, events_asked_by, asked_of, is_quiet}
+use Rattle.board_share.specs.edit_core.Runs.{last_board}
+use Rattle.board_share.specs.edit_core.Seen.{Seen}
+use Rattle.board_share.specs.edit_core.declared.limits.TheConstants.{MOST_MOVED}
 use Rattle.board_share.specs.Endings.{HasEventsOf, IsTheirs}
 use Rattle.board_share.specs.Eyes.{EyeSeen, events_in, last_of}
 use Rattle.console_lang.specs.declared.command.Command.{Command}
@@ -116,15 +117,15 @@ one-below true by bound = refl
 one-below false by bound = grind (arith, nat_tests)
 
 more-below : (bound : ℕ) (entries : List Entry) → count_by (below (suc bound)) entries
-    ≡ count_by (below bound) entries + asked_by bound entries
+    ≡ count_by (below bound) entries + events_asked_by bound entries
 more-below bound [] = refl
 more-below bound (entry ∷ entries) =
     together (count_by (below (suc bound)) (entry ∷ entries))
-    (count_by (below bound) (entry ∷ entries)) (asked_by bound (entry ∷ entries))
+    (count_by (below bound) (entry ∷ entries)) (events_asked_by bound (entry ∷ entries))
     (cond {A = ℕ} (below (suc bound) entry) 1 0) (cond {A = ℕ} (below bound entry) 1 0)
     (cond {A = ℕ} (through bound entry) 1 0)
     (count_by (below (suc bound)) entries) (count_by (below bound) entries)
-    (asked_by bound entries)
+    (events_asked_by bound entries)
     (sum_by-cons (λ (e : Entry). cond {A = ℕ} (below (suc bound) e) 1 0) entry entries)
     (sum_by-cons (λ (e : Entry). cond {A = ℕ} (below bound e) 1 0) entry entries)
     (sum_by-cons (λ (e : Entry). cond {A = ℕ} (through bound e) 1 0) entry entries)
@@ -136,7 +137,7 @@ more-below bound (entry ∷ entries) =
         omega (arith, one, two, three, here, rest)
 
 pub few-below : (most bound : ℕ) (entries : List Entry)
-    → ((k : ℕ) → k < bound → asked_by k entries ≤ most)
+    → ((k : ℕ) → k < bound → events_asked_by k entries ≤ most)
     → count_by (below bound) entries ≤ bound * most
 few-below most zero entries each = zero-most (none-below entries)
   where
@@ -144,7 +145,7 @@ few-below most zero entries each = zero-most (none-below entries)
     zero-most {n} none = omega (arith, none)
 few-below most (suc bound) entries each =
     together (count_by (below (suc bound)) entries) (count_by (below bound) entries)
-    (asked_by bound entries) (suc bound * most) (bound * most) (more-below bound entries)
+    (events_asked_by bound entries) (suc bound * most) (bound * most) (more-below bound entries)
     (few-below most bound entries (λ k less. each k (omega (arith, less))))
     (each bound (omega arith)) (suc-mul bound most)
   where
@@ -227,9 +228,9 @@ not-spent fronts short less most eyes history theirs numbers empty each few =
     has : All (HasEventsOf history) eyes
     has = All-from_recursion (HasEventsOf history) eyes theirs.each
 
-    through-each : (k : ℕ) → k < length eyes → asked_by k history.entries ≤ most
+    through-each : (k : ℕ) → k < length eyes → events_asked_by k history.entries ≤ most
     through-each =
-        each-number (λ k. asked_by k history.entries ≤ most) (length eyes) eyes numbers
+        each-number (λ k. events_asked_by k history.entries ≤ most) (length eyes) eyes numbers
         (λ k d within. subst (λ n. n ≤ most) (sym (has k d within).events) (each k d within))
 
     all-few : asked_of history.entries ≤ 2 ^ 33

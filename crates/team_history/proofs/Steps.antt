@@ -10,12 +10,13 @@ use Rattle.spell_types.specs.declared.Lexicon.{Lexicon}
 use Rattle.dictionary_swap.specs.Loads.{lexicon_due}
 use Rattle.dictionary_swap.specs.declared.fault.LoadFault.{LoadFault}
 use Rattle.dictionary_swap.specs.declared.fault.LoadFault.TheVariants as load
-use Rattle.edit_core.specs.Events.{SeenEvent, AnEdit, ALoad, AClaim, AFinish, APark, AnAsk, kind_of}
-use Rattle.edit_core.specs.Runs.{Entry, is_quiet, last_board}
-use Rattle.edit_core.specs.Seen.{Seen}
-use Rattle.edit_core.specs.Steps.{first_refusal}
-use Rattle.edit_core.specs.declared.refusal.Refusal.{Refusal}
-use Rattle.edit_core.specs.declared.refusal.Refusal.TheVariants as refusal
+use Rattle.board_share.specs.edit_core.Events.{SeenEvent, AnEdit, ALoad, AClaim, AFinish, APark}
+use Rattle.board_share.specs.edit_core.Events.{AnAsk, kind_of}
+use Rattle.board_share.specs.edit_core.Runs.{Entry, is_quiet, last_board}
+use Rattle.board_share.specs.edit_core.Seen.{Seen}
+use Rattle.board_share.specs.edit_core.Steps.{first_refusal}
+use Rattle.board_share.specs.edit_core.declared.refusal.Refusal.{Refusal}
+use Rattle.board_share.specs.edit_core.declared.refusal.Refusal.TheVariants as refusal
 use Rattle.board_share.specs.Eyes.{EyeSeen, counted, events_in, last_of}
 use Rattle.board_share.specs.declared.counts.Counts.{Counts}
 use Rattle.board_share.specs.declared.told.Told.{Told as ToldOf}

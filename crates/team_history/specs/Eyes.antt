@@ -5,8 +5,8 @@ use Rattle.std.specs.Prelude.{Result, Ok, Err}
 use Rattle.spell_types.specs.declared.Lexicon.{Lexicon}
 use Rattle.dictionary_swap.specs.Loads.{DictionaryFiles, lexicon_due}
 use Rattle.dictionary_swap.specs.declared.fault.LoadFault.{LoadFault}
-use Rattle.edit_core.specs.Runs.{Entry, last_board}
-use Rattle.edit_core.specs.Seen.{Seen}
+use Rattle.board_share.specs.edit_core.Runs.{Entry, last_board}
+use Rattle.board_share.specs.edit_core.Seen.{Seen}
 use Rattle.board_share.specs.Eyes.{EyeSeen, events_in, last_of}
 use Rattle.console_lang.specs.declared.command.Command.{Command}
 use Rattle.console_lang.specs.declared.command.Command.TheVariants.{Load}

@@ -7,11 +7,11 @@ use Rattle.outside.specs.Files.{Folder}
 use Rattle.spell_types.specs.declared.Lexicon.{Lexicon}
 use Rattle.dictionary_swap.specs.Loads.{DictionaryFiles, lexicon_due}
 use Rattle.dictionary_swap.specs.declared.fault.LoadFault.{LoadFault}
-use Rattle.edit_core.specs.Events.{SeenEvent, ALoad}
-use Rattle.edit_core.specs.Runs.{Entry, Run, asked_by as events_by, is_quiet, last_board}
-use Rattle.edit_core.specs.Seen.{Seen}
-use Rattle.edit_core.specs.Steps.{first_refusal}
-use Rattle.edit_core.specs.declared.refusal.Refusal.{Refusal}
+use Rattle.board_share.specs.edit_core.Events.{SeenEvent, ALoad}
+use Rattle.board_share.specs.edit_core.Runs.{Entry, Run, events_asked_by, is_quiet, last_board}
+use Rattle.board_share.specs.edit_core.Seen.{Seen}
+use Rattle.board_share.specs.edit_core.Steps.{first_refusal}
+use Rattle.board_share.specs.edit_core.declared.refusal.Refusal.{Refusal}
 use Rattle.board_share.specs.Settled.{AreClosedIn}
 use Rattle.console_lang.specs.declared.command.Command.{Command}
 use Rattle.console_lang.specs.declared.command.Command.TheVariants.{Load, Own, Show, Settle, Quit}
@@ -19,7 +19,7 @@ use Rattle.console_lang.specs.declared.reply.Reply.{Reply}
 use Rattle.console_lang.specs.declared.reply.Reply.TheVariants.{Done, Dict, NoCommand, NoPlace}
 use Rattle.console_board.specs.BoardAnswers.{PutsWhole, event_for, look_reply, reply_for}
 use Rattle.console_board.specs.OwnConsoles.{fault_reply}
-use Rattle.console_board.specs.Transcripts.{IsThere, asked_by, before_quit}
+use Rattle.console_board.specs.Transcripts.{IsThere, commands_asked_by, lines_before_quit}
 
 -- a session: the number that its entries in the history have, the number that its events name, and
 -- the folder of which its dictionaries were loaded, if one is told
@@ -37,13 +37,13 @@ without_own asked = asked
 
 -- what the lines of a session ask for, up to the first that is `quit`
 abbrev pub session_asks : List (List ℕ) → List (Option Command)
-session_asks lines = map without_own (asked_by (before_quit lines))
+session_asks lines = map without_own (commands_asked_by (lines_before_quit lines))
 
 -- ---- commands that name a place
 
 -- The command looks at a board of the stretch. The stretch ends with the event that the command is
 -- over that board, and the reply tells the version of the text behind it.
-pub record IsTaken (session : Session) (command : Command) (board : Seen) (part : List Entry)
+pub record IsSessionEventTaken (session : Session) (command : Command) (board : Seen) (part : List Entry)
     (reply : Reply) : Type 0 where
   pub skipped : List Entry
   pub between : List Entry
@@ -77,7 +77,7 @@ pub record IsTurnedDown (session : Session) (command : Command) (board : Seen) (
 
 pub data IsPlaceToldIn (session : Session) (command : Command) (board : Seen) (part : List Entry)
     (reply : Reply) : Type 0 where
-  Taken : IsTaken session command board part reply
+  Taken : IsSessionEventTaken session command board part reply
       → IsPlaceToldIn session command board part reply
   NoSuchPlace : IsNoPlace session command board part reply
       → IsPlaceToldIn session command board part reply
@@ -171,7 +171,7 @@ taken_in commands replies = 0
 pub record IsToldBy (session : Session) (commands : List (Option Command)) (replies : List Reply)
     (history : Run) : Type 0 where
   pub cut : AreToldIn session history.opening history.entries commands replies
-  pub no_more : events_by session.by history.entries ≡ taken_in commands replies
+  pub no_more : events_asked_by session.by history.entries ≡ taken_in commands replies
 
 -- all edits, loads, parks and asks of a history have a number from one on, of so many
 abbrev pub AreOf : (first count : ℕ) → List Entry → Type 0

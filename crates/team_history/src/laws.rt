@@ -4,8 +4,8 @@ ghost use Rattle.std.specs.Prelude.{◌≡◌, ◌+◌, ◌*◌, ◌^◌, ◌<�
 ghost use Rattle.std.specs.Prelude.{length, map, Option, All, IsPermutation};
 ghost use Rattle.std.specs.List.{AllByRecursion, range_with_len};
 ghost use Rattle.spell_types.specs.declared.Lexicon.{Lexicon};
-ghost use Rattle.edit_core.specs.Runs.{Run};
-ghost use Rattle.edit_core.specs.Seen.{Seen};
+ghost use Rattle.board_share.specs.edit_core.Runs.{Run};
+ghost use Rattle.board_share.specs.edit_core.Seen.{Seen};
 ghost use Rattle.board_share.specs.Endings.{HasEventsOf, IsTheirs};
 ghost use Rattle.board_share.specs.Eyes.{EyeSeen, events_in, fresh_eye};
 ghost use Rattle.console_lang.specs.declared.command.Command.{Command};
@@ -15,8 +15,8 @@ ghost use Rattle.console_history.specs.Told.{IsLexiconTold, IsPlainTold};
 ghost use Rattle.team_history.specs.Eyes.{AsksAtMost, HasHeard, IsAtLastPoint, IsSaidTo};
 ghost use Rattle.team_history.specs.ToldBy.{AreOf, IsToldBy, Session};
 
+use board_share::edit_core::{fronts_are_runs, numbers_add_up, runs_are_short, runs_go_on};
 use console_board::asked_events_have_replies;
-use edit_core::{fronts_are_runs, numbers_add_up, runs_are_short, runs_go_on};
 
 /// A session is told no replies before its first line, and what it is told goes on by each line
 /// that asks for something.

@@ -9,7 +9,7 @@ use Rattle.std.specs.Str.Lines.{strip_carriage_return}
 use Rattle.std.proofs.lemmas.Bool.{false≢true}
 use Rattle.std.proofs.lemmas.List.{drop_at, length_push}
 use Rattle.std.proofs.lemmas.List.Splits.{join_with_byte-slice_split}
-use Rattle.lists.specs.Laws.{each-map}
+use Rattle.text_lines.specs.lists.Laws.{each-map}
 use Rattle.text_lines.specs.Lines.{first_place, is_line_feed, line_at, lines_from, lines_after}
 use Rattle.text_lines.specs.Lines.{all_lines, line_texts, text_of}
 use Rattle.team_script.specs.Lines.{HasNoBreak}

@@ -8,7 +8,7 @@ use Rattle.std.specs.Option.{option_map}
 use Rattle.std.proofs.lemmas.Bool.Decides.{nat_tests}
 use Rattle.std.proofs.lemmas.Iterator.Adapters.{position_from-zero}
 use Rattle.std.proofs.lemmas.Option.{same_Some}
-use Rattle.lists.specs.Answers.{◌>>=◌}
+use Rattle.text_lines.specs.lists.Answers.{◌>>=◌}
 use Rattle.text_lines.specs.Lines.{line_texts}
 use Rattle.team_script.specs.declared.fault.ScriptFault.{ScriptFault}
 use Rattle.team_script.specs.declared.fault.ScriptFault.TheVariants.{Bad, LongLine, ManyPairs}
@@ -16,7 +16,7 @@ use Rattle.team_script.specs.declared.line.SessionLine.{SessionLine}
 use Rattle.team_script.specs.declared.pairs.Pair.{Pair}
 use Rattle.team_script.specs.Lines.{told_in, is_bad, first_bad, is_long}
 use Rattle.team_script.specs.Pairs.{pairs_in, pair_limit}
-use Rattle.team_script.specs.Told.{Told, told}
+use Rattle.team_script.specs.Told.{ScriptTold, told}
 use Rattle.team_script.specs.Causes.{IsFirstBad, HasLong, HasMany}
 use Rattle.team_script.specs.Due.{unless_bad, unless_long, pairs_due, script_due}
 
@@ -138,7 +138,8 @@ bad-none texts none =
 
 -- ---- what is due, by the three questions
 
-abbrev decided : Option ℕ → Bool → Bool → List SessionLine → List Pair → Result Told ScriptFault
+abbrev decided : Option ℕ → Bool → Bool → List SessionLine → List Pair
+    → Result ScriptTold ScriptFault
 decided None false false lines pairs = Ok (told lines pairs)
 decided None false true lines pairs = Err ManyPairs
 decided None true many lines pairs = Err LongLine
@@ -157,10 +158,11 @@ many-due : (lines : List SessionLine) (many : Bool) → is_many lines ≡ many
 unfolding pairs_due
 many-due lines many is = ap (λ b. if b then Err ManyPairs else Ok (pairs_in lines)) is
 
-abbrev with_pairs : List SessionLine → Result (List Pair) ScriptFault → Result Told ScriptFault
+abbrev with_pairs : List SessionLine → Result (List Pair) ScriptFault
+    → Result ScriptTold ScriptFault
 with_pairs lines due = due >>= λ pairs. Ok (told lines pairs)
 
-abbrev of_lines : Result (List SessionLine) ScriptFault → Result Told ScriptFault
+abbrev of_lines : Result (List SessionLine) ScriptFault → Result ScriptTold ScriptFault
 of_lines due = due >>= λ short. with_pairs short (pairs_due short)
 
 by-questions : (found : Option ℕ) (long many : Bool) (lines : List SessionLine)

@@ -9,8 +9,8 @@ use Rattle.std.proofs.lemmas.List.{length-map}
 use Rattle.std.specs.Option.{option_map, option_or}
 use Rattle.std.proofs.lemmas.Iterator.Adapters.{position_from-zero}
 use Rattle.std.proofs.lemmas.List.Sums.{take_while-cons}
-use Rattle.lists.specs.Answers.{FailsAs}
-use Rattle.lists.specs.Laws.{or-none}
+use Rattle.text_lines.specs.lists.Answers.{FailsAs}
+use Rattle.text_lines.specs.lists.Laws.{or-none}
 use Rattle.text_lines.specs.declared.found.Line.{Line}
 use Rattle.text_lines.specs.Lines.{text_of, is_text, lines_from, lines_after, line_at, all_lines}
 use Rattle.text_lines.specs.Lines.{line_texts, good_lines, bad_line, first_place, is_line_feed}
@@ -18,7 +18,7 @@ use Rattle.team_script.specs.declared.fault.ScriptFault.{ScriptFault}
 use Rattle.team_script.specs.declared.fault.ScriptFault.TheVariants.{Bad}
 use Rattle.team_script.specs.declared.line.SessionLine.{SessionLine}
 use Rattle.team_script.specs.Lines.{told_in, line_told, is_formless, is_bad, first_bad}
-use Rattle.team_script.specs.Due.{MayCome, unless_bad, lines_due, first_formless, good_due}
+use Rattle.team_script.specs.Due.{MayComeOfScripts, unless_bad, lines_due, first_formless, good_due}
 
 -- lines are numbered one after another
 abbrev AreNumbered : ℕ → List Line → Type 0
@@ -158,8 +158,8 @@ first-fault None bad lines all fault due = absurd (cc)
 first-fault (Some line) bad lines all fault due = due
 
 pub fault-given : (bytes : List ℕ) (good : List Line) (fault : ScriptFault)
-    → good ≡ good_lines bytes → FailsAs MayCome (good_due bytes good) fault
-    → FailsAs MayCome (lines_due (line_texts bytes)) fault
+    → good ≡ good_lines bytes → FailsAs MayComeOfScripts (good_due bytes good) fault
+    → FailsAs MayComeOfScripts (lines_due (line_texts bytes)) fault
 fault-given bytes good fault are (inl comes) = inl comes
 fault-given bytes good fault are (inr due) =
     inr (ap (λ found. unless_bad found (told_in (line_texts bytes))) (bad-is bytes)

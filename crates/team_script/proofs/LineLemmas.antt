@@ -7,7 +7,7 @@ use Rattle.std.proofs.lemmas.List.{map-append}
 use Rattle.std.proofs.lemmas.List.Elements.{All-map, All-filter}
 use Rattle.std.specs.List.{find, cons_option}
 use Rattle.std.specs.Option.{option_map}
-use Rattle.console_lang.specs.Scripts.{Said, Nothing, ToSession, Unreadable, script_of}
+use Rattle.console_lang.specs.Scripts.{ScriptLineSaid, Nothing, ToSession, Unreadable, script_of}
 use Rattle.text_lines.specs.declared.found.Line.{Line}
 use Rattle.text_lines.specs.Lines.{text_of}
 use Rattle.team_script.specs.declared.fault.ScriptFault.TheVariants.{Bad}
@@ -34,11 +34,11 @@ pub none-read : (bytes : List ℕ) (lines : List Line) → AreRead bytes lines l
 none-read bytes lines = record { all = refl; bad = refl }
 
 -- what a line says decides what is told, and whether it is the first of no form
-abbrev told_then : List ℕ → List SessionLine → List Line → Said → List SessionLine
+abbrev told_then : List ℕ → List SessionLine → List Line → ScriptLineSaid → List SessionLine
 told_then bytes told rest said =
     told ++ cons_option (told_by said) (told_in (map (text_of bytes) rest))
 
-abbrev bad_then : List ℕ → Line → List Line → Said → Option ℕ
+abbrev bad_then : List ℕ → Line → List Line → ScriptLineSaid → Option ℕ
 bad_then bytes line rest said =
     option_map (λ l. l.number)
     (cond (is_unreadable said) (Some line) (find (λ l. is_formless (text_of bytes l)) rest))

@@ -11,7 +11,7 @@ use Rattle.std.proofs.lemmas.List.Elements.{filter_passes, filter-append, filter
 use Rattle.std.proofs.lemmas.List.Kept.{AllPairs-cons, AllPairs-filter}
 use Rattle.std.proofs.lemmas.Option.{same_Some}
 use Rattle.std.proofs.lemmas.Slice.Eq.{bytes_eq-Decides}
-use Rattle.lists.specs.Laws.{contains-head, contains-tail}
+use Rattle.text_lines.specs.lists.Laws.{contains-head, contains-tail}
 use Rattle.console_lang.specs.declared.command.Command.{Command}
 use Rattle.console_lang.specs.declared.command.Command.TheVariants.{Ins, Put, Sub, Del, Load, Stop}
 use Rattle.console_lang.specs.declared.command.Command.TheVariants.{Ask, Own, Show, Settle, Quit}
@@ -20,8 +20,9 @@ use Rattle.console_lang.specs.Commands.{command_of, or_bad}
 use Rattle.console_lang.specs.CommandLines.{IsLineOf}
 use Rattle.team_script.specs.declared.line.SessionLine.{SessionLine}
 use Rattle.team_script.specs.declared.pairs.Pair.{Pair}
-use Rattle.team_script.specs.Pairs.{loads, loaded, loaded_by, is_same, is_among, each_once}
-use Rattle.team_script.specs.Pairs.{pairs_in, IsLoad, IsNamed, Begins, LoadsAmong}
+use Rattle.team_script.specs.Pairs.{loads, loaded, loaded_by, is_same, is_pair_among}
+use Rattle.team_script.specs.Pairs.{each_pair_once}
+use Rattle.team_script.specs.Pairs.{pairs_in, IsLoad, IsPairNamed, Begins, LoadsAmong}
 use Rattle.team_script.proofs.PairLemmas.{same-≡}
 
 -- ---- the laws on the lines of commands
@@ -79,50 +80,50 @@ same-refl pair =
 
 -- leaving out the pairs like one pair takes no other one away
 among-filter : (pair other : Pair) → is_same pair other ≡ false → (pairs : List Pair)
-    → is_among (filter (λ p. not (is_same pair p)) pairs) other ≡ is_among pairs other
+    → is_pair_among (filter (λ p. not (is_same pair p)) pairs) other ≡ is_pair_among pairs other
 among-filter pair other differs [] = refl
 among-filter pair other differs (p ∷ pairs) =
     let rest = among-filter pair other differs pairs in
     elim (is_same pair p) as
     (λ b. is_same pair p ≡ b
-    → is_among (cond (not b) (p ∷ filter (λ q. not (is_same pair q)) pairs)
-    (filter (λ q. not (is_same pair q)) pairs)) other ≡ (is_same p other || is_among pairs other)) [
+    → is_pair_among (cond (not b) (p ∷ filter (λ q. not (is_same pair q)) pairs)
+    (filter (λ q. not (is_same pair q)) pairs)) other ≡ (is_same p other || is_pair_among pairs other)) [
       | true ↦ λ same. rest
-          ∙ sym (ap (λ b. b || is_among pairs other)
+          ∙ sym (ap (λ b. b || is_pair_among pairs other)
           (sym (ap (λ q. is_same q other) (same-≡ pair p same)) ∙ differs))
       | false ↦ λ _. ap (λ b. is_same p other || b) rest
     ] refl
 
 among-once : (pairs : List Pair) (other : Pair)
-    → is_among (each_once pairs) other ≡ is_among pairs other
+    → is_pair_among (each_pair_once pairs) other ≡ is_pair_among pairs other
 among-once [] other = refl
 among-once (pair ∷ pairs) other =
     elim (is_same pair other) as
     (λ b. is_same pair other ≡ b
-    → (b || is_among (filter (λ p. not (is_same pair p)) (each_once pairs)) other) ≡
-    (b || is_among pairs other)) [
+    → (b || is_pair_among (filter (λ p. not (is_same pair p)) (each_pair_once pairs)) other) ≡
+    (b || is_pair_among pairs other)) [
       | true ↦ λ _. refl
-      | false ↦ λ differs. among-filter pair other differs (each_once pairs)
+      | false ↦ λ differs. among-filter pair other differs (each_pair_once pairs)
           ∙ among-once pairs other
     ] refl
 
 -- a pair that lines load is that of one of them
 loaded-named : HaveLines → (lines : List SessionLine) (pair : Pair)
-    → is_among (filter_map loaded_by lines) pair ≡ true → IsNamed lines pair
+    → is_pair_among (filter_map loaded_by lines) pair ≡ true → IsPairNamed lines pair
 loaded-named have [] pair among = absurd (false≢true among)
 loaded-named have (line ∷ lines) pair among =
     by-line (loaded-named have lines pair) (loaded_by line) refl among
   where
-    behind : IsNamed lines pair → IsNamed (line ∷ lines) pair
+    behind : IsPairNamed lines pair → IsPairNamed (line ∷ lines) pair
     behind (found, there, is) = (found, contains-tail line found lines there, is)
 
-    by-line : (is_among (filter_map loaded_by lines) pair ≡ true → IsNamed lines pair)
+    by-line : (is_pair_among (filter_map loaded_by lines) pair ≡ true → IsPairNamed lines pair)
         → (found : Option Pair) → loaded_by line ≡ found
-        → is_among (cons_option found (filter_map loaded_by lines)) pair ≡ true
-        → IsNamed (line ∷ lines) pair
+        → is_pair_among (cons_option found (filter_map loaded_by lines)) pair ≡ true
+        → IsPairNamed (line ∷ lines) pair
     by-line more None is here = behind (more here)
     by-line more (Some first) is here =
-        elim (or_cases (is_same first pair) (is_among (filter_map loaded_by lines) pair) here) [
+        elim (or_cases (is_same first pair) (is_pair_among (filter_map loaded_by lines) pair) here) [
           | inl same ↦ (
             line,
             contains-head line lines,
@@ -134,23 +135,23 @@ loaded-named have (line ∷ lines) pair among =
 -- and what a line loads is among what all lines load
 named-loaded : (lines : List SessionLine) (line : SessionLine) (pair : Pair)
     → Contains lines line → loaded_by line ≡ Some pair
-    → is_among (filter_map loaded_by lines) pair ≡ true
+    → is_pair_among (filter_map loaded_by lines) pair ≡ true
 named-loaded [] line pair (k, within, at) is = absurd (not-suc-le-zero within)
 named-loaded (first ∷ lines) line pair (zero, within, at) is =
-    ap (λ found. is_among (cons_option found (filter_map loaded_by lines)) pair)
+    ap (λ found. is_pair_among (cons_option found (filter_map loaded_by lines)) pair)
     (ap loaded_by at ∙ is)
-    ∙ or_left (is_same pair pair) (is_among (filter_map loaded_by lines) pair) (same-refl pair)
+    ∙ or_left (is_same pair pair) (is_pair_among (filter_map loaded_by lines) pair) (same-refl pair)
 named-loaded (first ∷ lines) line pair (suc k, within, at) is =
     more (loaded_by first) (named-loaded lines line pair (k, le_of_suc-le-suc within, at) is)
   where
-    more : (found : Option Pair) → is_among (filter_map loaded_by lines) pair ≡ true
-        → is_among (cons_option found (filter_map loaded_by lines)) pair ≡ true
+    more : (found : Option Pair) → is_pair_among (filter_map loaded_by lines) pair ≡ true
+        → is_pair_among (cons_option found (filter_map loaded_by lines)) pair ≡ true
     more None among = among
     more (Some other) among =
-        or_right (is_same other pair) (is_among (filter_map loaded_by lines) pair) among
+        or_right (is_same other pair) (is_pair_among (filter_map loaded_by lines) pair) among
 
 pub named-pairs : HaveLines → NeverBlank → (lines : List SessionLine) (pair : Pair)
-    → (is_among (pairs_in lines) pair ≡ true) ↔ IsNamed lines pair
+    → (is_pair_among (pairs_in lines) pair ≡ true) ↔ IsPairNamed lines pair
 unfolding pairs_in
 named-pairs have never lines pair = (
   λ among. loaded-named have lines pair
@@ -165,7 +166,7 @@ pub loads-among : (pairs : List Pair) (lines : List SessionLine) → pairs ≡ p
 unfolding pairs_in
 loads-among pairs lines are =
     All-weaker (Contains lines) (λ line. LoadsAmong pairs line.text)
-    (λ line there pair is. ap (λ found. is_among found pair) are
+    (λ line there pair is. ap (λ found. is_pair_among found pair) are
     ∙ among-once (filter_map loaded_by lines) pair
     ∙ named-loaded lines line pair there is) lines (All-contains_itself lines)
 
@@ -174,31 +175,32 @@ differs-from : (pair other : Pair) → not (is_same pair other) ≡ true → pai
 differs-from pair other differs same =
     false≢true (sym (ap not (sym (ap (is_same pair) same) ∙ same-refl pair)) ∙ differs)
 
-each-once : (pairs : List Pair) → AllPairs (λ pair later. pair ≢ later) (each_once pairs)
+each-once : (pairs : List Pair) → AllPairs (λ pair later. pair ≢ later) (each_pair_once pairs)
 each-once [] = λ i j d below within. absurd (omega arith)
 each-once (pair ∷ pairs) =
     let kept = λ (p : Pair). not (is_same pair p) in
-    AllPairs-cons (λ one later. one ≢ later) pair (filter kept (each_once pairs))
-    (λ k d within. differs-from pair _ (filter_passes kept (each_once pairs) k d within))
-    (AllPairs-filter (λ one later. one ≢ later) kept (each_once pairs) (each-once pairs))
+    AllPairs-cons (λ one later. one ≢ later) pair (filter kept (each_pair_once pairs))
+    (λ k d within. differs-from pair _ (filter_passes kept (each_pair_once pairs) k d within))
+    (AllPairs-filter (λ one later. one ≢ later) kept (each_pair_once pairs) (each-once pairs))
 
 pub once-pairs : (lines : List SessionLine) → AllPairs (λ pair later. pair ≢ later) (pairs_in lines)
 unfolding pairs_in
 once-pairs lines = each-once (filter_map loaded_by lines)
 
 -- ---- later lines leave the pairs in front
-begins-once : (front back : List Pair) → Begins (each_once front) (each_once (front ++ back))
-begins-once [] back = (each_once back, refl)
+begins-once : (front back : List Pair)
+    → Begins (each_pair_once front) (each_pair_once (front ++ back))
+begins-once [] back = (each_pair_once back, refl)
 begins-once (pair ∷ front) back =
     let kept = λ (p : Pair). not (is_same pair p) in
     let rest = begins-once front back in (
       filter kept rest.0,
       ap (λ pairs. pair ∷ filter kept pairs) rest.1
-          ∙ ap (λ pairs. pair ∷ pairs) (filter-append kept (each_once front) rest.0),
+          ∙ ap (λ pairs. pair ∷ pairs) (filter-append kept (each_pair_once front) rest.0),
     )
 
 pub begins-pairs : (front back : List SessionLine) → Begins (pairs_in front) (pairs_in (front ++ back))
 unfolding pairs_in
 begins-pairs front back =
     let begins = begins-once (filter_map loaded_by front) (filter_map loaded_by back) in
-    (begins.0, ap each_once (filter_map-append loaded_by front back) ∙ begins.1)
+    (begins.0, ap each_pair_once (filter_map-append loaded_by front back) ∙ begins.1)

@@ -13,7 +13,8 @@ use Rattle.std.proofs.lemmas.Slice.Eq.{bytes_eq-Decides}
 use Rattle.team_script.specs.declared.fault.ScriptFault.TheVariants.{ManyPairs}
 use Rattle.team_script.specs.declared.line.SessionLine.{SessionLine}
 use Rattle.team_script.specs.declared.pairs.Pair.{Pair}
-use Rattle.team_script.specs.Pairs.{loaded_by, is_same, is_among, each_once, pairs_in, pair_limit}
+use Rattle.team_script.specs.Pairs.{loaded_by, is_same, is_pair_among, each_pair_once, pairs_in}
+use Rattle.team_script.specs.Pairs.{pair_limit}
 use Rattle.team_script.specs.Due.{pairs_due}
 
 -- two filters, one after the other, are one
@@ -50,15 +51,15 @@ same-≡ pair other same =
 
 -- whether a pair is the same as none of these
 abbrev is_new : List Pair → Pair → Bool
-is_new pairs pair = not (is_among pairs pair)
+is_new pairs pair = not (is_pair_among pairs pair)
 
 -- a pair that is new beside some is another than one of them
-new-is_other : (pairs : List Pair) (pair : Pair) → is_among pairs pair ≡ true
+new-is_other : (pairs : List Pair) (pair : Pair) → is_pair_among pairs pair ≡ true
     → (other : Pair) → is_new pairs other ≡ (not (is_same pair other) && is_new pairs other)
 new-is_other pairs pair there other =
     elim (is_same pair other) as
     (λ b. is_same pair other ≡ b → is_new pairs other ≡ (not b && is_new pairs other)) [
-      | true ↦ λ same. ap not (sym (ap (is_among pairs) (same-≡ pair other same)) ∙ there)
+      | true ↦ λ same. ap not (sym (ap (is_pair_among pairs) (same-≡ pair other same)) ∙ there)
       | false ↦ λ _. refl
     ] refl
 
@@ -67,35 +68,35 @@ new-push : (pairs : List Pair) (pair other : Pair)
 new-push pairs pair other =
     ap not (list_any-append (λ p. is_same p other) pairs (pair ∷ []))
     ∙ (elim (is_same pair other) as
-    (λ b. not (is_among pairs other || (b || false)) ≡ (not b && is_new pairs other)) [
-      | true ↦ elim (is_among pairs other) as (λ b. not (b || true) ≡ false)
+    (λ b. not (is_pair_among pairs other || (b || false)) ≡ (not b && is_new pairs other)) [
+      | true ↦ elim (is_pair_among pairs other) as (λ b. not (b || true) ≡ false)
           [ true ↦ refl | false ↦ refl ]
-      | false ↦ elim (is_among pairs other) as (λ b. not (b || false) ≡ not b)
+      | false ↦ elim (is_pair_among pairs other) as (λ b. not (b || false) ≡ not b)
           [ true ↦ refl | false ↦ refl ]
     ])
 
 -- the pairs of the rest that are not among these
 abbrev new_in : List Pair → List Pair → List Pair
-new_in pairs named = filter (is_new pairs) (each_once named)
+new_in pairs named = filter (is_new pairs) (each_pair_once named)
 
-new-known : (pairs : List Pair) (pair : Pair) (named : List Pair) → is_among pairs pair ≡ true
+new-known : (pairs : List Pair) (pair : Pair) (named : List Pair) → is_pair_among pairs pair ≡ true
     → new_in pairs (pair ∷ named) ≡ new_in pairs named
 new-known pairs pair named there =
     ap (λ b. cond (not b) (pair ∷ filter (is_new pairs)
-    (filter (λ other. not (is_same pair other)) (each_once named))) (filter (is_new pairs)
-    (filter (λ other. not (is_same pair other)) (each_once named)))) there
+    (filter (λ other. not (is_same pair other)) (each_pair_once named))) (filter (is_new pairs)
+    (filter (λ other. not (is_same pair other)) (each_pair_once named)))) there
     ∙ filter-filter (is_new pairs) (λ other. not (is_same pair other)) (is_new pairs)
-    (new-is_other pairs pair there) (each_once named)
+    (new-is_other pairs pair there) (each_pair_once named)
 
-new-first : (pairs : List Pair) (pair : Pair) (named : List Pair) → is_among pairs pair ≡ false
+new-first : (pairs : List Pair) (pair : Pair) (named : List Pair) → is_pair_among pairs pair ≡ false
     → new_in pairs (pair ∷ named) ≡ pair ∷ new_in (pairs ++ pair ∷ []) named
 new-first pairs pair named new =
     ap (λ b. cond (not b) (pair ∷ filter (is_new pairs)
-    (filter (λ other. not (is_same pair other)) (each_once named))) (filter (is_new pairs)
-    (filter (λ other. not (is_same pair other)) (each_once named)))) new
+    (filter (λ other. not (is_same pair other)) (each_pair_once named))) (filter (is_new pairs)
+    (filter (λ other. not (is_same pair other)) (each_pair_once named)))) new
     ∙ ap (λ found. pair ∷ found)
     (filter-filter (is_new pairs) (λ other. not (is_same pair other)) (is_new (pairs ++ pair ∷ []))
-    (new-push pairs pair) (each_once named))
+    (new-push pairs pair) (each_pair_once named))
 
 -- these pairs are found, and those of the rest that are not among them are still to come
 pub record AreFound (lines rest : List SessionLine) (pairs : List Pair) : Type 0 where
@@ -105,7 +106,7 @@ pub record AreFound (lines rest : List SessionLine) (pairs : List Pair) : Type 0
 pub none-found : (lines : List SessionLine) → AreFound lines lines []
 unfolding pairs_in
 none-found lines = record {
-  all = filter-all (each_once (filter_map loaded_by lines));
+  all = filter-all (each_pair_once (filter_map loaded_by lines));
   few = omega arith;
 }
 
@@ -122,7 +123,8 @@ nothing-loaded {pairs = pairs} line rest loads are = record {
 
 pub known-loaded : {lines : List SessionLine} {pairs : List Pair} (line : SessionLine)
     (rest : List SessionLine) (pair : Pair)
-    → loaded_by line ≡ Some pair → is_among pairs pair ≡ true → AreFound lines (line ∷ rest) pairs
+    → loaded_by line ≡ Some pair → is_pair_among pairs pair ≡ true
+    → AreFound lines (line ∷ rest) pairs
     → AreFound lines rest pairs
 known-loaded {pairs = pairs} line rest pair loads there are = record {
   all = ap (λ found. pairs ++ found) (sym (new-known pairs pair (filter_map loaded_by rest) there))
@@ -134,7 +136,8 @@ known-loaded {pairs = pairs} line rest pair loads there are = record {
 -- a pair that is new comes next
 next-pair : {lines : List SessionLine} {pairs : List Pair} (line : SessionLine)
     (rest : List SessionLine) (pair : Pair)
-    → loaded_by line ≡ Some pair → is_among pairs pair ≡ false → AreFound lines (line ∷ rest) pairs
+    → loaded_by line ≡ Some pair → is_pair_among pairs pair ≡ false
+    → AreFound lines (line ∷ rest) pairs
     → pairs ++ pair ∷ new_in (pairs ++ pair ∷ []) (filter_map loaded_by rest) ≡ pairs_in lines
 next-pair {pairs = pairs} line rest pair loads new are =
     ap (λ found. pairs ++ found) (sym (new-first pairs pair (filter_map loaded_by rest) new))
@@ -143,7 +146,7 @@ next-pair {pairs = pairs} line rest pair loads new are =
 
 pub new-loaded : {lines : List SessionLine} {pairs : List Pair} (line : SessionLine)
     (rest : List SessionLine) (pair : Pair)
-    → loaded_by line ≡ Some pair → is_among pairs pair ≡ false → length pairs ≢ pair_limit
+    → loaded_by line ≡ Some pair → is_pair_among pairs pair ≡ false → length pairs ≢ pair_limit
     → AreFound lines (line ∷ rest) pairs
     → AreFound lines rest (pairs ++ pair ∷ [])
 new-loaded {pairs = pairs} line rest pair loads new room are =
@@ -166,7 +169,7 @@ other true x y is = absurd (cc)
 
 pub many-loaded : {lines : List SessionLine} {pairs : List Pair} (line : SessionLine)
     (rest : List SessionLine) (pair : Pair)
-    → loaded_by line ≡ Some pair → is_among pairs pair ≡ false → length pairs ≡ pair_limit
+    → loaded_by line ≡ Some pair → is_pair_among pairs pair ≡ false → length pairs ≡ pair_limit
     → AreFound lines (line ∷ rest) pairs
     → pairs_due lines ≡ Err ManyPairs
 unfolding pairs_due

@@ -5,7 +5,8 @@ use Rattle.std.specs.List.{AllByRecursion, cons_option}
 use Rattle.std.proofs.lemmas.List.Elements.{All-cons}
 use Rattle.std.proofs.lemmas.Option.{same_Some}
 use Rattle.console_lang.specs.CommandLines.{IsTail}
-use Rattle.console_lang.specs.Scripts.{Said, Nothing, ToSession, Unreadable, script_of, IsFor}
+use Rattle.console_lang.specs.Scripts.{ScriptLineSaid, Nothing, ToSession, Unreadable, script_of}
+use Rattle.console_lang.specs.Scripts.{IsFor}
 use Rattle.team_script.specs.declared.line.SessionLine.{SessionLine}
 use Rattle.team_script.specs.Lines.{told_by, line_told, told_in, first_bad, IsNumbered}
 use Rattle.team_script.specs.Lines.{HasNoBreak, HaveWhole}
@@ -16,7 +17,7 @@ abbrev HaveLines : Type 0
 HaveLines = (session : ℕ) (text line : List ℕ) → (script_of line ≡ ToSession session text)
     ↔ IsFor session text line
 
-said-numbered : HaveLines → (text : List ℕ) (said : Said) → script_of text ≡ said
+said-numbered : HaveLines → (text : List ℕ) (said : ScriptLineSaid) → script_of text ≡ said
     → (line : SessionLine) → told_by said ≡ Some line → IsNumbered line
 said-numbered law text Nothing is line tells = absurd (cc)
 said-numbered law text (ToSession session words) is line tells =
@@ -49,7 +50,8 @@ no-break-text {tail = tail} front (inl spaced) whole =
     (subst HasNoBreak spaced (no-break-back front tail whole)).1
 no-break-text front (inr none) whole = subst HasNoBreak (sym none.0) tt
 
-said-whole : HaveLines → (text : List ℕ) → HasNoBreak text → (said : Said) → script_of text ≡ said
+said-whole : HaveLines → (text : List ℕ) → HasNoBreak text → (said : ScriptLineSaid)
+    → script_of text ≡ said
     → (line : SessionLine) → told_by said ≡ Some line → HasNoBreak line.text
 said-whole law text whole Nothing is line tells = absurd (cc)
 said-whole law text whole (ToSession session words) is line tells =

@@ -3,7 +3,7 @@ use Rattle.std.specs.Prelude.{ℕ, List, length, map, find, nat_lt, Option, Some
 use Rattle.std.specs.Prelude.{Result, Ok, Err, if◌then◌else◌}
 use Rattle.std.specs.List.{list_any}
 use Rattle.std.specs.Option.{option_map}
-use Rattle.lists.specs.Answers.{◌>>=◌}
+use Rattle.text_lines.specs.lists.Answers.{◌>>=◌}
 use Rattle.text_lines.specs.declared.found.Line.{Line}
 use Rattle.text_lines.specs.Lines.{text_of, line_texts}
 use Rattle.team_script.specs.declared.fault.ScriptFault.{ScriptFault}
@@ -13,7 +13,7 @@ use Rattle.team_script.specs.declared.line.SessionLine.{SessionLine}
 use Rattle.team_script.specs.declared.pairs.Pair.{Pair}
 use Rattle.team_script.specs.Lines.{is_formless, told_in, first_bad, is_long}
 use Rattle.team_script.specs.Pairs.{pairs_in, pair_limit}
-use Rattle.team_script.specs.Told.{Told, told}
+use Rattle.team_script.specs.Told.{ScriptTold, told}
 
 -- the lines of the sessions, if no line is bad
 abbrev pub unless_bad : Option ℕ → List SessionLine → Result (List SessionLine) ScriptFault
@@ -44,7 +44,7 @@ pairs_due lines =
 
 -- what is due of a file: the lines of the sessions with the pairs that they load, or the first
 -- fault: a bad line, then a text that is too long, then too many pairs
-unfoldable pub script_due : List ℕ → Result Told ScriptFault
+unfoldable pub script_due : List ℕ → Result ScriptTold ScriptFault
 script_due bytes = do
   lines ← lines_due (line_texts bytes)
   short ← unless_long lines
@@ -52,6 +52,6 @@ script_due bytes = do
   Ok (told short pairs)
 
 -- want of memory may come at any time
-abbrev pub MayCome : ScriptFault → Type 0
-MayCome NoMemory = Unit {0}
-MayCome _ = ⊥
+abbrev pub MayComeOfScripts : ScriptFault → Type 0
+MayComeOfScripts NoMemory = Unit {0}
+MayComeOfScripts _ = ⊥

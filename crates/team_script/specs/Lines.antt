@@ -5,11 +5,11 @@ use Rattle.std.specs.Borrow.{Bor}
 use Rattle.std.specs.List.{AllByRecursion, filter_map}
 use Rattle.std.specs.Option.{option_map}
 use Rattle.std.specs.Str.{is_utf8}
-use Rattle.console_lang.specs.Scripts.{Said, ToSession, Unreadable, script_of}
+use Rattle.console_lang.specs.Scripts.{ScriptLineSaid, ToSession, Unreadable, script_of}
 use Rattle.team_script.specs.declared.line.SessionLine.{SessionLine}
 
 -- the line that a session is told, if one is
-abbrev pub told_by : Said → Option SessionLine
+abbrev pub told_by : ScriptLineSaid → Option SessionLine
 told_by (ToSession session text) = Some (record { session = session; text = text })
 told_by _ = None
 
@@ -22,7 +22,7 @@ abbrev pub told_in : List (List ℕ) → List SessionLine
 told_in texts = filter_map line_told texts
 
 -- whether a line that says this is of no form
-abbrev pub is_unreadable : Said → Bool
+abbrev pub is_unreadable : ScriptLineSaid → Bool
 is_unreadable Unreadable = true
 is_unreadable _ = false
 

@@ -35,30 +35,30 @@ abbrev pub is_same : Pair → Pair → Bool
 is_same pair other = bytes_eq pair.aff other.aff && bytes_eq pair.dic other.dic
 
 -- whether a pair is the same as one of these
-abbrev pub is_among : List Pair → Pair → Bool
-is_among pairs pair = list_any (λ other. is_same other pair) pairs
+abbrev pub is_pair_among : List Pair → Pair → Bool
+is_pair_among pairs pair = list_any (λ other. is_same other pair) pairs
 
 -- the pair that a text loads, if it loads one, is among these
 abbrev pub LoadsAmong : List Pair → List ℕ → Type 0
 LoadsAmong pairs text =
-    (pair : Pair) → loaded (said_by text) ≡ Some pair → is_among pairs pair ≡ true
+    (pair : Pair) → loaded (said_by text) ≡ Some pair → is_pair_among pairs pair ≡ true
 
 -- each pair of the list where it first comes, and not again
-abbrev pub each_once : List Pair → List Pair
-each_once [] = []
-each_once (pair ∷ more) = pair ∷ filter (λ other. not (is_same pair other)) (each_once more)
+abbrev pub each_pair_once : List Pair → List Pair
+each_pair_once [] = []
+each_pair_once (pair ∷ more) = pair ∷ filter (λ other. not (is_same pair other)) (each_pair_once more)
 
 -- the pairs that lines load, whichever session they are for, in the order of their first naming
 unfoldable pub pairs_in : List SessionLine → List Pair
-pairs_in lines = each_once (filter_map loaded_by lines)
+pairs_in lines = each_pair_once (filter_map loaded_by lines)
 
 -- a line is `load AFF DIC`, with the names of this pair
 abbrev pub IsLoad : Pair → SessionLine → Type 0
 IsLoad pair line = IsLineOf (Load pair.aff pair.dic) line.text
 
 -- one of these lines loads the pair
-abbrev pub IsNamed : List SessionLine → Pair → Type 0
-IsNamed lines pair = (line : SessionLine) × Contains lines line × IsLoad pair line
+abbrev pub IsPairNamed : List SessionLine → Pair → Type 0
+IsPairNamed lines pair = (line : SessionLine) × Contains lines line × IsLoad pair line
 
 -- a list begins with another one
 abbrev pub Begins : List Pair → List Pair → Type 0

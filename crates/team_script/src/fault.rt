@@ -3,7 +3,7 @@
 ghost use Rattle.std.specs.Prelude.{◌≡◌};
 ghost use Rattle.team_script.specs.declared.fault.ScriptFault.TheVariants.{NoMemory as OutOfMemory};
 
-use lists::NoMemory;
+use text_lines::lists::NoMemory;
 
 /// Why a file is no script. Of several causes the one that stands first here is told.
 #[derive(Clone, Copy, Debug, PartialEq, Eq)]

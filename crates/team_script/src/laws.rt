@@ -8,7 +8,7 @@ ghost use Rattle.team_script.specs.Causes.{IsFirstBad, HasLong, HasMany};
 ghost use Rattle.team_script.specs.Due.{script_due};
 ghost use Rattle.team_script.specs.declared.line.SessionLine.{SessionLine};
 ghost use Rattle.team_script.specs.declared.pairs.Pair.{Pair};
-ghost use Rattle.team_script.specs.Pairs.{pairs_in, is_among, IsNamed, Begins};
+ghost use Rattle.team_script.specs.Pairs.{pairs_in, is_pair_among, IsPairNamed, Begins};
 
 use console_lang::commands_have_their_lines;
 
@@ -17,7 +17,7 @@ use console_lang::commands_have_their_lines;
 /// the order of their first naming.
 pub fn pairs_are_named_once()
     ensures named { (lines : List SessionLine) (pair : Pair)
-        → IsTrue (is_among (pairs_in lines) pair) ↔ IsNamed lines pair }
+        → IsTrue (is_pair_among (pairs_in lines) pair) ↔ IsPairNamed lines pair }
     ensures once { (lines : List SessionLine)
         → AllPairs (λ pair later. pair ≢ later) (pairs_in lines) }
     ensures in_order { (front back : List SessionLine)

@@ -7,8 +7,8 @@
 #![tactic(auto)]
 
 ghost use Rattle.std.specs.Prelude.{◌≡◌, ◌≤◌, length, IfOk};
-ghost use Rattle.lists.specs.Answers.{GivesDue};
-ghost use Rattle.team_script.specs.Due.{MayCome, script_due};
+ghost use Rattle.text_lines.specs.lists.Answers.{GivesDue};
+ghost use Rattle.team_script.specs.Due.{MayComeOfScripts, script_due};
 
 mod fault;
 mod laws;
@@ -16,8 +16,6 @@ mod line;
 mod pairs;
 mod reading;
 mod script;
-#[cfg(test)]
-mod tests;
 
 pub use fault::ScriptFault;
 pub use laws::{faults_have_causes, pairs_are_named_once};
@@ -36,7 +34,7 @@ use std::alloc::Global;
 /// the file.
 #[tactic(auto, unfolding(crate::specs::Due::script_due))]
 pub fn read_script(alloc: Global, bytes: &[u8]) -> Result<Script, ScriptFault>
-    ensures due { GivesDue MayCome (λ script. script) (script_due bytes.now) result }
+    ensures due { GivesDue MayComeOfScripts (λ script. script) (script_due bytes.now) result }
     ensures few { IfOk result (λ script. length script.lines ≤ length bytes.now) }
 {
     let lines = read_lines(alloc, bytes)?;

@@ -1,18 +1,18 @@
 //! The pairs of dictionary files that a script loads.
 
 ghost use Rattle.std.specs.Prelude.{◌≡◌, ◌≤◌, IfOk, length};
-ghost use Rattle.lists.specs.Answers.{GivesDue};
+ghost use Rattle.text_lines.specs.lists.Answers.{GivesDue};
 ghost use Rattle.console_lang.specs.Commands.{said_by};
-ghost use Rattle.team_script.specs.Pairs.{loads, loaded, is_same, is_among, pair_limit};
+ghost use Rattle.team_script.specs.Pairs.{loads, loaded, is_same, is_pair_among, pair_limit};
 ghost use Rattle.team_script.specs.Pairs.{pairs_in};
-ghost use Rattle.team_script.specs.Due.{MayCome, pairs_due};
+ghost use Rattle.team_script.specs.Due.{MayComeOfScripts, pairs_due};
 
 use crate::fault::ScriptFault;
 use crate::line::SessionLine;
 use console_lang::{Command, CommandFault, read_command};
-use lists::{Items, NoMemory};
 use std::alloc::Global;
 use text_lines::Text;
+use text_lines::lists::{Items, NoMemory};
 
 /// How many different pairs a script loads at most.
 const PAIR_LIMIT: usize = 4;
@@ -26,7 +26,7 @@ pub struct Pair {
 
 /// The pairs that these lines load, each where it is first named, unless they are too many.
 pub fn pairs_of(alloc: Global, lines: &[SessionLine]) -> Result<Items<Pair>, ScriptFault>
-    ensures due { GivesDue MayCome (λ pairs. pairs) (pairs_due lines.now) result }
+    ensures due { GivesDue MayComeOfScripts (λ pairs. pairs) (pairs_due lines.now) result }
     ensures all { IfOk result (λ pairs. pairs ≡ pairs_in lines.now) }
     ensures few { IfOk result (λ pairs. length pairs ≤ pair_limit) }
 {
@@ -68,7 +68,7 @@ fn loads(command: Command) -> Option<Pair>
 }
 
 fn is_among(pairs: &[Pair], pair: &Pair) -> bool
-    ensures { result ≡ is_among pairs.now pair.now }
+    ensures { result ≡ is_pair_among pairs.now pair.now }
 {
     pairs.iter().any(|other| is_same(other, pair))
 }

@@ -2,18 +2,18 @@
 
 ghost use Rattle.std.specs.Prelude.{◌≡◌, ◌≤◌, ℕ, List, length, All, OnOk, IfOk};
 ghost use Rattle.std.specs.List.{list_any};
-ghost use Rattle.lists.specs.Answers.{GivesDue};
+ghost use Rattle.text_lines.specs.lists.Answers.{GivesDue};
 ghost use Rattle.text_lines.specs.Lines.{IsInside, line_texts};
 ghost use Rattle.team_script.specs.Lines.{told_in, is_long, HaveShort, HaveWhole};
 ghost use Rattle.team_script.specs.Lines.{IsNumbered};
-ghost use Rattle.team_script.specs.Due.{MayCome, good_due, lines_due, unless_long};
+ghost use Rattle.team_script.specs.Due.{MayComeOfScripts, good_due, lines_due, unless_long};
 
 use crate::fault::ScriptFault;
 use crate::line::SessionLine;
 use console_lang::{ScriptLine, script_line, sessions_have_their_lines};
-use lists::Items;
 use std::alloc::Global;
 use text_lines::found::Line;
+use text_lines::lists::Items;
 use text_lines::{Text, line_text, lines};
 
 /// How many bytes the text of a session's line has at most.
@@ -21,7 +21,7 @@ const TEXT_LIMIT: usize = 131_072;
 
 /// The lines of the sessions, unless a line of the file is bad.
 pub fn read_lines(alloc: Global, bytes: &[u8]) -> Result<Items<SessionLine>, ScriptFault>
-    ensures due { GivesDue MayCome (λ told. told) (lines_due (line_texts bytes.now)) result }
+    ensures due { GivesDue MayComeOfScripts (λ told. told) (lines_due (line_texts bytes.now)) result }
     ensures sessions { IfOk result (All IsNumbered) }
     ensures whole { IfOk result HaveWhole }
     ensures few { IfOk result (λ told. length told ≤ length bytes.now) }
@@ -51,7 +51,7 @@ fn good_lines(
     lines: &[Line],
 ) -> Result<Items<SessionLine>, ScriptFault>
     requires { All (IsInside bytes.now) lines.now }
-    ensures { GivesDue MayCome (λ told. told) (good_due bytes.now lines.now) result }
+    ensures { GivesDue MayComeOfScripts (λ told. told) (good_due bytes.now lines.now) result }
 {
     let mut told = Items::new(alloc);
     for line in lines {
@@ -70,7 +70,7 @@ fn good_lines(
 /// Whether no text is too long.
 #[tactic(auto, unfolding(crate::specs::Due::unless_long))]
 pub fn check_lengths(lines: &[SessionLine]) -> Result<(), ScriptFault>
-    ensures due { GivesDue MayCome (λ _. lines.now) (unless_long lines.now) result }
+    ensures due { GivesDue MayComeOfScripts (λ _. lines.now) (unless_long lines.now) result }
     ensures short { OnOk result (HaveShort lines.now) }
 {
     if has_long(lines) {

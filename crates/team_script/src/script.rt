@@ -4,13 +4,13 @@ ghost use Rattle.std.specs.Prelude.{◌≡◌, All, IfOk};
 ghost use Rattle.std.specs.List.{list_any};
 ghost use Rattle.team_script.specs.Lines.{is_of, texts_of, lent, AreShort, HasNoBreak};
 ghost use Rattle.team_script.specs.Pairs.{LoadsAmong};
-ghost use Rattle.team_script.specs.Told.{Told, IsTold};
+ghost use Rattle.team_script.specs.Told.{ScriptTold, IsScriptTold};
 
 use crate::line::SessionLine;
 use crate::pairs::Pair;
-use lists::{Items, NoMemory};
 use std::alloc::Global;
 use std::marker::Model;
+use text_lines::lists::{Items, NoMemory};
 
 /// The lines of the sessions of a script, and the pairs of dictionary files that they load.
 /// Contracts see it as the record of both.
@@ -21,13 +21,13 @@ pub struct Script {
 }
 
 impl Model for Script {
-    ghost use Rattle.team_script.specs.Told.{Told, told, IsTold};
+    ghost use Rattle.team_script.specs.Told.{ScriptTold, told, IsScriptTold};
 
-    ghost Value = { Told };
+    ghost Value = { ScriptTold };
 
     ghost view = { λ inside. told inside.lines inside.pairs };
 
-    ghost invariant = { λ inside. IsTold (told inside.lines inside.pairs) };
+    ghost invariant = { λ inside. IsScriptTold (told inside.lines inside.pairs) };
 }
 
 impl Script {
@@ -35,7 +35,7 @@ impl Script {
 
     /// The script of these lines and of the pairs that they load.
     pub(crate) fn from_parts(lines: Items<SessionLine>, pairs: Items<Pair>) -> Script
-        requires { IsTold (told lines pairs) }
+        requires { IsScriptTold (told lines pairs) }
         ensures { result ≡ told lines pairs }
     {
         Script { lines, pairs }
@@ -44,7 +44,7 @@ impl Script {
     /// The lines of all sessions, in the order of the file.
     pub fn lines(&self) -> &[SessionLine]
         ensures lines { result.now ≡ self.now.lines }
-        ensures told { IsTold self.now }
+        ensures told { IsScriptTold self.now }
     {
         self.lines.as_slice()
     }
@@ -53,7 +53,7 @@ impl Script {
     /// most.
     pub fn pairs(&self) -> &[Pair]
         ensures pairs { result.now ≡ self.now.pairs }
-        ensures told { IsTold self.now }
+        ensures told { IsScriptTold self.now }
     {
         self.pairs.as_slice()
     }

@@ -16,6 +16,7 @@ ghost use Rattle.text_lines.specs.Lines.{text_of, IsInside, ComesNext};
 
 use crate::found::{Ahead, Line, Lines};
 use bstr::ByteSlice;
+pub use lists;
 use lists::{Items, NoMemory};
 use std::alloc::Global;
 

@@ -3,14 +3,14 @@
 //! versions that they are of.
 #![tactic(auto)]
 
-ghost use Rattle.edit_core.specs.Seen.{IsOpening};
+ghost use Rattle.board_share.specs.edit_core.Seen.{IsOpening};
 
 mod marks;
 mod writing;
 
 use anyhow::Context;
 use board_share::Blank;
-use edit_core::Board;
+use board_share::edit_core::Board;
 use outside::{Files, RealFiles};
 use own_dictionary::load;
 use std::alloc::Global;

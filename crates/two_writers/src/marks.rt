@@ -1,7 +1,7 @@
 //! The marks of a board.
 
 use anyhow::Context;
-use edit_core::Board;
+use board_share::edit_core::Board;
 use paragraph_marks::{Plain, check};
 use std::alloc::Global;
 use std::sync::Arc;
@@ -41,7 +41,7 @@ fn print_paragraph(
     let marks = check(alloc, &mut asker, text)
         .ok()
         .context("no memory for marks")?;
-    for mark in &marks {
+    for mark in marks.as_slice() {
         println!(rt;
             "{} {} {} {}",
             place.saturating_add(1),

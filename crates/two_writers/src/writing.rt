@@ -1,20 +1,20 @@
 //! The desk, its sessions, and what each does.
 
 ghost use Rattle.std.specs.Prelude.{◌≡◌, IfOk};
-ghost use Rattle.edit_core.specs.Seen.{IsOpening};
+ghost use Rattle.board_share.specs.edit_core.Seen.{IsOpening};
 ghost use Rattle.board_share.specs.Namings.{IsNamed};
 
 use crate::marks::print_marks;
 use anyhow::Context;
+use board_share::edit_core::Board;
+use board_share::paragraph_text::Edit;
 use board_share::{Blank, Desk, Eye, Naming};
-use edit_core::Board;
 use edit_session::Session;
 use mark_types::Judge;
-use paragraph_text::Edit;
+use mark_types::text_lines::Text;
 use std::alloc::{AllocError, Global};
 use std::sync::{Arc, Wait};
 use std::thread::{Threads, for_each_mut};
-use text_lines::Text;
 use word_verdict::Speller;
 
 /// What the threads write, a word at a time, each into a paragraph of its own.
@@ -65,7 +65,7 @@ fn write<J: Judge + Drop, D: Naming, W: Wait + Drop, R: Wait>(
 
 /// What a thread has: its eye, while no session has it.
 #[derive(Drop)]
-struct Seat<J: Judge + Drop, D: Naming> {
+struct WriterSeat<J: Judge + Drop, D: Naming> {
     eyes: Vec<Eye<J, D>>,
     is_done: bool,
 }
@@ -76,7 +76,7 @@ fn act<J: Judge + Drop, D: Naming, W: Wait + Drop, R: Wait>(
     alloc: Global,
     desk: &Desk<J, D, W>,
     place: usize,
-    seat: &mut Seat<J, D>,
+    seat: &mut WriterSeat<J, D>,
 ) -> Option<()> {
     let mut session = Session::new(desk, seat.eyes.pop()?, 1);
     let id = u64::try_from(place).ok()?;
@@ -87,12 +87,12 @@ fn act<J: Judge + Drop, D: Naming, W: Wait + Drop, R: Wait>(
 fn seats_of<J: Judge + Drop, D: Naming>(
     alloc: Global,
     eyes: Vec<Eye<J, D>>,
-) -> Result<Vec<Seat<J, D>>, AllocError> {
+) -> Result<Vec<WriterSeat<J, D>>, AllocError> {
     let mut seats = Vec::new(alloc);
     for eye in eyes {
         let mut eyes = Vec::new(alloc);
         eyes.push(eye)?;
-        let seat = Seat {
+        let seat = WriterSeat {
             eyes,
             is_done: false,
         };
@@ -107,19 +107,19 @@ fn write_at_once<
     D: Naming + Send + Sync,
     W: Wait + Drop + Send + Sync,
     R: Threads + Wait + Sync,
->(rt: &R, alloc: Global, desk: &Desk<J, D, W>, seats: &mut [Seat<J, D>]) {
+>(rt: &R, alloc: Global, desk: &Desk<J, D, W>, seats: &mut [WriterSeat<J, D>]) {
     for_each_mut(
         rt,
         seats,
         2,
-        &|place: usize, seat: &mut Seat<J, D>| {
+        &|place: usize, seat: &mut WriterSeat<J, D>| {
             seat.is_done = act(rt, alloc, desk, place, seat).is_some();
         },
     );
 }
 
 /// Whether all threads wrote what they were to write.
-fn are_done<J: Judge + Drop, D: Naming>(seats: &[Seat<J, D>]) -> bool {
+fn are_done<J: Judge + Drop, D: Naming>(seats: &[WriterSeat<J, D>]) -> bool {
     seats.iter().all(|seat| seat.is_done)
 }
 

@@ -2,12 +2,12 @@
 
 ghost use Rattle.std.specs.Prelude.{◌≡◌, ◌<◌, ◌≤◌, IfOk, IfSome};
 ghost use Rattle.std.specs.Arc.{arc_value};
-ghost use Rattle.spell_types.specs.declared.Lexicon.{Lexicon};
-ghost use Rattle.spell_types.specs.Yields.{yields};
+ghost use Rattle.mark_types.specs.spell_types.declared.Lexicon.{Lexicon};
+ghost use Rattle.mark_types.specs.spell_types.Yields.{yields};
 ghost use Rattle.verdict_cache.specs.Verdicts.{AreVerdicts};
 
-use lists::NoMemory;
 use lru::LruCache;
+use mark_types::lists::NoMemory;
 use mark_types::{Asker, Judge};
 use std::alloc::Global;
 use std::marker::Model;

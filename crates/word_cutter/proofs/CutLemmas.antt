@@ -10,13 +10,13 @@ use Rattle.std.proofs.lemmas.List.Splits.{slice_split_at, slice_split_none}
 use Rattle.std.proofs.lemmas.List.Elements.{All-from_recursion}
 use Rattle.std.proofs.lemmas.Str.{len_utf8_bounds, length-encode, IsUtf8-past_char}
 use Rattle.std.proofs.Math.Seq.{drop-append_seam}
-use Rattle.lists.specs.Laws.{each-append, byte_length-cons, byte_length-append}
+use Rattle.mark_types.specs.lists.Laws.{each-append, byte_length-cons, byte_length-append}
 use Rattle.mark_types.specs.Characters.{is_letter_or_digit}
 use Rattle.mark_types.specs.Words.{Word, Placed, placed, belongs, first_of, characters_of}
 use Rattle.mark_types.specs.Words.{byte_count, word_of, is_outside}
 use Rattle.word_cutter.specs.Runs.{LeavesLess, has_some, words_from, words_after, words_from_found}
 use Rattle.word_cutter.specs.declared.Rest.{Rest}
-use Rattle.word_cutter.specs.declared.Found.{Found}
+use Rattle.word_cutter.specs.declared.FoundWord.{FoundWord}
 
 abbrev BeginsAt : ℕ → List Placed → Type 0
 BeginsAt from [] = Unit {0}
@@ -269,7 +269,7 @@ walk-over wordchars rest text behind at before from c is_word characters none wa
     }
 
 -- what was found: the run, and this is left behind it
-pub record IsFound (from to : ℕ) (behind : List ℕ) (at before : ℕ) (found : Found) : Type 0 where
+pub record IsFound (from to : ℕ) (behind : List ℕ) (at before : ℕ) (found : FoundWord) : Type 0 where
   pub from_is : found.from ≡ from
   pub to_is : found.to ≡ to
   pub text_is : found.rest.text.now ≡ behind
@@ -277,7 +277,7 @@ pub record IsFound (from to : ℕ) (behind : List ℕ) (at before : ℕ) (found 
   pub before_is : found.rest.before ≡ before
 
 words-found : (wordchars : List ℕ) (from to : ℕ) (characters behind : List ℕ) (at before : ℕ)
-    (found : Found) → IsFound from to behind at before found
+    (found : FoundWord) → IsFound from to behind at before found
     → to ≡ from + byte_count characters → true ≡ list_any is_letter_or_digit characters
     → words_from_found wordchars characters (Some found) ≡ cons_option (word_at from characters)
     (words_behind wordchars [] at before (chars behind))
@@ -295,7 +295,7 @@ words-found wordchars from to characters behind at before found is ends some =
 
 -- a word behind which a character stands that is outside
 pub walk-found : (wordchars : List ℕ) (rest : Rest) (text behind : List ℕ) (at before from c : ℕ)
-    (is_word : Bool) (characters : List ℕ) (found : Found)
+    (is_word : Bool) (characters : List ℕ) (found : FoundWord)
     → Walks wordchars rest text at before from is_word characters → IsFirst text c behind
     → belongs wordchars before c (first_of (chars behind)) ≡ false
     → is_word ≡ true → IsFound from at behind (at + len_utf8 c) c found
@@ -308,7 +308,7 @@ walk-found wordchars rest text behind at before from c is_word characters found 
 
 -- a word at the end
 pub walk-ends : (wordchars : List ℕ) (rest : Rest) (text : List ℕ) (at before from : ℕ)
-    (is_word : Bool) (characters : List ℕ) (found : Found)
+    (is_word : Bool) (characters : List ℕ) (found : FoundWord)
     → Walks wordchars rest text at before from is_word characters → chars text ≡ [] → is_word ≡ true
     → IsFound from at text at before found
     → words_from_found wordchars characters (Some found) ≡ words_after wordchars rest
@@ -345,7 +345,7 @@ some-bytes (c ∷ characters) some =
 -- a word that is found lies behind the start of what was left, and what is left behind it is the
 -- rest of that
 pub walk-leaves-less : (wordchars : List ℕ) (rest : Rest) (text behind : List ℕ)
-    (at before from now after : ℕ) (is_word : Bool) (characters : List ℕ) (found : Found)
+    (at before from now after : ℕ) (is_word : Bool) (characters : List ℕ) (found : FoundWord)
     → Walks wordchars rest text at before from is_word characters → is_word ≡ true
     → IsFound from at behind now after found
     → at ≤ now → now + length behind ≡ at + length text

@@ -11,7 +11,7 @@ use Rattle.mark_types.specs.Words.{Placed, first_of, characters_of}
 use Rattle.word_cutter.specs.Runs.{IsBehind, LeavesLess, words_from, words_after}
 use Rattle.word_cutter.specs.Runs.{words_from_found}
 use Rattle.word_cutter.specs.declared.Rest.{Rest}
-use Rattle.word_cutter.specs.declared.Found.{Found}
+use Rattle.word_cutter.specs.declared.FoundWord.{FoundWord}
 use Rattle.word_cutter.proofs.CharacterLemmas.{ascii-below, letter-ascii, letter-belongs}
 use Rattle.word_cutter.proofs.CharacterLemmas.{separator-outside}
 use Rattle.word_cutter.proofs.CutLemmas.{IsFirst, IsFound, Walks, first-size, first-back, back-on}
@@ -154,7 +154,7 @@ pass-letters wordchars rest (c ∷ letters) left led =
 
 -- letters behind which a separator stands are the first word
 pub letters-found : (wordchars : List ℕ) (rest : Rest) (letters left behind : List ℕ) (c : ℕ)
-    (found : Found)
+    (found : FoundWord)
     → IsLed rest letters left → IsFirst left c behind
     → not (is_word_character wordchars c || is_apostrophe c) ≡ true
     → IsFound rest.at (rest.at + length letters) behind (rest.at + length letters + len_utf8 c) c

@@ -5,7 +5,7 @@ use Rattle.std.specs.List.{filter_map, slice_split}
 use Rattle.std.specs.Str.{IsUtf8, chars}
 use Rattle.mark_types.specs.Words.{Word, placed, word_of, is_outside}
 use Rattle.word_cutter.specs.declared.Rest.{Rest}
-use Rattle.word_cutter.specs.declared.Found.{Found}
+use Rattle.word_cutter.specs.declared.FoundWord.{FoundWord}
 
 -- the words of the text from this byte of its paragraph on, behind the character `before`
 unfoldable pub words_from : List ℕ → ℕ → ℕ → List ℕ → List Word
@@ -17,11 +17,11 @@ unfoldable pub words_after : List ℕ → Rest → List Word
 words_after wordchars rest = words_from wordchars rest.at rest.before rest.text.now
 
 -- the word that was found, which has these characters
-abbrev pub found_word : List ℕ → Found → Word
+abbrev pub found_word : List ℕ → FoundWord → Word
 found_word characters found = record { from = found.from; to = found.to; characters = characters }
 
 -- the word that was found, if one was, with these characters, and those behind it
-abbrev pub words_from_found : List ℕ → List ℕ → Option Found → List Word
+abbrev pub words_from_found : List ℕ → List ℕ → Option FoundWord → List Word
 words_from_found wordchars characters None = []
 words_from_found wordchars characters (Some found) =
     found_word characters found ∷ words_after wordchars found.rest
@@ -39,7 +39,7 @@ pub record IsBehind (rest left : Rest) : Type 0 where
   pub utf8 : IsUtf8 rest.text.now → IsUtf8 left.text.now
 
 -- the word that was found stands in what was left, and leaves less of it
-pub record LeavesLess (rest : Rest) (found : Found) : Type 0 where
+pub record LeavesLess (rest : Rest) (found : FoundWord) : Type 0 where
   pub ordered : found.from ≤ found.to
   pub later : rest.at < found.rest.at
   pub behind : IsBehind rest found.rest

@@ -20,8 +20,8 @@ mod characters;
 use characters::{
     is_apostrophe, is_letter, is_letter_byte, is_letter_or_digit, is_separator, is_word_character,
 };
-use lists::NoMemory;
 use mark_types::Span;
+use mark_types::lists::NoMemory;
 use std::alloc::Global;
 
 /// What is left of a paragraph.
@@ -36,7 +36,7 @@ pub struct Rest<'a> {
 
 /// Where a word of a paragraph stands.
 #[derive(Clone, Copy)]
-pub struct Found<'a> {
+pub struct FoundWord<'a> {
     /// Its first byte in the paragraph, from 0, and the byte past its end.
     pub from: u32,
     pub to: u32,
@@ -89,7 +89,7 @@ pub fn next_word<'a>(
     wordchars: &[char],
     rest: Rest<'a>,
     word: &mut Vec<char>,
-) -> Result<Option<Found<'a>>, NoMemory>
+) -> Result<Option<FoundWord<'a>>, NoMemory>
     requires { rest.at + length rest.text.now < 2 ^ 32 }
     ensures words { IfOk result
         (λ found. words_from_found wordchars.now word.new.items found ≡ words_after wordchars.now
@@ -130,7 +130,7 @@ fn word_of_letters<'a>(
     wordchars: &[char],
     rest: Rest<'a>,
     word: &mut Vec<char>,
-) -> Result<Option<Found<'a>>, NoMemory>
+) -> Result<Option<FoundWord<'a>>, NoMemory>
     requires { rest.at + length rest.text.now < 2 ^ 32 }
     ensures words { IfOk result (λ found. IfSome found
         (λ one. words_from_found wordchars.now word.new.items (Some one)
@@ -145,7 +145,7 @@ fn word_of_letters<'a>(
         Some((c, behind)) if is_separator(wordchars, c) => {
             let to = rest.at + word.len() as u32;
             let at = to + c.len_utf8() as u32;
-            Ok(Some(Found {
+            Ok(Some(FoundWord {
                 from: rest.at,
                 to,
                 rest: Rest {
@@ -181,7 +181,7 @@ fn find_word<'a>(
     wordchars: &[char],
     rest: Rest<'a>,
     word: &mut Vec<char>,
-) -> Result<Option<Found<'a>>, NoMemory>
+) -> Result<Option<FoundWord<'a>>, NoMemory>
     requires { rest.at + length rest.text.now < 2 ^ 32 }
     ensures words { IfOk result
         (λ found. words_from_found wordchars.now word.new.items found ≡ words_after wordchars.now
@@ -206,7 +206,7 @@ fn find_word<'a>(
             word.push(c)?;
             is_word = is_word || is_letter_or_digit(c);
         } else if is_word {
-            return Ok(Some(Found {
+            return Ok(Some(FoundWord {
                 from,
                 to,
                 rest: Rest { text, at, before },
@@ -219,7 +219,7 @@ fn find_word<'a>(
     if !is_word {
         return Ok(None);
     }
-    Ok(Some(Found {
+    Ok(Some(FoundWord {
         from,
         to: at,
         rest: Rest { text, at, before },

@@ -12,7 +12,8 @@ use Rattle.spell_types.specs.Cases.{covered_by}
 use Rattle.spell_types.specs.Conditions.{is_one_of}
 use Rattle.spell_types.specs.Licences.{is_barred}
 use Rattle.spell_types.specs.Numbers.{is_number, undotted, is_dot}
-use Rattle.spell_types.specs.Yields.{accepts, is_broken_by, is_accepted_undotted, most_characters}
+use Rattle.spell_types.specs.Yields.{accepts, is_broken_by, is_accepted_undotted}
+use Rattle.spell_types.specs.Yields.{most_characters}
 use Rattle.break_points.specs.Judging.{is_base_by, is_barred_by}
 use Rattle.break_points.specs.Patterns.{BreakAlike}
 use Rattle.word_verdict.specs.Accepting.{is_accepted_short, is_accepted_before_dots}

@@ -2,7 +2,8 @@
 use Rattle.std.specs.Prelude.{ℕ, Bool, ◌||◌, List, [], ◌∷◌, if◌then◌else◌}
 use Rattle.std.specs.List.{list_any}
 use Rattle.spell_types.specs.declared.Lexicon.{Lexicon}
-use Rattle.spell_types.specs.Bases.{is_alone_in_case, asked_for, case_of, is_base}
+use Rattle.spell_types.specs.Bases.{is_alone_in_case, compound_question, case_of}
+use Rattle.spell_types.specs.Bases.{is_base}
 use Rattle.spell_types.specs.Bases.{is_right_spelling}
 use Rattle.spell_types.specs.Cases.{covered_by}
 use Rattle.spell_types.specs.Compounds.{is_compound}
@@ -23,7 +24,7 @@ abbrev pub is_alone_or_compound : Lexicon → List ℕ → List ℕ → Bool
 is_alone_or_compound lexicon written spelling =
     is_derived (is_alone_in_case (case_of lexicon.affixes.options.sharps written spelling)) lexicon
     spelling
-    || is_compound (asked_for lexicon written spelling) spelling
+    || is_compound (compound_question lexicon written spelling) spelling
 
 -- the spellings but the first one, which is the word as it is written
 abbrev pub behind_first : List (List ℕ) → List (List ℕ)

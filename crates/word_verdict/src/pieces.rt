@@ -3,9 +3,11 @@
 ghost use Rattle.std.specs.Prelude.{◌≡◌, ◌||◌, not, true, IfOk};
 ghost use Rattle.std.specs.List.{list_any};
 ghost use Rattle.compound_words.specs.Prepared.{AreCompoundsOf};
-ghost use Rattle.spell_types.specs.Bases.{asked_for, case_of, holds_character, is_right_spelling};
+ghost use Rattle.spell_types.specs.Bases.{compound_question, case_of, holds_character};
+ghost use Rattle.spell_types.specs.Bases.{is_right_spelling};
 ghost use Rattle.spell_types.specs.Bases.{is_sharp_case};
-ghost use Rattle.spell_types.specs.Cases.{begins_upper, first_lowered, has_lower, is_same_word};
+ghost use Rattle.spell_types.specs.Cases.{begins_upper, first_lowered, has_lower};
+ghost use Rattle.spell_types.specs.Cases.{is_same_word};
 ghost use Rattle.spell_types.specs.Compounds.{is_compound};
 ghost use Rattle.word_verdict.specs.Judging.{judged, is_alone_or_compound, covers_right_spelling};
 
@@ -13,7 +15,7 @@ use affix_strip::Stems;
 use break_points::Judged;
 use compound_words::Compounds;
 use letter_case::{begins_upper, covered, has_lower, low};
-use lists::NoMemory;
+use mark_types::lists::NoMemory;
 use spell_types::{Case, Chars};
 use std::alloc::Global;
 
@@ -185,7 +187,7 @@ fn is_compound(
 ) -> Result<bool, NoMemory>
     requires { AreCompoundsOf dictionary.now.stems.now dictionary.now.compounds.now }
     ensures { IfOk result (λ answer.
-        answer ≡ is_compound (asked_for dictionary.now.stems.now written.now spelling.now)
+        answer ≡ is_compound (compound_question dictionary.now.stems.now written.now spelling.now)
         spelling.now) }
 {
     let by_case = spelling != written;

@@ -11,7 +11,7 @@ ghost use Rattle.word_verdict.specs.Accepting.{is_accepted_short, is_accepted_be
 use crate::numbers::{is_number, undotted};
 use crate::pieces::{Prepared, judge_piece};
 use break_points::Breaks;
-use lists::NoMemory;
+use mark_types::lists::NoMemory;
 use spell_types::Lexicon;
 use std::alloc::Global;
 

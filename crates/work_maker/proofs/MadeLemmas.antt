@@ -13,7 +13,7 @@ use Rattle.std.proofs.lemmas.List.{take_min, map_push}
 use Rattle.std.proofs.lemmas.List.Concat.{flat_map-append}
 use Rattle.std.proofs.lemmas.List.FromFn.{map-range_with_len_more, take-map-range_with_len}
 use Rattle.std.proofs.lemmas.List.FromFn.{length-map-range_with_len}
-use Rattle.work_maker.specs.Made.{ended, entry_of, drawn, drawn_after, drawn_word, words_of}
+use Rattle.work_maker.specs.Made.{ended, made_entry, drawn, drawn_after, drawn_word, made_words}
 use Rattle.work_maker.specs.Made.{text_bytes}
 
 ended-push : (lines : List (List ℕ)) (line : List ℕ) → ended (lines ++ line ∷ []) ≡ ended lines
@@ -26,12 +26,12 @@ ended-push lines line =
 
 -- one entry more
 pub dic_bytes-more : (size number : ℕ)
-    → ended (decimal size ∷ map entry_of (range_with_len 0 (number + 1)))
-    ≡ ended (decimal size ∷ map entry_of (range_with_len 0 number)) ++ (entry_of number ++ 10 ∷ [])
+    → ended (decimal size ∷ map made_entry (range_with_len 0 (number + 1)))
+    ≡ ended (decimal size ∷ map made_entry (range_with_len 0 number)) ++ (made_entry number ++ 10 ∷ [])
 dic_bytes-more size number =
     ap (λ entries. ended (decimal size ∷ entries))
-    (map-range_with_len_more entry_of 0 number number (omega arith))
-    ∙ ended-push (decimal size ∷ map entry_of (range_with_len 0 number)) (entry_of number)
+    (map-range_with_len_more made_entry 0 number number (omega arith))
+    ∙ ended-push (decimal size ∷ map made_entry (range_with_len 0 number)) (made_entry number)
 
 -- ---- the text
 
@@ -176,7 +176,7 @@ text_bytes-run start size =
     let whole : min ((size + 9) / 10 * 10) size ≡ size = omega arith in
     ap (λ n. ended
     (map (join_with_byte 32)
-    (map (slice_chunk (words_of start size) 10) (range_with_len 0 ((n + 9) / 10)))))
+    (map (slice_chunk (made_words start size) 10) (range_with_len 0 ((n + 9) / 10)))))
     (length-map-range_with_len word 1 size)
     ∙ lines-run word size ((size + 9) / 10) (omega arith)
     ∙ ap (run word size 1) whole

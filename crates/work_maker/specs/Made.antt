@@ -5,7 +5,7 @@ use Rattle.std.specs.Prelude.{map, codes}
 use Rattle.std.specs.Fmt.{decimal}
 use Rattle.std.specs.Fork.{slice_chunk}
 use Rattle.std.specs.List.{flat_map, range_with_len, join_with_byte}
-use Rattle.work_maker.specs.Words.{stem_of, kind_of, flags_of, word_of}
+use Rattle.work_maker.specs.Words.{made_stem, kind_with_number, made_flags, made_word}
 
 -- lines, each with the line feed that ends it
 abbrev pub ended : List (List ℕ) → List ℕ
@@ -23,12 +23,12 @@ aff_bytes = ended
     ∷ [])
 
 -- the entry with a number from 0: the stem with that number, and flags of each kind in turn
-abbrev pub entry_of : ℕ → List ℕ
-entry_of number = stem_of number ++ flags_of (kind_of (number % 4))
+abbrev pub made_entry : ℕ → List ℕ
+made_entry number = made_stem number ++ made_flags (kind_with_number (number % 4))
 
 -- the size as the first line, and then so many entries
 unfoldable pub dic_bytes : ℕ → List ℕ
-dic_bytes size = ended (decimal size ∷ map entry_of (range_with_len 0 size))
+dic_bytes size = ended (decimal size ∷ map made_entry (range_with_len 0 size))
 
 -- what is drawn next after a number
 abbrev pub drawn_after : ℕ → ℕ
@@ -42,11 +42,11 @@ drawn start (suc before) = drawn_after (drawn start before)
 -- the word that a drawn number stands for: its highest two bits tell the kind, and what is left
 -- without its lowest four the stem
 abbrev pub drawn_word : ℕ → ℕ → List ℕ
-drawn_word size number = word_of (kind_of (number / 2 ^ 18)) (stem_of (number / 16 % size))
+drawn_word size number = made_word (kind_with_number (number / 2 ^ 18)) (made_stem (number / 16 % size))
 
 -- the words of the text, numbered from 1
-abbrev pub words_of : ℕ → ℕ → List (List ℕ)
-words_of start size = map (λ place. drawn_word size (drawn start place)) (range_with_len 1 size)
+abbrev pub made_words : ℕ → ℕ → List (List ℕ)
+made_words start size = map (λ place. drawn_word size (drawn start place)) (range_with_len 1 size)
 
 -- lists in tens, of which the last may be shorter
 abbrev pub in_tens : List (List ℕ) → List (List (List ℕ))
@@ -55,4 +55,4 @@ in_tens words =
 
 -- the words, ten in a line, with a space between each two
 unfoldable pub text_bytes : ℕ → ℕ → List ℕ
-text_bytes start size = ended (map (join_with_byte 32) (in_tens (words_of start size)))
+text_bytes start size = ended (map (join_with_byte 32) (in_tens (made_words start size)))

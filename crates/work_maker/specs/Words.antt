@@ -13,22 +13,22 @@ syllable number =
 
 -- the stem with a number: a syllable for each of its three lowest digits in base 50, the lowest
 -- first
-abbrev pub stem_of : ℕ → List ℕ
-stem_of number =
+abbrev pub made_stem : ℕ → List ℕ
+made_stem number =
     syllable (number % 50) ++ (syllable (number / 50 % 50) ++ syllable (number / 2500 % 50))
 
 -- the kind with a number below 4
-abbrev pub kind_of : ℕ → Kind
-kind_of number =
+abbrev pub kind_with_number : ℕ → Kind
+kind_with_number number =
     if number == 0 then Bare
     else (if number == 1 then Prefixed else (if number == 2 then Suffixed else Both))
 
 -- the flags of the affixes that an entry of a kind may take
-abbrev pub flags_of : Kind → List ℕ
-flags_of Bare = []
-flags_of Prefixed = codes "/A"
-flags_of Suffixed = codes "/B"
-flags_of Both = codes "/AB"
+abbrev pub made_flags : Kind → List ℕ
+made_flags Bare = []
+made_flags Prefixed = codes "/A"
+made_flags Suffixed = codes "/B"
+made_flags Both = codes "/AB"
 
 -- a stem with the suffix: it ends in `n`, or, where the stem ends in `a`, in `en` instead of that
 abbrev pub suffixed : List ℕ → List ℕ
@@ -37,8 +37,8 @@ suffixed stem =
     else stem ++ codes "n"
 
 -- the word of a kind from a stem
-abbrev pub word_of : Kind → List ℕ → List ℕ
-word_of Bare stem = stem
-word_of Prefixed stem = codes "re" ++ stem
-word_of Suffixed stem = suffixed stem
-word_of Both stem = codes "re" ++ suffixed stem
+abbrev pub made_word : Kind → List ℕ → List ℕ
+made_word Bare stem = stem
+made_word Prefixed stem = codes "re" ++ stem
+made_word Suffixed stem = suffixed stem
+made_word Both stem = codes "re" ++ suffixed stem

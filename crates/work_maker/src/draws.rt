@@ -2,7 +2,7 @@
 
 ghost use Rattle.std.specs.Prelude.{◌≡◌, ◌≤◌, ◌<◌, ◌/◌, ◌%◌, ◌^◌};
 ghost use Rattle.work_maker.specs.Made.{drawn_after};
-ghost use Rattle.work_maker.specs.Words.{kind_of};
+ghost use Rattle.work_maker.specs.Words.{kind_with_number};
 
 use crate::words::Kind;
 
@@ -45,7 +45,7 @@ impl Draw {
 
     /// The kind of the word that is drawn.
     pub fn kind(self) -> Kind
-        ensures { result ≡ kind_of (self.number / 2 ^ 18) }
+        ensures { result ≡ kind_with_number (self.number / 2 ^ 18) }
     {
         Kind::of(self.number / DRAWS_OF_A_KIND)
     }

@@ -7,8 +7,6 @@ ghost use Rattle.std.specs.Prelude.{IfOk};
 ghost use Rattle.work_maker.specs.Made.{aff_bytes, dic_bytes, text_bytes};
 
 mod draws;
-#[cfg(test)]
-mod tests;
 mod words;
 
 use draws::Draw;

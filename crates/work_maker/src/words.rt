@@ -1,8 +1,9 @@
 //! Stems, entries and words.
 
 ghost use Rattle.std.specs.Prelude.{◌≡◌, ◌≤◌, ◌<◌, ◌+◌, ◌++◌, length, OnOk};
-ghost use Rattle.work_maker.specs.Made.{entry_of};
-ghost use Rattle.work_maker.specs.Words.{syllable, stem_of, kind_of, flags_of, suffixed, word_of};
+ghost use Rattle.work_maker.specs.Made.{made_entry};
+ghost use Rattle.work_maker.specs.Words.{syllable, made_stem, kind_with_number, made_flags};
+ghost use Rattle.work_maker.specs.Words.{suffixed, made_word};
 
 use std::alloc::AllocError;
 
@@ -24,12 +25,12 @@ pub enum Kind {
 }
 
 impl Kind {
-    ghost use Rattle.work_maker.specs.Words.{kind_of, flags_of};
+    ghost use Rattle.work_maker.specs.Words.{kind_with_number, made_flags};
 
     /// The kind with this number.
     pub fn of(number: u32) -> Kind
         requires { number < 4 }
-        ensures { result ≡ kind_of number }
+        ensures { result ≡ kind_with_number number }
     {
         match number {
             0 => Kind::Bare,
@@ -41,7 +42,7 @@ impl Kind {
 
     /// The flags behind an entry that may take these affixes.
     fn flags(self) -> &'static [u8]
-        ensures { result.now ≡ flags_of self }
+        ensures { result.now ≡ made_flags self }
     {
         match self {
             Kind::Bare => b"",
@@ -54,7 +55,7 @@ impl Kind {
 
 /// Adds the entry with this number to a dictionary.
 pub fn push_entry(made: &mut Vec<u8>, number: u32) -> Result<(), AllocError>
-    ensures bytes { OnOk result (made.new.items ≡ made.old.items ++ entry_of number) }
+    ensures bytes { OnOk result (made.new.items ≡ made.old.items ++ made_entry number) }
     ensures small { OnOk result (length made.new.items ≤ length made.old.items + 9) }
 {
     made.extend_from_slice(&stem(number))?;
@@ -63,7 +64,7 @@ pub fn push_entry(made: &mut Vec<u8>, number: u32) -> Result<(), AllocError>
 
 /// Adds the word of this kind from the stem with this number to a text.
 pub fn push_word(made: &mut Vec<u8>, kind: Kind, number: u32) -> Result<(), AllocError>
-    ensures bytes { OnOk result (made.new.items ≡ made.old.items ++ word_of kind (stem_of number)) }
+    ensures bytes { OnOk result (made.new.items ≡ made.old.items ++ made_word kind (made_stem number)) }
     ensures small { OnOk result (length made.new.items ≤ length made.old.items + 9) }
 {
     let stem = stem(number);
@@ -101,7 +102,7 @@ fn push_suffixed(made: &mut Vec<u8>, stem: &[u8]) -> Result<(), AllocError>
 
 /// The letters of the stem with this number, which is read as three digits.
 fn stem(number: u32) -> [u8; 6]
-    ensures { result ≡ stem_of number }
+    ensures { result ≡ made_stem number }
 {
     let [first, second] = syllable(number % SYLLABLES);
     let [third, fourth] = syllable(number / SYLLABLES % SYLLABLES);

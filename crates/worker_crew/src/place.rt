@@ -6,7 +6,7 @@ use std::sync::Wait;
 
 /// What the work over a desk needs beside its dictionary and what is outside.
 #[derive(Drop)]
-pub struct Place<'a, R: Wait, G: Gate> {
+pub struct Workplace<'a, R: Wait, G: Gate> {
     pub rt: &'a R,
     pub alloc: Global,
     /// Each check of a worker passes it.

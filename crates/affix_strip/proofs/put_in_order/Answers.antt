@@ -4,11 +4,11 @@ use Rattle.std.specs.Ordering.{is_lt}
 use Rattle.std.proofs.lemmas.List.Filters.{dedup_is}
 use Rattle.std.proofs.lemmas.List.Sorted.{ranks_by, answers_always}
 use Rattle.spell_types.specs.declared.derivations.Derivation.{Derivation}
-use Rattle.affix_strip.specs.Found.{derivation_cmp, AreInOrder}
+use Rattle.affix_strip.specs.Found.{derivation_cmp, AreDerivationsInOrder}
 use Rattle.affix_strip.proofs.SameLemmas.{derivations-total, in-order, same-ties, same-is}
 use Rattle.affix_strip.proofs.put_in_order.Goals as goal
 
-both : (c : goal.After-dedup) → AreInOrder c.dedup.new.self.items
+both : (c : goal.After-dedup) → AreDerivationsInOrder c.dedup.new.self.items
     × ((d : Derivation) → Contains c.dedup.new.self.items d ↔ Contains c.args.found.now.items d)
 both c =
     in-order _ same-ties same-is c.args.found.now.items c.sort_unstable_by.new.self.items

@@ -7,7 +7,7 @@ use Rattle.std.proofs.lemmas.Fn.{says_at}
 use Rattle.std.proofs.lemmas.List.Folds.{list_any_at}
 use Rattle.break_points.specs.declared.occurrences.Occurrence.{Occurrence}
 use Rattle.break_points.specs.Occurrences.{way_by, way_passes}
-use Rattle.break_points.specs.Pieces.{all_left, is_broken_by, is_shorter}
+use Rattle.break_points.specs.Pieces.{all_left, is_broken_as_judged, is_shorter}
 use Rattle.break_points.proofs.Deciding.{ok_weaker, base_decided, barred_decided, parts_decided}
 use Rattle.break_points.proofs.Deciding.{behind_same, before_same, front_within, both_decided}
 use Rattle.break_points.proofs.OccurrenceWays.{occurrences_decide, way-shorter}
@@ -55,13 +55,13 @@ pub decide_parts-returns-then-branch : goal.decide_parts-returns-then-branch
 decide_parts-returns-then-branch g t c = λ judged breaks answers are right.
     let so_far = c.loop-occurrence.invariant judged breaks answers are right in
     let here = c.in_ok-decide_way.ensures judged breaks answers are so_far.1 in
-    let test = all_left (is_broken_by judged breaks)
+    let test = all_left (is_broken_as_judged judged breaks)
     (slice_range c.args.word.now c.args.piece.from c.args.piece.to) in (
       sym (list_any_at (λ occurrence. way_passes test (way_by occurrence c.args.piece))
           c.args.occurrences.now c.loop-occurrence.occurrence-index
           (record { place = 0; len = 0; front = false; back = false }) (omega arith)
           (ap (way_passes test) (sym c.in-Some.ensures) ∙ sym here.0 ∙ c.if-branch.true))
-          ∙ occurrences_decide (is_broken_by judged breaks) breaks c.args.word.now
+          ∙ occurrences_decide (is_broken_as_judged judged breaks) breaks c.args.word.now
           c.args.occurrences.now c.args.piece c.requires.within are,
       here.1,
     )
@@ -69,11 +69,11 @@ decide_parts-returns-then-branch g t c = λ judged breaks answers are right.
 pub decide_parts-returns : goal.decide_parts-returns
 decide_parts-returns g t c = λ judged breaks answers are right.
     let so_far = c.loop-occurrence.invariant judged breaks answers are right in
-    let test = all_left (is_broken_by judged breaks)
+    let test = all_left (is_broken_as_judged judged breaks)
     (slice_range c.args.word.now c.args.piece.from c.args.piece.to) in (
       sym so_far.0 ∙ ap (list_any (λ occurrence. way_passes test (way_by occurrence c.args.piece)))
           (take_all c.loop-occurrence.occurrence-index c.args.occurrences.now (omega arith))
-          ∙ occurrences_decide (is_broken_by judged breaks) breaks c.args.word.now
+          ∙ occurrences_decide (is_broken_as_judged judged breaks) breaks c.args.word.now
           c.args.occurrences.now c.args.piece c.requires.within are,
       so_far.1,
     )
@@ -82,7 +82,7 @@ pub decide_way-returns-in-Behind : goal.decide_way-returns-in-Behind
 decide_way-returns-in-Behind g t c = λ judged breaks answers are right.
     let word = c.args.word.now in
     let piece = slice_range word c.args.piece.from c.args.piece.to in
-    let test = is_broken_by judged breaks in
+    let test = is_broken_as_judged judged breaks in
     ok_weaker c.decide-in-Behind.result _ _
     (λ answer p. (
       p.0 ∙ ap test
@@ -98,7 +98,7 @@ pub decide_way-returns-in_ok-decide-in-Between-2 :
 decide_way-returns-in_ok-decide-in-Between-2 g t c = λ judged breaks answers are right.
     let word = c.args.word.now in
     let piece = slice_range word c.args.piece.from c.args.piece.to in
-    let test = is_broken_by judged breaks in
+    let test = is_broken_as_judged judged breaks in
     let first = c.in_ok-decide-in-Between.ensures judged breaks answers are right in
     let second = c.in_ok-decide-in-Between-2.ensures judged breaks answers are first.1 in
     let within =

@@ -6,7 +6,7 @@ use Rattle.spell_types.specs.declared.breaks.Anchored.{Anchored}
 use Rattle.break_points.specs.declared.Judged.{Judged}
 use Rattle.break_points.specs.Judging.{AnswersAs}
 use Rattle.break_points.specs.Occurrences.{AreOccurrences, way_by, way_passes}
-use Rattle.break_points.specs.Pieces.{is_broken_piece, is_broken_by, IsRight, all_left}
+use Rattle.break_points.specs.Pieces.{is_broken_piece, is_broken_as_judged, IsTableRight, all_left}
 use Rattle.break_points.proofs.+deciding.Given as goal
 
 abbrev pub decreases-decide : goal.decreases-decide
@@ -25,10 +25,10 @@ abbrev pub invariant-decide_parts-loop-occurrence : goal.invariant-decide_parts-
 invariant-decide_parts-loop-occurrence g l =
     (judged : List ℕ → Judged) (breaks : List Anchored)
     → AnswersAs (FnReturnsAt g.F.Fn l.judge) judged → AreOccurrences breaks l.word l.occurrences
-    → IsRight (is_broken_piece judged breaks l.word) l.fn.table
+    → IsTableRight (is_broken_piece judged breaks l.word) l.fn.table
     → (list_any
     (λ occurrence.
-    way_passes (all_left (is_broken_by judged breaks)
+    way_passes (all_left (is_broken_as_judged judged breaks)
     (slice_range l.word l.piece.from l.piece.to)) (way_by occurrence l.piece))
     (take l.occurrence-index l.occurrences) ≡ false)
-    × IsRight (is_broken_piece judged breaks l.word) l.table
+    × IsTableRight (is_broken_piece judged breaks l.word) l.table

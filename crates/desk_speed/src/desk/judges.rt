@@ -1,7 +1,7 @@
 //! A judge for boards on which nothing is checked.
 
-use lists::NoMemory;
 use mark_types::Judge;
+use outside::lists::NoMemory;
 use std::alloc::Global;
 
 /// The judge of a dictionary without words, which finds no memory for any answer.
@@ -9,7 +9,7 @@ use std::alloc::Global;
 pub(super) struct Mute;
 
 impl Judge for Mute {
-    ghost use Rattle.spell_types.specs.Blank.{blank_lexicon};
+    ghost use Rattle.mark_types.specs.spell_types.Blank.{blank_lexicon};
 
     ghost lexicon = { λ _. blank_lexicon };
 

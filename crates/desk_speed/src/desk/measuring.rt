@@ -1,20 +1,20 @@
 //! Threads that publish and threads that look, over one desk.
 
 ghost use Rattle.std.specs.Prelude.{◌≡◌, ◌<◌, ◌≤◌};
-ghost use Rattle.edit_core.specs.Seen.{IsOpening};
+ghost use Rattle.board_share.specs.edit_core.Seen.{IsOpening};
 ghost use Rattle.board_share.specs.Namings.{IsNamed};
 
 use super::judges::Mute;
 use super::seats::{Rates, Seat};
+use board_share::edit_core::{Board, Event};
+use board_share::paragraph_text::Edit;
 use board_share::{Blank, Desk, Eye, Naming};
-use edit_core::{Board, Event};
-use lists::NoMemory;
-use paragraph_text::Edit;
+use mark_types::text_lines::Text;
+use outside::lists::NoMemory;
 use std::alloc::Global;
 use std::sync::Wait;
 use std::thread::{Threads, for_each_mut};
 use std::time::{Clock, Instant};
-use text_lines::Text;
 
 /// How many looks are timed one by one, at most.
 const MOST_LOOKS: usize = 1_000_000;

@@ -1,17 +1,17 @@
 //! What each thread has, and what is printed of all.
 
 ghost use Rattle.std.specs.Prelude.{IfOk};
-ghost use Rattle.edit_core.specs.Seen.{IsOpening};
+ghost use Rattle.board_share.specs.edit_core.Seen.{IsOpening};
 
 use super::judges::Mute;
 use super::measuring::Work;
+use board_share::edit_core::Board;
 use board_share::{Eye, Naming};
-use edit_core::Board;
-use lists::NoMemory;
+use mark_types::text_lines::Text;
+use outside::lists::NoMemory;
 use std::alloc::Global;
 use std::io;
 use std::sync::Arc;
-use text_lines::Text;
 
 /// How many paragraphs the board has.
 const PARAGRAPHS: u32 = 20_000;

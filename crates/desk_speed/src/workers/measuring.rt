@@ -1,18 +1,18 @@
 //! Threads that check and threads that edit, over one desk.
 
 ghost use Rattle.std.specs.Prelude.{◌≡◌, ◌<◌, ◌≤◌};
-ghost use Rattle.edit_core.specs.Seen.{IsOpening};
+ghost use Rattle.board_share.specs.edit_core.Seen.{IsOpening};
 ghost use Rattle.board_share.specs.Namings.{IsNamed};
 
-use super::rates::{Rates, rates_of};
-use super::seats::{Run, Seat, Tally};
+use super::rates::{WorkerRates, rates_of};
+use super::seats::{Run, Tally, WorkerSeat};
 use super::turns::{edit_all, work_all};
+use board_share::edit_core::Board;
 use board_share::{Blank, Desk, Eye, Naming};
 use check_workers::Worker;
-use edit_core::Board;
 use edit_session::Session;
-use lists::NoMemory;
 use mark_types::Judge;
+use outside::lists::NoMemory;
 use std::alloc::Global;
 use std::sync::Wait;
 use std::sync::atomic::Ordering;
@@ -31,7 +31,7 @@ pub(super) fn measured<
     run: &Run,
     eyes: u32,
     blank: Blank<J>,
-) -> Result<Rates, NoMemory>
+) -> Result<WorkerRates, NoMemory>
     requires eyes { (0 < eyes) × (eyes ≤ 64) }
     requires opens { IsOpening opening }
     requires named { IsNamed blank opening D.name D.parts D.book D.opening }
@@ -47,7 +47,7 @@ pub(super) fn measured<
 fn seats_of<J: Judge + Drop, D: Naming>(
     alloc: Global,
     eyes: Vec<Eye<J, D>>,
-) -> Result<Vec<Seat<J, D>>, NoMemory> {
+) -> Result<Vec<WorkerSeat<J, D>>, NoMemory> {
     let mut seats = Vec::new(alloc);
     for eye in eyes {
         let mut eyes = Vec::new(alloc);
@@ -60,7 +60,7 @@ fn seats_of<J: Judge + Drop, D: Naming>(
             nanos: 0,
             inside: 0,
         };
-        let seat = Seat {
+        let seat = WorkerSeat {
             eyes,
             tally,
             failed: false,
@@ -76,13 +76,13 @@ fn act_at_once<
     D: Naming + Send + Sync,
     W: Wait + Drop + Send + Sync,
     R: Threads + Wait + Clock + Sync,
->(rt: &R, alloc: Global, desk: &Desk<J, D, W>, run: &Run, seats: &mut [Seat<J, D>]) {
+>(rt: &R, alloc: Global, desk: &Desk<J, D, W>, run: &Run, seats: &mut [WorkerSeat<J, D>]) {
     let threads = seats.len().max(1);
     for_each_mut(
         rt,
         seats,
         threads,
-        &|place: usize, seat: &mut Seat<J, D>| {
+        &|place: usize, seat: &mut WorkerSeat<J, D>| {
             if place < run.work.workers as usize {
                 seat.failed = work(rt, alloc, desk, run, place, seat).is_none();
                 run.working.fetch_sub(1, Ordering::SeqCst);
@@ -100,7 +100,7 @@ fn work<J: Judge + Drop, D: Naming, W: Wait + Drop, R: Wait + Clock>(
     desk: &Desk<J, D, W>,
     run: &Run,
     place: usize,
-    seat: &mut Seat<J, D>,
+    seat: &mut WorkerSeat<J, D>,
 ) -> Option<()> {
     let number = u32::try_from(place).ok()?;
     let mut worker = Worker::new(desk, seat.eyes.pop()?, number);
@@ -115,7 +115,7 @@ fn edit<J: Judge + Drop, D: Naming, W: Wait + Drop, R: Wait + Clock>(
     desk: &Desk<J, D, W>,
     run: &Run,
     place: usize,
-    seat: &mut Seat<J, D>,
+    seat: &mut WorkerSeat<J, D>,
 ) -> Option<()> {
     let behind = u64::try_from(place.checked_sub(run.work.workers as usize)?).ok()?;
     let id = run.paragraphs.checked_sub(1)?.checked_sub(behind)?;

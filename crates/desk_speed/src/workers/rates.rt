@@ -1,6 +1,6 @@
 //! What all threads did together, and how it is printed.
 
-use super::seats::{Seat, Tally, Work};
+use super::seats::{Tally, WorkerSeat, WorkersWork};
 use board_share::Naming;
 use mark_types::Judge;
 use std::io;
@@ -14,7 +14,7 @@ pub(super) struct Rate {
 
 /// What the workers did together, and the sessions.
 #[derive(Clone, Copy)]
-pub(super) struct Rates {
+pub(super) struct WorkerRates {
     pub(super) claimed: Rate,
     pub(super) finished: Rate,
     pub(super) edited: Rate,
@@ -49,8 +49,11 @@ impl Rate {
 }
 
 /// What all threads did. The workers have the first places.
-pub(super) fn rates_of<J: Judge + Drop, D: Naming>(seats: &[Seat<J, D>], work: Work) -> Rates {
-    let mut rates = Rates {
+pub(super) fn rates_of<J: Judge + Drop, D: Naming>(
+    seats: &[WorkerSeat<J, D>],
+    work: WorkersWork,
+) -> WorkerRates {
+    let mut rates = WorkerRates {
         claimed: Rate::NONE,
         finished: Rate::NONE,
         edited: Rate::NONE,
@@ -70,7 +73,7 @@ pub(super) fn rates_of<J: Judge + Drop, D: Naming>(seats: &[Seat<J, D>], work: W
 }
 
 /// What a thread did, beside what others did.
-fn with(rates: Rates, tally: Tally) -> Rates {
+fn with(rates: WorkerRates, tally: Tally) -> WorkerRates {
     let Tally {
         claimed,
         finished,
@@ -79,7 +82,7 @@ fn with(rates: Rates, tally: Tally) -> Rates {
         nanos,
         inside,
     } = tally;
-    Rates {
+    WorkerRates {
         claimed: rates.claimed.and(claimed, nanos),
         finished: rates.finished.and(finished, nanos),
         edited: rates.edited.and(edited, nanos),
@@ -90,11 +93,11 @@ fn with(rates: Rates, tally: Tally) -> Rates {
 }
 
 /// Prints what was done; how fast, where a time was asked for.
-pub(super) fn print(rt: &impl Print, work: Work, rates: &Rates) -> io::Result<()> {
+pub(super) fn print(rt: &impl Print, work: WorkersWork, rates: &WorkerRates) -> io::Result<()> {
     if rates.failed {
         println!(rt; "a thread failed")?;
     }
-    let Rates {
+    let WorkerRates {
         claimed,
         finished,
         edited,

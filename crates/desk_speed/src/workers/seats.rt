@@ -1,18 +1,18 @@
 //! The text, its dictionary, and what each thread has.
 
 ghost use Rattle.std.specs.Prelude.{IfOk};
-ghost use Rattle.edit_core.specs.Seen.{IsOpening};
+ghost use Rattle.board_share.specs.edit_core.Seen.{IsOpening};
 
 use anyhow::Context;
+use board_share::edit_core::Board;
 use board_share::{Eye, Naming};
-use edit_core::Board;
 use mark_types::Judge;
+use mark_types::text_lines::Text;
 use outside::{Files, load_file};
 use own_dictionary::load;
 use std::alloc::Global;
 use std::sync::Arc;
 use std::sync::atomic::{AtomicU32, AtomicU64};
-use text_lines::Text;
 use word_verdict::Speller;
 
 /// How many bytes a file with a text has at most.
@@ -20,7 +20,7 @@ const MOST_BYTES: u64 = 16_777_216;
 
 /// What is asked for.
 #[derive(Clone, Copy)]
-pub(crate) struct Work {
+pub(crate) struct WorkersWork {
     pub(super) workers: u32,
     /// How many sessions edit meanwhile.
     pub(super) sessions: u32,
@@ -31,7 +31,7 @@ pub(crate) struct Work {
 /// What all threads share beside the desk.
 #[derive(Drop)]
 pub(super) struct Run {
-    pub(super) work: Work,
+    pub(super) work: WorkersWork,
     /// How many paragraphs the text has, and so how many checks are to be finished.
     pub(super) paragraphs: u64,
     pub(super) finished: AtomicU64,
@@ -40,7 +40,7 @@ pub(super) struct Run {
 }
 
 impl Run {
-    pub(super) fn new(work: Work, paragraphs: u64) -> Run {
+    pub(super) fn new(work: WorkersWork, paragraphs: u64) -> Run {
         Run {
             work,
             paragraphs,
@@ -66,7 +66,7 @@ pub(super) struct Tally {
 
 /// What a thread has: its eye, while no worker and no session has it, and what it did.
 #[derive(Drop)]
-pub(super) struct Seat<J: Judge + Drop, D: Naming> {
+pub(super) struct WorkerSeat<J: Judge + Drop, D: Naming> {
     pub(super) eyes: Vec<Eye<J, D>>,
     pub(super) tally: Tally,
     pub(super) failed: bool,

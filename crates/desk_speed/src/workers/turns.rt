@@ -4,18 +4,18 @@ ghost use Rattle.std.specs.Prelude.{IfSome};
 ghost use Rattle.check_workers.specs.Knowing.{KnowsClaim};
 
 use super::seats::{Run, Tally};
+use board_share::edit_core::Refusal;
+use board_share::paragraph_text::Edit;
 use board_share::{Claim, Desk, Naming};
 use check_workers::{CheckEnd, Worker};
-use edit_core::Refusal;
 use edit_session::Session;
 use mark_types::Judge;
+use mark_types::text_lines::Text;
 use outside::FreeGate;
-use paragraph_text::Edit;
 use std::alloc::Global;
 use std::sync::Wait;
 use std::sync::atomic::Ordering;
 use std::time::{Clock, Instant};
-use text_lines::Text;
 
 /// A worker over a desk, and a session over it.
 pub(super) type Own<'a, J, D, W> = Worker<'a, J, D, Desk<J, D, W>>;

@@ -1,16 +1,17 @@
 //! Events of one eye or session that others see, on one thread and on several.
 
 ghost use Rattle.std.specs.Prelude.{◌≡◌};
-ghost use Rattle.edit_core.specs.Seen.{IsOpening};
+ghost use Rattle.board_share.specs.edit_core.Seen.{IsOpening};
 ghost use Rattle.board_share.specs.Eyes.{IsLater};
 ghost use Rattle.board_share.specs.Namings.{IsNamed};
 
-use super::makers::{Numbers, Scene, assert_plays, inserted, opening_of, replaced};
+use super::scenes::{Scene, assert_plays};
+use board_share::edit_core::{Board, Event, Refusal};
+use board_share::paragraph_text::Edit;
 use board_share::{Blank, Closed, Desk, Eye, Naming, Told};
-use edit_core::{Board, Event, Refusal};
+use desk_doubles::{DeskSession, Numbers, inserted, opening_of, replaced};
 use edit_session::{Made, Session};
-use lists::NoMemory;
-use paragraph_text::Edit;
+use outside::lists::NoMemory;
 use std::alloc::Global;
 use std::marker::Brand;
 use std::process::Abort;
@@ -307,13 +308,10 @@ fn two_threads_insert_paragraphs(rt: HostRuntime) {
     assert_eq!(&rt; inserts, Some(()));
 }
 
-/// A session over a desk.
-pub(super) type Own<'a, D, W> = Session<'a, Numbers, D, Desk<Numbers, D, W>>;
-
 /// A look of a session shows one paragraph with a text, and a text version.
 fn assert_shows<D: Naming, W: Wait + Drop>(
     rt: &impl Abort,
-    session: &mut Own<'_, D, W>,
+    session: &mut DeskSession<'_, D, W>,
     version: u64,
     text: &str,
 ) -> Option<()> {
@@ -328,7 +326,7 @@ fn assert_shows<D: Naming, W: Wait + Drop>(
 fn assert_session_inserts<D: Naming, W: Wait + Drop, R: Wait + Abort>(
     rt: &R,
     alloc: Global,
-    session: &mut Own<'_, D, W>,
+    session: &mut DeskSession<'_, D, W>,
 ) -> Option<()> {
     let told = session.edit(rt, alloc, inserted(alloc, "hello")?).ok()?;
     let wanted = Told {
@@ -346,7 +344,7 @@ fn assert_session_inserts<D: Naming, W: Wait + Drop, R: Wait + Abort>(
 fn assert_session_removes<D: Naming, W: Wait + Drop, R: Wait + Abort>(
     rt: &R,
     alloc: Global,
-    session: &mut Own<'_, D, W>,
+    session: &mut DeskSession<'_, D, W>,
 ) {
     let told = session.edit(rt, alloc, Edit::Remove { id: 0, rev: 1 });
     let wanted = Told {
@@ -391,7 +389,7 @@ fn sessions_without_a_call_see_an_insert(rt: HostRuntime) {
 fn assert_session_replaces<D: Naming, W: Wait + Drop, R: Wait + Abort>(
     rt: &R,
     alloc: Global,
-    session: &mut Own<'_, D, W>,
+    session: &mut DeskSession<'_, D, W>,
 ) -> Option<()> {
     for rev in 0..5 {
         let told = session.edit(rt, alloc, replaced(alloc, 0, rev, "b")?).ok()?;
@@ -404,7 +402,7 @@ fn assert_session_replaces<D: Naming, W: Wait + Drop, R: Wait + Abort>(
 fn assert_session_refused<D: Naming, W: Wait + Drop, R: Wait + Abort>(
     rt: &R,
     alloc: Global,
-    session: &mut Own<'_, D, W>,
+    session: &mut DeskSession<'_, D, W>,
 ) -> Option<()> {
     let refused = session.edit(rt, alloc, replaced(alloc, 0, 4, "c")?);
     assert_eq!(rt; refused.err(), Some(Refusal::Behind { rev: 5 }));
@@ -435,12 +433,4 @@ impl Scene for BehindSession {
 #[test]
 fn the_second_of_two_sessions_is_behind(rt: HostRuntime) {
     assert_plays(&rt, rt.alloc(), 2, &["x"], &BehindSession);
-}
-
-/// The judge of the dictionary in force.
-pub(super) fn judge_of<D: Naming, W: Wait + Drop>(
-    session: &mut Own<'_, D, W>,
-) -> Option<Arc<Numbers>> {
-    let board = session.look().ok()?;
-    Arc::try_clone(board.judge()).ok()
 }

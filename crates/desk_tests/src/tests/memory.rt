@@ -2,17 +2,18 @@
 //! same call passes when memory is there again.
 
 ghost use Rattle.std.specs.Prelude.{IfSome};
-ghost use Rattle.edit_core.specs.Events.{event_of};
-ghost use Rattle.edit_core.specs.Steps.{IsFit};
+ghost use Rattle.board_share.specs.edit_core.Events.{event_of};
+ghost use Rattle.board_share.specs.edit_core.Steps.{IsFit};
 ghost use Rattle.board_share.specs.Events.{MayPublish};
 
 use super::desks::edited;
-use super::makers::{Numbers, Scene, inserted, part_at, play, replaced};
+use super::scenes::{Scene, play};
+use board_share::edit_core::{Board, Event, ParaView, Refusal, Shown};
+use board_share::paragraph_text::Edit;
 use board_share::{ClaimFault, Desk, Eye, Naming};
 use check_workers::settle;
-use edit_core::{Board, Event, ParaView, Refusal, Shown};
+use desk_doubles::{Numbers, inserted, part_at, replaced};
 use mark_types::Judge;
-use paragraph_text::Edit;
 use std::alloc::Global;
 use std::process::Abort;
 use std::sync::{Arc, Wait};

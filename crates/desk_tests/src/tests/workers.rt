@@ -2,11 +2,11 @@
 
 ghost use Rattle.check_workers.specs.Knowing.{KnowsClaim};
 
-use super::desks::{Own, judge_of};
-use super::makers::{Numbers, Scene, assert_plays, inserted, replaced};
+use super::scenes::{Scene, assert_plays};
+use board_share::edit_core::{Refusal, Shown};
 use board_share::{Claim, Desk, Eye, Naming, Told};
 use check_workers::{Bell, CheckEnd, Why, WorkEnd, Worker, settle};
-use edit_core::{Refusal, Shown};
+use desk_doubles::{DeskSession, Numbers, inserted, judge_of, replaced};
 use edit_session::Session;
 use mark_types::{Asker, Judge};
 use outside::{FreeGate, Gate};
@@ -33,14 +33,14 @@ impl Gate for Counting {
 
 /// Closes a bell, and keeps whom it let pass.
 #[derive(Drop)]
-struct Closing<'a, R> {
+struct BellPasses<'a, R> {
     rt: &'a R,
     bell: &'a Bell,
     worker: AtomicU32,
     id: AtomicU64,
 }
 
-impl<R: Wait> Gate for Closing<'_, R> {
+impl<R: Wait> Gate for BellPasses<'_, R> {
     fn pass(&self, worker: u32, id: u64) {
         self.worker.store(worker, Ordering::SeqCst);
         self.id.store(id, Ordering::SeqCst);
@@ -63,7 +63,7 @@ enum Act {
 struct Acting<'a, D: Naming, W: Wait + Drop, R> {
     rt: &'a R,
     alloc: Global,
-    session: Mutex<Own<'a, D, W>>,
+    session: Mutex<DeskSession<'a, D, W>>,
     act: Act,
 }
 
@@ -80,7 +80,7 @@ impl<D: Naming, W: Wait + Drop, R: Wait> Gate for Acting<'_, D, W, R> {
 fn do_act<D: Naming, W: Wait + Drop, R: Wait>(
     rt: &R,
     alloc: Global,
-    session: &mut Own<'_, D, W>,
+    session: &mut DeskSession<'_, D, W>,
     act: Act,
     id: u64,
 ) -> Option<()> {
@@ -111,7 +111,7 @@ fn assert_claims<D: Naming, W: Wait + Drop, R: Wait + Abort>(
 fn insert<D: Naming, W: Wait + Drop, R: Wait>(
     rt: &R,
     alloc: Global,
-    session: &mut Own<'_, D, W>,
+    session: &mut DeskSession<'_, D, W>,
 ) -> Option<()> {
     session.edit(rt, alloc, inserted(alloc, "1 wurk")?).ok()?;
     Some(())
@@ -120,7 +120,7 @@ fn insert<D: Naming, W: Wait + Drop, R: Wait>(
 /// The next look of a session shows the first paragraph finished, with one mark.
 fn assert_finished<D: Naming, W: Wait + Drop>(
     rt: &impl Abort,
-    session: &mut Own<'_, D, W>,
+    session: &mut DeskSession<'_, D, W>,
 ) -> Option<()> {
     let board = session.look().ok()?;
     match board.para(0)?.shown {
@@ -246,7 +246,7 @@ fn assert_stops<J: Judge + Drop, D: Naming, K, G: Gate>(
 fn assert_outdated<D: Naming, W: Wait + Drop, R: Wait + Abort, G: Gate>(
     rt: &R,
     alloc: Global,
-    session: &mut Own<'_, D, W>,
+    session: &mut DeskSession<'_, D, W>,
     worker: &mut Worker<'_, Numbers, D, Desk<Numbers, D, W>>,
     gate: &G,
 ) -> Option<()> {
@@ -290,7 +290,7 @@ fn a_look_comes_before_the_gate(rt: HostRuntime) {
 
 /// What a session does, and what the worker is told of it.
 #[derive(Clone, Copy, Debug)]
-struct Held {
+struct HeldWork {
     act: Act,
     why: Why,
     refusal: Refusal,
@@ -304,7 +304,7 @@ fn assert_unwanted<J: Judge + Drop, D: Naming, W: Wait + Drop, R: Wait + Abort, 
     worker: &mut Worker<'_, J, D, Desk<J, D, W>>,
     claim: &Claim<J>,
     gate: &G,
-    held: Held,
+    held: HeldWork,
 ) -> Option<()>
     requires { KnowsClaim J.lexicon worker.old.eye.run claim.now }
 {
@@ -321,14 +321,14 @@ fn assert_held<J: Judge + Drop, D: Naming, W: Wait + Drop, R: Wait + Abort, G: G
     alloc: Global,
     worker: &mut Worker<'_, J, D, Desk<J, D, W>>,
     gate: &G,
-    held: Held,
+    held: HeldWork,
 ) -> Option<()> {
     let claim = worker.claim(rt, alloc).ok()??;
     assert_eq!(rt; (claim.id, claim.rev, claim.dict), (0, 0, 0));
     assert_unwanted(rt, alloc, worker, &claim, gate, held)
 }
 
-impl Scene for Held {
+impl Scene for HeldWork {
     fn play<
         D: Naming + Send + Sync,
         W: Wait + Drop + Send + Sync,
@@ -353,7 +353,7 @@ impl Scene for Held {
 
 #[test]
 fn the_text_is_replaced_at_the_gate(rt: HostRuntime) {
-    let held = Held {
+    let held = HeldWork {
         act: Act::Replace,
         why: Why::Behind { rev: 1 },
         refusal: Refusal::Behind { rev: 1 },
@@ -363,7 +363,7 @@ fn the_text_is_replaced_at_the_gate(rt: HostRuntime) {
 
 #[test]
 fn the_dictionary_is_exchanged_at_the_gate(rt: HostRuntime) {
-    let held = Held {
+    let held = HeldWork {
         act: Act::Reload,
         why: Why::Reloaded { dict: 1 },
         refusal: Refusal::Reloaded { dict: 1 },
@@ -373,7 +373,7 @@ fn the_dictionary_is_exchanged_at_the_gate(rt: HostRuntime) {
 
 #[test]
 fn the_paragraph_is_parked_at_the_gate(rt: HostRuntime) {
-    let held = Held {
+    let held = HeldWork {
         act: Act::Park,
         why: Why::Parked { rev: 0 },
         refusal: Refusal::Parked { rev: 0 },
@@ -403,9 +403,9 @@ fn assert_one_finished<D: Naming>(rt: &impl Abort, eye: &mut Eye<Numbers, D>) {
 }
 
 /// The worker finishes the paragraph that it has claimed, and claims no other.
-struct Closed;
+struct ClosedDesk;
 
-impl Scene for Closed {
+impl Scene for ClosedDesk {
     fn play<
         D: Naming + Send + Sync,
         W: Wait + Drop + Send + Sync,
@@ -418,7 +418,7 @@ impl Scene for Closed {
         eyes: &mut Vec<Eye<Numbers, D>>,
     ) -> Option<()> {
         let bell = Bell::new();
-        let gate = Closing {
+        let gate = BellPasses {
             rt,
             bell: &bell,
             worker: AtomicU32::new(0),
@@ -434,7 +434,7 @@ impl Scene for Closed {
 
 #[test]
 fn a_closed_bell_ends_a_worker(rt: HostRuntime) {
-    assert_plays(&rt, rt.alloc(), 1, &["hello", "wurk"], &Closed);
+    assert_plays(&rt, rt.alloc(), 1, &["hello", "wurk"], &ClosedDesk);
 }
 
 /// The verdict on a word.

@@ -9,7 +9,7 @@ use Rattle.spell_types.specs.declared.Entry.{Entry}
 use Rattle.spell_types.specs.Flags.{AreOrdinary}
 use Rattle.spell_types.specs.Sanity.{HaveOrdinaryFlags}
 use Rattle.dic_reader.specs.declared.faults.DicFault.{DicFault}
-use Rattle.dic_reader.specs.Faults.{Fault, IsRead, IsTold}
+use Rattle.dic_reader.specs.Faults.{DicFaultAtLine, AreEntriesRead, IsTold}
 use Rattle.dic_reader.specs.KnownSets.{entry_of_found}
 use Rattle.dic_reader.proofs.KnownLemmas.{flags-placed, flags-ordinary}
 use Rattle.dic_reader.proofs.TurnLemmas.{here-at, turn-here, all-gone, read-past, read-more}
@@ -17,8 +17,8 @@ use Rattle.dic_reader.proofs.TurnLemmas.{told-own, told-many, read-all}
 use Rattle.dic_reader.proofs.read_entries.Goals as goal
 
 -- a fault that is handed on
-handed : {A : Type 0} (read : Result A Fault) (result : Result A DicFault) (fault : DicFault)
-    → IsErrAnd result (λ given. given ≡ fault) → IsTold read fault → IsRead read result
+handed : {A : Type 0} (read : Result A DicFaultAtLine) (result : Result A DicFault) (fault : DicFault)
+    → IsErrAnd result (λ given. given ≡ fault) → IsTold read fault → AreEntriesRead read result
 handed read (Ok made) fault same told = absurd same
 handed read (Err given) fault same told = subst (IsTold read) (sym same) told
 

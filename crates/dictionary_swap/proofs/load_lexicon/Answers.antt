@@ -1,16 +1,16 @@
 -- The files that explain each step explain the load.
 use Rattle.std.proofs.Common.{rules, IfSome, Option, Some, None}
-use Rattle.lists.specs.AnswerLaws.{fails-behind, fails-then, gives-fault}
-use Rattle.dictionary_swap.specs.Loads.{MayCome, lexicon_due}
+use Rattle.outside.specs.lists.AnswerLaws.{fails-behind, fails-then, gives-fault}
+use Rattle.dictionary_swap.specs.Loads.{MayComeOfLoads, lexicon_due}
 use Rattle.dictionary_swap.proofs.load_lexicon.Goals as goal
 
 pub returns-in_err-affixes-clause-found : goal.returns-in_err-affixes-clause-found
 unfolding lexicon_due
 returns-in_err-affixes-clause-found g c =
     let found = c.in_err-affixes.ensures.found in
-    let fails = fails-then MayCome _ found.1 in (
+    let fails = fails-then MayComeOfLoads _ found.1 in (
       record { aff = found.0; dic = None },
-      gives-fault MayCome (λ x. x) c.from_residual.result fails c.from_residual.ensures.1,
+      gives-fault MayComeOfLoads (λ x. x) c.from_residual.result fails c.from_residual.ensures.1,
     )
 
 pub returns-in_err-entries-clause-found : goal.returns-in_err-entries-clause-found
@@ -19,9 +19,9 @@ returns-in_err-entries-clause-found g c =
     let first = c.in_ok-affixes.ensures.found in
     let found = c.in_err-entries.ensures.found in
     let result = c.from_residual-in_err-entries.result in
-    let fails = fails-behind MayCome _ first.1 (fails-then MayCome _ found.1) in (
+    let fails = fails-behind MayComeOfLoads _ first.1 (fails-then MayComeOfLoads _ found.1) in (
       record { aff = first.0; dic = found.0 },
-      gives-fault MayCome (λ x. x) result fails c.from_residual-in_err-entries.ensures.1,
+      gives-fault MayComeOfLoads (λ x. x) result fails c.from_residual-in_err-entries.ensures.1,
     )
 
 -- and so do those of a folder that is told
@@ -36,8 +36,8 @@ returns-in_err-entries-clause-told g c =
     let found = rw c.in_ok-affixes.ensures.same at c.in_err-entries.ensures.told in
     let result = c.from_residual-in_err-entries.result in
     both-told (g.F.Files.told c.args.files.now) c.in_ok-affixes.ensures.told found
-    (λ folder first fails. gives-fault MayCome (λ x. x) result
-    (fails-behind MayCome _ first (fails-then MayCome _ fails))
+    (λ folder first fails. gives-fault MayComeOfLoads (λ x. x) result
+    (fails-behind MayComeOfLoads _ first (fails-then MayComeOfLoads _ fails))
     c.from_residual-in_err-entries.ensures.1)
 
 pub returns-clause-found : goal.returns-clause-found

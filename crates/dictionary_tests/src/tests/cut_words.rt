@@ -1,7 +1,7 @@
 //! WORDCHARS: the words that a paragraph is cut into.
 
-use lists::NoMemory;
 use mark_types::Span;
+use outside::lists::NoMemory;
 use std::alloc::{AllocError, Global};
 use std::test::Fail;
 use word_cutter::cut;

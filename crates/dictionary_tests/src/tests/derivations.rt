@@ -1,7 +1,7 @@
 //! Derivations that no run asks about, since they name what is not there.
 
 use super::dictionaries::{lexicon_of, text_of};
-use spell_types::{Derivation, Lexicon, form, licensed};
+use mark_types::spell_types::{Derivation, Lexicon, form, licensed};
 use std::alloc::Global;
 use std::process::Abort;
 use std::test::Fail;

@@ -2,8 +2,8 @@
 
 use aff_reader::read_aff;
 use dic_reader::read_dic;
-use lists::NoMemory;
-use spell_types::{Affixes, Chars, Lexicon};
+use mark_types::spell_types::{Affixes, Chars, Lexicon};
+use outside::lists::NoMemory;
 use std::alloc::{AllocError, Global};
 use std::test::Fail;
 

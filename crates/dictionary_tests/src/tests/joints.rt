@@ -3,7 +3,7 @@
 
 use super::dictionaries::{lexicon_of, text_of};
 use joint_checks::{WrittenJoint, joints};
-use spell_types::{Derivation, Lexicon, chars_of};
+use mark_types::spell_types::{Derivation, Lexicon, chars_of};
 use std::alloc::{AllocError, Global};
 use std::process::Abort;
 use std::test::Fail;

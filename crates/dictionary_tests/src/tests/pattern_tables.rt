@@ -2,8 +2,8 @@
 //! sets they match where they go over them from the front.
 
 use compound_pattern::{States, read_pattern};
-use lists::{Copied, NoMemory};
-use spell_types::{Flag, FlagKind, FlagSet, Pattern, PatternStep, Times};
+use mark_types::spell_types::{Flag, FlagKind, FlagSet, Pattern, PatternStep, Times};
+use outside::lists::{Copied, NoMemory};
 use std::alloc::{AllocError, Global};
 use std::process::Abort;
 use std::test::Fail;

@@ -1,7 +1,7 @@
 //! What no run over objects in memory shows: the files and the input of the system, and lists as
 //! keys.
 
-use lists::Items;
+use outside::lists::Items;
 use outside::{FileFault, Files, RealFiles, Source, StdSource};
 use std::alloc::{AllocError, Global};
 use std::collections::HashMap;

@@ -2,8 +2,8 @@
 
 use super::dictionaries::{affixes_of, words_told};
 use conversions::rep_variants;
-use lists::NoMemory;
-use spell_types::{Rep, chars_of};
+use mark_types::spell_types::{Rep, chars_of};
+use outside::lists::NoMemory;
 use std::alloc::Global;
 use std::process::Abort;
 use std::test::Fail;

@@ -2,8 +2,8 @@
 
 use aff_reader::read_aff;
 use affix_tables::AffixTables;
-use lists::NoMemory;
-use spell_types::chars_of;
+use mark_types::spell_types::chars_of;
+use outside::lists::NoMemory;
 use std::alloc::{AllocError, Global};
 use std::process::Abort;
 use std::test::Fail;

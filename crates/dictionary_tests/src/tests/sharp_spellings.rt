@@ -3,8 +3,8 @@
 
 use super::dictionaries::words_told;
 use letter_case::covered;
-use lists::NoMemory;
-use spell_types::chars_of;
+use mark_types::spell_types::chars_of;
+use outside::lists::NoMemory;
 use std::alloc::Global;
 use std::process::Abort;
 use std::test::Fail;

@@ -2,8 +2,8 @@
 
 use super::dictionaries::{affixes_of, text_of};
 use affix_classes::{undo_prefix, undo_suffix};
-use lists::NoMemory;
-use spell_types::{Chars, Rule, Side, chars_of};
+use mark_types::spell_types::{Chars, Rule, Side, chars_of};
+use outside::lists::NoMemory;
 use std::alloc::Global;
 use std::process::Abort;
 use std::test::Fail;

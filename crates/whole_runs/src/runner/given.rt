@@ -1,7 +1,7 @@
 //! What a run meets: words, files, an input and a sink in memory, as the lines of a block say.
 
 use super::files::{push_file, push_line};
-use super::held::{Counted, Held};
+use super::held::{CountedSink, HeldWorkers};
 use command_line::run;
 use outside_doubles::{MemFiles, MemSink, MemSource};
 use std::alloc::{AllocError, Global};
@@ -191,12 +191,12 @@ fn sink_of(alloc: Global, given: &str) -> Result<MemSink, AllocError> {
 
 /// The gate of a run: where the given lines say so, it holds all workers until all lines with `<` are
 /// written.
-fn held_by(alloc: Global, given: &str) -> Result<Held, AllocError> {
+fn held_by(alloc: Global, given: &str) -> Result<HeldWorkers, AllocError> {
     let mut replies = Vec::new(alloc);
     if last(given, "held").is_some() {
         push_lines(given, "<", &mut replies)?;
     }
-    Ok(Held::until(replies.len() as u64))
+    Ok(HeldWorkers::until(replies.len() as u64))
 }
 
 /// Runs the program over what the given lines say, with an input in pieces of so many bytes.
@@ -211,12 +211,12 @@ pub(crate) fn seen_of<R: Threads + Wait + Sync>(
     let mut files = files_of(alloc, given)?;
     let mut source = source_of(alloc, given, input, piece)?;
     let held = held_by(alloc, given)?;
-    let mut out = Counted {
+    let mut out = CountedSink {
         sink: sink_of(alloc, given)?,
         held: &held,
     };
     let ended = run(rt, alloc, &words, &mut files, &mut source, &mut out, &held);
-    let Counted { sink, .. } = out;
+    let CountedSink { sink, .. } = out;
     Ok(Seen {
         status: ended.status,
         closed: match ended.closed {

@@ -10,21 +10,21 @@ const MOST_TURNS: u32 = 100_000_000;
 
 /// Holds each worker until so many bytes are written.
 #[derive(Drop)]
-pub(super) struct Held {
+pub(super) struct HeldWorkers {
     wanted: u64,
     written: AtomicU64,
 }
 
-impl Held {
-    pub(super) fn until(wanted: u64) -> Held {
-        Held {
+impl HeldWorkers {
+    pub(super) fn until(wanted: u64) -> HeldWorkers {
+        HeldWorkers {
             wanted,
             written: AtomicU64::new(0),
         }
     }
 }
 
-impl Gate for Held {
+impl Gate for HeldWorkers {
     fn pass(&self, _worker: u32, _id: u64) {
         for _ in 0..MOST_TURNS {
             if self.written.load(Ordering::SeqCst) >= self.wanted {
@@ -39,12 +39,12 @@ impl Gate for Held {
 
 /// A sink that tells a gate how much is written. It tells contracts nothing.
 #[derive(Drop)]
-pub(super) struct Counted<'a> {
+pub(super) struct CountedSink<'a> {
     pub(super) sink: MemSink,
-    pub(super) held: &'a Held,
+    pub(super) held: &'a HeldWorkers,
 }
 
-impl Sink for Counted<'_> {
+impl Sink for CountedSink<'_> {
     ghost use Rattle.std.specs.Prelude.{None};
 
     ghost written = { λ _. None };

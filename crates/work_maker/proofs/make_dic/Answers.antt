@@ -3,7 +3,7 @@ use Rattle.std.proofs.Common.{append_assoc, arith}
 use Rattle.std.specs.Fmt.{decimal}
 use Rattle.std.proofs.lemmas.Fmt.{length-decimal-le}
 use Rattle.std.proofs.lemmas.List.{length_push}
-use Rattle.work_maker.specs.Made.{entry_of}
+use Rattle.work_maker.specs.Made.{made_entry}
 use Rattle.work_maker.proofs.MadeLemmas.{dic_bytes-more}
 use Rattle.work_maker.proofs.make_dic.Goals as goal
 
@@ -28,8 +28,8 @@ loop-number-preserved c =
     record {
       bytes = c.in_ok-push.ensures.items
           ∙ ap (λ front. front ++ 10 ∷ []) c.in_ok-push_entry.ensures.bytes
-          ∙ append_assoc made (entry_of number) (10 ∷ [])
-          ∙ ap (λ front. front ++ (entry_of number ++ 10 ∷ [])) c.loop-number.invariant.bytes
+          ∙ append_assoc made (made_entry number) (10 ∷ [])
+          ∙ ap (λ front. front ++ (made_entry number ++ 10 ∷ [])) c.loop-number.invariant.bytes
           ∙ sym (dic_bytes-more c.args.size number);
       small = omega (
         arith,

@@ -2,7 +2,7 @@ use Rattle.std.proofs.Common.{rules, ◌≡◌, ◌∙◌, sym, ap, ap₂, ℕ, 
 use Rattle.std.proofs.Common.{◌++◌, append_assoc, arith}
 use Rattle.std.proofs.lemmas.List.{length_push}
 use Rattle.work_maker.specs.Made.{drawn, drawn_after, drawn_word}
-use Rattle.work_maker.specs.Words.{word_of, stem_of}
+use Rattle.work_maker.specs.Words.{made_word, made_stem}
 use Rattle.work_maker.proofs.MadeLemmas.{run, run-more, end_of, drawn-more, text_bytes-run}
 use Rattle.work_maker.proofs.make_text.Goals as goal
 
@@ -24,7 +24,7 @@ loop-place-preserved c =
     let pushed : c.push_word.new.made.items ≡ made ++ word place =
     c.in_ok-push_word.ensures.bytes
     ∙ ap (λ w. made ++ w)
-    (ap₂ (λ k s. word_of k (stem_of s)) c.kind.ensures c.stem_number.ensures
+    (ap₂ (λ k s. made_word k (made_stem s)) c.kind.ensures c.stem_number.ensures
     ∙ ap (drawn_word size) draw) in
     let one_more : 1 + (place - 1) ≡ place = omega arith in
     let next : place - 1 + 1 ≡ place + 1 - 1 = omega arith in

@@ -1,7 +1,7 @@
 -- One mark more is put, and at the end there is no mark or no room left.
 use Rattle.std.proofs.Common.{◌≡◌, ◌+◌, ◌<◌, ◌≤◌, ◌∙◌, ap, suc, length, map, set, arith}
 use Rattle.std.proofs.lemmas.List.{length-map}
-use Rattle.affedit_c.specs.Marks.{span_of, written}
+use Rattle.affedit_c.specs.Marks.{span_of_mark, array_with_marks}
 use Rattle.affedit_c.proofs.MarkLemmas.{begun, begun-next, begun-full, begun-all}
 use Rattle.affedit_c.proofs.marking.write_marks.Goals as goal
 
@@ -21,13 +21,13 @@ loop-place-preserved c =
       marks = omega arith;
       room = omega arith;
       array = ap (λ before. set before place c.span_of.result) c.loop-place.invariant.array
-          ∙ begun-next span_of place marks array c.index-marks-place.result c.span_of.result within
+          ∙ begun-next span_of_mark place marks array c.index-marks-place.result c.span_of.result within
           room c.index-marks-place.is c.span_of.ensures
-          ∙ ap (λ n. begun n (map span_of marks) array) next;
+          ∙ ap (λ n. begun n (map span_of_mark marks) array) next;
     }
 
 pub returns-else-place-array : goal.returns-else-place-array
-unfolding written
+unfolding array_with_marks
 returns-else-place-array c =
     let place = c.loop-place.place in
     let marks = c.args.marks.now in
@@ -41,10 +41,10 @@ returns-else-place-array c =
     ) in
     let more : length array ≤ length marks = omega arith in
     c.loop-place.invariant.array
-    ∙ begun-full place (map span_of marks) array (length marks) full more
+    ∙ begun-full place (map span_of_mark marks) array (length marks) full more
 
 pub returns-after-loop-place : goal.returns-after-loop-place
-unfolding written
+unfolding array_with_marks
 returns-after-loop-place c =
     let place = c.loop-place.place in
     let marks = c.args.marks.now in
@@ -56,4 +56,4 @@ returns-after-loop-place c =
     ) in
     let room : length marks ≤ length array = omega (arith, c.loop-place.invariant.room) in
     c.loop-place.invariant.array
-    ∙ begun-all place (map span_of marks) array (length marks) all (length-map marks span_of) room
+    ∙ begun-all place (map span_of_mark marks) array (length marks) all (length-map marks span_of_mark) room

@@ -1,7 +1,7 @@
 -- Each piece that is read moves on, and at the end all is read.
 use Rattle.std.proofs.Common.{◌≡◌, ◌∙◌, ◌≢◌, ◌+◌, None, Some, length, length-drop, ap}
 use Rattle.std.proofs.Common.{arith, rules, subst, sym}
-use Rattle.lists.specs.Laws.{take-rest}
+use Rattle.spell_types.specs.lists.Laws.{take-rest}
 use Rattle.affix_classes.specs.declared.reading.ConditionFault.TheVariants.{NoMemory}
 use Rattle.affix_classes.specs.ConditionTexts.{pieces_of}
 use Rattle.affix_classes.proofs.PieceLemmas.{piece_read, none_read, all_read}

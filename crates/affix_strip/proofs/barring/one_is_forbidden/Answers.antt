@@ -1,12 +1,13 @@
 -- The entry passes, or one more does not.
-use Rattle.std.proofs.Common.{◌≡◌, ◌∙◌, ◌||◌, false, not, Option, List, [], ◌∷◌, None, Some, refl, sym}
+use Rattle.std.proofs.Common.{◌≡◌, ◌∙◌, ◌||◌, false, not, Option, List, [], ◌∷◌, None, Some, refl}
+use Rattle.std.proofs.Common.{sym}
 use Rattle.std.proofs.Common.{ap}
 use Rattle.std.specs.Option.{is_some}
 use Rattle.spell_types.specs.declared.flags.Flag.{Flag}
 use Rattle.std.specs.List.{list_any}
 use Rattle.spell_types.specs.declared.Entry.{Entry}
 use Rattle.spell_types.specs.declared.Lexicon.{Lexicon}
-use Rattle.lists.specs.Laws.{any-at}
+use Rattle.spell_types.specs.lists.Laws.{any-at}
 use Rattle.spell_types.specs.Flags.{has}
 use Rattle.affix_strip.specs.Tables.{is_forbidden_entry}
 use Rattle.affix_strip.proofs.TurnLemmas.{any-past}

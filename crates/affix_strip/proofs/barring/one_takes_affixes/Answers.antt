@@ -1,7 +1,7 @@
 -- The entry passes, or one more does not.
 use Rattle.std.proofs.Common.{◌≡◌, ◌∙◌, sym, ap, ◌&&◌, false}
 use Rattle.std.proofs.lemmas.Bool.{and_from, and_right}
-use Rattle.lists.specs.Laws.{any-at}
+use Rattle.spell_types.specs.lists.Laws.{any-at}
 use Rattle.spell_types.specs.Flags.{has, has_flag_of}
 use Rattle.affix_strip.specs.Tables.{takes_affixes}
 use Rattle.affix_strip.proofs.TurnLemmas.{any-past, told-at}

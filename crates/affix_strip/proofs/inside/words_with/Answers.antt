@@ -9,7 +9,7 @@ use Rattle.spell_types.specs.declared.Entry.{Entry}
 use Rattle.spell_types.specs.declared.flags.Flag.{Flag}
 use Rattle.spell_types.specs.Flags.{has_flag_of}
 use Rattle.affix_strip.specs.Hashes.{hash_of}
-use Rattle.affix_strip.specs.Inside.{IsNotedWord, KeepsWords}
+use Rattle.affix_strip.specs.Inside.{IsNotedWord, KeepsFilterKeys}
 use Rattle.affix_strip.proofs.TurnLemmas.{told-at}
 use Rattle.affix_strip.proofs.inside.words_with.Goals.{then-index, else-index}
 use Rattle.affix_strip.proofs.inside.words_with.Goals as goal
@@ -18,7 +18,7 @@ use Rattle.affix_strip.proofs.inside.words_with.Goals as goal
 one-more : (entries : List Entry) (set : List Flag) (before now : KeyFilter) (place : ℕ)
     → ((at : ℕ) (entry : Entry) → at < place → slice_get entries at ≡ Some entry
     → IsNotedWord set before entry)
-    → KeepsWords before now
+    → KeepsFilterKeys before now
     → ((entry : Entry) → slice_get entries place ≡ Some entry → IsNotedWord set now entry)
     → (at : ℕ) (entry : Entry) → at < place + 1 → slice_get entries at ≡ Some entry
     → IsNotedWord set now entry

@@ -1,8 +1,8 @@
 -- The claim's board stands before the worker's own entry.
 use Rattle.std.proofs.Common.{◌≡◌, ◌++◌, sym, ap}
 use mathlib.Core.List.{IsPrefix}
-use Rattle.edit_core.specs.Runs.{last_board}
-use Rattle.edit_core.specs.Seen.{Seen}
+use Rattle.board_share.specs.edit_core.Runs.{last_board}
+use Rattle.board_share.specs.edit_core.Seen.{Seen}
 use Rattle.check_workers.specs.Knowing.{KnowsBoard}
 use Rattle.check_workers.proofs.Known.{claim-known, front-valid}
 use Rattle.check_workers.proofs.laws.claims_are_known.Goals as goal

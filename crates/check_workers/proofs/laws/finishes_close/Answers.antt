@@ -1,7 +1,7 @@
 -- By the step of the finish.
 use Rattle.std.proofs.Common.{◌≡◌, ◌∙◌, sym, ap, subst, List, ◌++◌, false}
-use Rattle.edit_core.specs.Runs.{Entry, IsRun, last_board}
-use Rattle.edit_core.specs.Seen.{Seen}
+use Rattle.board_share.specs.edit_core.Runs.{Entry, IsRun, last_board}
+use Rattle.board_share.specs.edit_core.Seen.{Seen}
 use Rattle.board_share.specs.Settled.{is_open_for}
 use Rattle.check_workers.proofs.Closing.{closed-behind}
 use Rattle.check_workers.proofs.laws.finishes_close.Goals as goal

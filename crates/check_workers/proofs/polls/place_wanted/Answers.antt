@@ -1,6 +1,6 @@
 -- By what is shown of the paragraph.
 use Rattle.std.proofs.Common.{◌∙◌, sym, ap}
-use Rattle.edit_core.specs.declared.view.Versions.{Versions}
+use Rattle.board_share.specs.edit_core.declared.view.Versions.{Versions}
 use Rattle.check_workers.proofs.Shown.{why-gone, why-shown}
 use Rattle.check_workers.proofs.polls.place_wanted.Goals as goal
 

@@ -1,6 +1,6 @@
 -- One place after another.
 use Rattle.std.proofs.Common.{ap, subst, ℕ, ◌≤◌}
-use Rattle.edit_core.specs.declared.view.Versions.{Versions}
+use Rattle.board_share.specs.edit_core.declared.view.Versions.{Versions}
 use Rattle.check_workers.proofs.Later.{counts-self, counts-trans, later-self, later-trans}
 use Rattle.check_workers.proofs.OneByOne.{settled-more, settled-none, settled-whole}
 use Rattle.check_workers.proofs.settling.settle_board.Goals as goal

@@ -1,7 +1,7 @@
 -- By what is shown of the paragraph.
 use Rattle.std.proofs.Common.{◌≡◌, ◌∙◌, sym, true, false}
 use Rattle.std.specs.Arc.{arc_value}
-use Rattle.edit_core.specs.Views.{shown_in}
+use Rattle.board_share.specs.edit_core.Views.{shown_in}
 use Rattle.board_share.specs.Eyes.{last_of}
 use Rattle.check_workers.proofs.OneByOne.{spent-over}
 use Rattle.check_workers.proofs.Shown.{has-open, open-shown}

@@ -4,7 +4,7 @@ use Rattle.std.proofs.lemmas.Bool.Decides.{nat_tests}
 use Rattle.std.proofs.lemmas.List.Elements.{All-nil}
 use Rattle.compound_pattern.specs.declared.reading.PatternFault.TheVariants.{BadFlag}
 use Rattle.std.specs.Str.{chars}
-use Rattle.compound_pattern.specs.PatternTexts.{items_of}
+use Rattle.compound_pattern.specs.PatternTexts.{pattern_items_of}
 use Rattle.spell_types.specs.Flags.{IsOrdinary}
 use Rattle.compound_pattern.proofs.RuleLemmas.{told_after, told-empty, told-first, told-last}
 use Rattle.compound_pattern.proofs.reading.read_pattern.Goals as goal
@@ -17,7 +17,7 @@ pub loop-rest-init : goal.loop-rest-init
 loop-rest-init c =
     let some : 0 < length c.args.text.now = grind (arith, nat_tests) in (
       c.utf8.text,
-      ap (λ made. told_after c.args.kind true made (items_of c.args.kind (chars c.args.text.now)))
+      ap (λ made. told_after c.args.kind true made (pattern_items_of c.args.kind (chars c.args.text.now)))
           c.new-steps.ensures ∙ told-first c.args.kind c.args.text.now c.utf8.text some,
       subst (All (λ step. IsOrdinary step.flag)) (sym c.new-steps.ensures)
           (All-nil (λ step. IsOrdinary step.flag)),

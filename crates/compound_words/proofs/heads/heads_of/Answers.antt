@@ -1,6 +1,6 @@
 -- One rest more is looked at.
 use Rattle.std.proofs.Common.{◌∙◌, ◌+◌, sym, subst}
-use Rattle.compound_words.specs.Rests.{Covers, picked}
+use Rattle.compound_words.specs.Rests.{CanStandFor, picked}
 use Rattle.compound_words.specs.Counting.{OneOf}
 use Rattle.compound_words.proofs.HeadLemmas.{AreHeadsTo, heads-new, heads-known}
 use Rattle.compound_words.proofs.heads.heads_of.Goals.{then-not-is_covered+in_ok-push}
@@ -22,7 +22,7 @@ loop-place-preserved c =
           (heads-known c.args.rests.now c.loop-place.heads c.loop-place.place
           c.index-rests-place.result c.loop-place-test.true c.index-rests-place.is
           c.loop-place.invariant
-          (subst (λ heads. OneOf (λ other. Covers other c.index-rests-place.result)
+          (subst (λ heads. OneOf (λ other. CanStandFor other c.index-rests-place.result)
           (picked c.args.rests.now heads)) c.deref.ensures
           (c.is_covered.ensures w.if-not-is_covered.false)))
     ]

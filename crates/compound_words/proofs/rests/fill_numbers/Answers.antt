@@ -5,7 +5,7 @@ use Rattle.std.proofs.lemmas.List.{length-set}
 use Rattle.spell_types.specs.declared.patterns.PatternStep.{PatternStep}
 use Rattle.spell_types.specs.declared.patterns.Times.TheVariants.{Once}
 use Rattle.spell_types.specs.Patterns.{matches, is_left_out, fits_step}
-use Rattle.compound_words.specs.Counting.{least, one_more, number_at}
+use Rattle.compound_words.specs.Counting.{least_of_two, one_more, number_at}
 use Rattle.compound_words.specs.Rests.{matches_from, number_behind, number_by_steps, ByRule}
 use Rattle.compound_words.proofs.StepLemmas.{numbers-past, numbers-turn, nothing-past, nothing-turn}
 use Rattle.compound_words.proofs.StepLemmas.{nothing-behind}
@@ -51,9 +51,9 @@ loop-place-preserved c =
           (λ later after. c.loop-place.invariant.numbers rules found later
           (omega (arith, after, here)))
           (c.number_from.ensures
-          ∙ ap (λ n. least (cond left n None) (cond fits (one_more c.by_step-number.result) None))
+          ∙ ap (λ n. least_of_two (cond left n None) (cond fits (one_more c.by_step-number.result) None))
           c.number_at.ensures
-          ∙ ap (λ n. least (cond left (number_at c.loop-place.numbers (place + 1)) None)
+          ∙ ap (λ n. least_of_two (cond left (number_at c.loop-place.numbers (place + 1)) None)
           (cond fits (one_more n) None))
           (c.by_step-number.ensures rules
           (nothing-behind one rules c.args.rule steps place step d c.loop-place.matches_nothing

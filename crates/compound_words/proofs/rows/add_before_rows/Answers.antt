@@ -1,6 +1,6 @@
 -- One row after another is gone over.
 use Rattle.std.proofs.Common.{◌∙◌, ◌-◌, ◌++◌, sym, ap, subst, length, take, drop, arith}
-use Rattle.lists.specs.Laws.{take-rest}
+use Rattle.spell_types.specs.lists.Laws.{take-rest}
 use Rattle.compound_words.specs.Rests.{asked_by, patterns_of, Grows, HasFirsts, IsRow, IsRowAt}
 use Rattle.compound_words.proofs.AddLemmas.{grows-same}
 use Rattle.compound_words.proofs.RowLemmas.{row-at, rows-one-more, rows-all, take-split}

@@ -1,6 +1,6 @@
 -- The row has the rests of one part, and then those of more.
 use Rattle.std.proofs.Common.{◌-◌, [], drop, length, subst, take}
-use Rattle.lists.specs.Laws.{take-rest}
+use Rattle.spell_types.specs.lists.Laws.{take-rest}
 use Rattle.spell_types.specs.declared.parts.Place.TheVariants.{Middle}
 use Rattle.compound_words.specs.Rests.{HasFirsts, asked_by, patterns_of}
 use Rattle.compound_words.proofs.RowLemmas.{row-whole}

@@ -2,10 +2,10 @@
 use Rattle.std.proofs.Common.{◌≡◌, ◌++◌, drop}
 use Rattle.std.specs.List.{flat_map}
 use Rattle.std.specs.String.{string_bytes}
-use Rattle.console_lang.specs.Replies.{mark_line}
+use Rattle.console_lang.specs.Replies.{reply_mark_line}
 use Rattle.console_lang.proofs.reply.push_marks.Given as goal
 
 abbrev pub invariant-loop-mark : goal.invariant-loop-mark
 invariant-loop-mark l =
-    string_bytes l.written ++ flat_map (mark_line l.number) (drop l.mark-index l.marks)
-    ≡ string_bytes l.fn.written ++ flat_map (mark_line l.number) l.marks
+    string_bytes l.written ++ flat_map (reply_mark_line l.number) (drop l.mark-index l.marks)
+    ≡ string_bytes l.fn.written ++ flat_map (reply_mark_line l.number) l.marks

@@ -6,9 +6,9 @@ use Rattle.std.proofs.lemmas.List.{map-append}
 use Rattle.std.proofs.lemmas.List.Elements.{All-push, All-same}
 use Rattle.std.proofs.lemmas.List.Sorted.{All-permutation, Contains-permutation, IsPermutation-map}
 use Rattle.std.proofs.lemmas.Option.{slice_get_read}
-use Rattle.lists.specs.Laws.{range_more, contains-range}
+use Rattle.spell_types.specs.lists.Laws.{range_more, contains-range}
 use Rattle.spell_types.specs.declared.conversions.Conversion.{Conversion}
-use Rattle.conversions.specs.Patterns.{Pattern, IsPatternOf}
+use Rattle.conversions.specs.Patterns.{ConversionPattern, IsPatternOf}
 use Rattle.conversions.proofs.table.patterns_of.Goals as goal
 
 pub loop-place-preserved : goal.loop-place-preserved
@@ -17,7 +17,7 @@ loop-place-preserved c =
     let place = c.loop-place.place in
     let patterns = c.loop-place.patterns.items in
     let row = c.index-table-place.result in
-    let pattern : Pattern = (c.in_ok-pattern.pattern, place) in
+    let pattern : ConversionPattern = (c.in_ok-pattern.pattern, place) in
     let within : place < length table = omega arith in
     let is : c.in_ok-pattern.pattern.items ≡ row.from = search rules in
     let right : IsPatternOf table pattern =
@@ -28,8 +28,8 @@ loop-place-preserved c =
       right = All-same (IsPatternOf table) c.push.new.self.items (patterns ++ pattern ∷ [])
           c.in_ok-push.ensures.items
           (All-push (IsPatternOf table) patterns pattern c.loop-place.invariant.right right);
-      places = ap (map (λ (p : Pattern). p.1)) c.in_ok-push.ensures.items
-          ∙ map-append (λ (p : Pattern). p.1) patterns (pattern ∷ [])
+      places = ap (map (λ (p : ConversionPattern). p.1)) c.in_ok-push.ensures.items
+          ∙ map-append (λ (p : ConversionPattern). p.1) patterns (pattern ∷ [])
           ∙ ap (λ places. places ++ place ∷ []) c.loop-place.invariant.places
           ∙ sym (range_more place);
     }
@@ -44,9 +44,9 @@ returns c =
       sorted = c.sort_unstable.ensures.sorted;
       right = All-permutation (IsPatternOf table) before after moved c.loop-place.invariant.right;
       whole = λ place within.
-          Contains-permutation (map (λ (p : Pattern). p.1) before)
-          (map (λ (p : Pattern). p.1) after) place
-          (IsPermutation-map (λ (p : Pattern). p.1) before after moved)
+          Contains-permutation (map (λ (p : ConversionPattern). p.1) before)
+          (map (λ (p : ConversionPattern). p.1) after) place
+          (IsPermutation-map (λ (p : ConversionPattern). p.1) before after moved)
           (subst (λ places. Contains places place) (sym c.loop-place.invariant.places)
           (contains-range c.loop-place.place place (omega (arith, within))));
     }

@@ -3,7 +3,7 @@ use Rattle.std.proofs.Common.{◌≡◌, ◌∙◌, ◌==◌, ap, sym, subst, le
 use Rattle.std.specs.Str.{chars}
 use Rattle.spell_types.specs.Conversions.{without_ignored}
 use Rattle.flag_sets.specs.FlagTexts.{flag_field}
-use Rattle.dic_reader.specs.Entries.{entry_at, whole_word, word_of}
+use Rattle.dic_reader.specs.Entries.{entry_at, whole_word, word_of_entry}
 use Rattle.dic_reader.specs.Faults.{entry_read, IsTold}
 use Rattle.dic_reader.specs.KnownSets.{bytes_of, flags_in}
 use Rattle.dic_reader.proofs.EntryLemmas.{no-word, no-characters, some-characters, read-well}
@@ -13,7 +13,7 @@ use Rattle.dic_reader.proofs.words.read_entry.Goals as goal
 
 pub returns-then-is_empty-clause-fault : goal.returns-then-is_empty-clause-fault
 returns-then-is_empty-clause-fault c =
-    let word : chars (bytes_of c.in_ok-word.word) ≡ word_of c.args.affixes.now c.args.text.now =
+    let word : chars (bytes_of c.in_ok-word.word) ≡ word_of_entry c.args.affixes.now c.args.text.now =
     c.in_ok-word.ensures.word
     ∙ ap (λ ignore. without_ignored ignore (whole_word c.args.text.now)) c.deref.ensures in
     no-word c.args.affixes.now c.args.number c.args.text.now
@@ -28,7 +28,7 @@ returns-in-Ok-clause-word c =
 
 pub returns-in-Ok-clause-read : goal.returns-in-Ok-clause-read
 returns-in-Ok-clause-read c = λ entries are.
-    let word : chars (bytes_of c.in_ok-word.word) ≡ word_of c.args.affixes.now c.args.text.now =
+    let word : chars (bytes_of c.in_ok-word.word) ≡ word_of_entry c.args.affixes.now c.args.text.now =
     c.in_ok-word.ensures.word
     ∙ ap (λ ignore. without_ignored ignore (whole_word c.args.text.now)) c.deref.ensures in
     let some : 0 < length (chars (bytes_of c.in_ok-word.word)) =
@@ -46,7 +46,7 @@ returns-in-Ok-clause-read c = λ entries are.
 pub returns-clause-fault : goal.returns-clause-fault
 returns-clause-fault c =
     let affixes = c.args.affixes.now in
-    let word : chars (bytes_of c.in_ok-word.word) ≡ word_of affixes c.args.text.now =
+    let word : chars (bytes_of c.in_ok-word.word) ≡ word_of_entry affixes c.args.text.now =
     c.in_ok-word.ensures.word
     ∙ ap (λ ignore. without_ignored ignore (whole_word c.args.text.now)) c.deref.ensures in
     let some : 0 < length (chars (bytes_of c.in_ok-word.word)) =

@@ -1,15 +1,15 @@
 -- The file that explains the bytes explains what they say.
 use Rattle.std.proofs.lemmas.Option.{IfSome_then}
-use Rattle.lists.specs.AnswerLaws.{fails-then, gives-fault, gives-then}
-use Rattle.dictionary_swap.specs.Loads.{MayCome, entries_due, entries_step}
+use Rattle.outside.specs.lists.AnswerLaws.{fails-then, gives-fault, gives-then}
+use Rattle.dictionary_swap.specs.Loads.{MayComeOfLoads, entries_due, entries_step}
 use Rattle.dictionary_swap.proofs.steps.load_entries.Goals as goal
 
 pub returns-in_err-bytes-clause-found : goal.returns-in_err-bytes-clause-found
 unfolding entries_due
 returns-in_err-bytes-clause-found g c =
     let found = c.in_err-bytes.ensures.found in
-    let fails = fails-then MayCome (entries_step c.args.affixes.now) found.1 in
-    (found.0, gives-fault MayCome (λ x. x) c.from_residual.result fails c.from_residual.ensures.1)
+    let fails = fails-then MayComeOfLoads (entries_step c.args.affixes.now) found.1 in
+    (found.0, gives-fault MayComeOfLoads (λ x. x) c.from_residual.result fails c.from_residual.ensures.1)
 
 pub returns-clause-found : goal.returns-clause-found
 unfolding entries_due
@@ -17,7 +17,7 @@ returns-clause-found g c =
     let found = c.in_ok-bytes.ensures.found in
     let due = rw c.deref.ensures.value at c.read_entries.ensures.due in
     let next = entries_step c.args.affixes.now in
-    (found.0, gives-then MayCome next (λ x. x) c.read_entries.result found.1 due)
+    (found.0, gives-then MayComeOfLoads next (λ x. x) c.read_entries.result found.1 due)
 
 pub returns-clause-told : goal.returns-clause-told
 unfolding entries_due
@@ -25,4 +25,4 @@ returns-clause-told g c =
     let due = rw c.deref.ensures.value at c.read_entries.ensures.due in
     let next = entries_step c.args.affixes.now in
     IfSome_then (g.F.Files.told c.args.files.now) c.in_ok-bytes.ensures.told
-    (λ folder is. gives-then MayCome next (λ x. x) c.read_entries.result is due)
+    (λ folder is. gives-then MayComeOfLoads next (λ x. x) c.read_entries.result is due)

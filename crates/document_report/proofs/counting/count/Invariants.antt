@@ -1,7 +1,7 @@
 -- What is counted already and what is left to count are all that is counted.
 use Rattle.std.proofs.Common.{◌≡◌, ◌+◌, ◌*◌, ◌≤◌, ◌++◌, drop}
 use Rattle.std.specs.String.{string_bytes}
-use Rattle.document_report.specs.Given.{listed}
+use Rattle.document_report.specs.Given.{lines_if_listed}
 use Rattle.document_report.proofs.ReportLemmas.{lines_from, marks_from, words_from}
 use Rattle.document_report.proofs.counting.count.Given as goal
 use Rattle.paragraph_text.specs.declared.limits.TheConstants.{MOST_BYTES}
@@ -14,8 +14,8 @@ invariant-loop-place g l =
     let next = l.part.first + l.place in
     record {
       same : g.K.Asker.lexicon l.asker ≡ lexicon;
-      text : string_bytes l.report.text ++ listed l.output (lines_from lexicon next left)
-          ≡ listed l.output (lines_from lexicon l.part.first texts);
+      text : string_bytes l.report.text ++ lines_if_listed l.output (lines_from lexicon next left)
+          ≡ lines_if_listed l.output (lines_from lexicon l.part.first texts);
       marks : l.report.marks + marks_from lexicon left ≡ marks_from lexicon texts;
       words : l.report.words + words_from lexicon left ≡ words_from lexicon texts;
       few : l.report.words ≤ MOST_BYTES * l.place;

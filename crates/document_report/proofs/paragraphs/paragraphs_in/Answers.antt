@@ -1,8 +1,8 @@
 -- A line is taken from the front of the rest, and is the next paragraph.
 use Rattle.std.proofs.Common.{rules, ◌∙◌, ◌++◌, append-nil, inr, length, sym, ap, arith}
 use Rattle.std.proofs.lemmas.List.{length_push}
-use Rattle.text_lines.specs.Laws.{no-texts, some-texts}
-use Rattle.text_lines.specs.Texts.{texts_in}
+use Rattle.mark_types.specs.text_lines.Laws.{no-texts, some-texts}
+use Rattle.mark_types.specs.text_lines.Texts.{texts_in}
 use Rattle.document_report.specs.Texts.{lent}
 use Rattle.document_report.proofs.LineLemmas.{few-found, line-taken, many-found}
 use Rattle.document_report.proofs.LineLemmas.{none-left, some-left}

@@ -2,7 +2,7 @@
 use Rattle.std.proofs.Common.{◌≡◌, ◌≤◌, ◌++◌, length}
 use denote.Shadow.{shadow}
 use denote.Text.{Utf8}
-use Rattle.text_lines.specs.Texts.{texts_in}
+use Rattle.mark_types.specs.text_lines.Texts.{texts_in}
 use Rattle.document_report.specs.Texts.{lent}
 use Rattle.document_report.proofs.paragraphs.paragraphs_in.Given as goal
 use Rattle.paragraph_text.specs.declared.limits.TheConstants.{MOST_PARAGRAPHS}

@@ -1,6 +1,6 @@
 -- There is no report so far.
 use Rattle.std.proofs.Common.{◌≡◌, length}
-use Rattle.spell_types.specs.declared.Lexicon.{Lexicon}
+use Rattle.mark_types.specs.spell_types.declared.Lexicon.{Lexicon}
 use Rattle.document_report.specs.Parts.{AreOfShares}
 use Rattle.document_report.specs.declared.printing.Output.{Output}
 use Rattle.document_report.specs.declared.sharing.Shares.{Shares}

@@ -1,6 +1,6 @@
 -- The dictionary that is made of the parts is that of the parts.
 use Rattle.std.proofs.Common.{◌∙◌, inl, sym, ap, Ok}
-use Rattle.lists.specs.AnswerLaws.{gives-fault}
+use Rattle.outside.specs.lists.AnswerLaws.{gives-fault}
 use Rattle.file_loading.specs.Due.{MayCome}
 use Rattle.file_loading.specs.declared.failure.Failure.TheVariants.{NoMemory}
 use Rattle.file_loading.proofs.loading.load_dictionary.Goals as goal

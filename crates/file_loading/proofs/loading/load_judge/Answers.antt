@@ -1,9 +1,9 @@
 -- What is asked is the base extended by the list.
 use Rattle.std.proofs.Common.{◌∙◌, ap, sym, Ok}
 use Rattle.std.specs.Arc.{arc_value}
-use Rattle.lists.specs.AnswerLaws.{fails-then, gives-fault}
-use Rattle.lists.specs.Answers.{◌>>=◌}
-use Rattle.personal_words.specs.Dictionaries.{in_force}
+use Rattle.outside.specs.lists.AnswerLaws.{fails-then, gives-fault}
+use Rattle.outside.specs.lists.Answers.{◌>>=◌}
+use Rattle.own_dictionary.specs.personal_words.Dictionaries.{in_force}
 use Rattle.file_loading.specs.Due.{MayCome, in_force_due}
 use Rattle.file_loading.proofs.loading.load_judge.Goals as goal
 

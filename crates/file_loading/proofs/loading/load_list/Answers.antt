@@ -1,5 +1,5 @@
 -- The file that explains the bytes explains what they say.
-use Rattle.lists.specs.AnswerLaws.{fails-then, gives-fault, gives-then}
+use Rattle.outside.specs.lists.AnswerLaws.{fails-then, gives-fault, gives-then}
 use Rattle.file_loading.specs.Due.{MayCome, items_due, list_due}
 use Rattle.file_loading.proofs.loading.load_list.Goals as goal
 

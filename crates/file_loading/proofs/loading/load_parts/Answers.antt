@@ -1,6 +1,6 @@
 -- Each step gives what is due.
 use Rattle.std.proofs.Common.{refl, subst, Ok}
-use Rattle.personal_words.specs.Dictionaries.{OwnSeen}
+use Rattle.own_dictionary.specs.personal_words.Dictionaries.{OwnSeen}
 use Rattle.file_loading.specs.Operands.{DictionaryNamed}
 use Rattle.file_loading.proofs.DueLemmas.{IsLoaded, base-not-loaded, dictionary-made}
 use Rattle.file_loading.proofs.DueLemmas.{list-not-loaded}

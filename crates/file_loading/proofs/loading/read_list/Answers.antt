@@ -1,6 +1,6 @@
 -- The items of the list are due, or why there are none.
 use Rattle.std.proofs.Common.{ap, subst, sym}
-use Rattle.lists.specs.Answers.{FailsAs, failing}
+use Rattle.outside.specs.lists.Answers.{FailsAs, failing}
 use Rattle.file_loading.specs.Due.{MayCome, items_due}
 use Rattle.file_loading.specs.Failures.{own_failure}
 use Rattle.file_loading.proofs.DueLemmas.{own-fails}

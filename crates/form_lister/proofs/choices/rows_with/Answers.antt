@@ -4,7 +4,7 @@ use Rattle.std.specs.List.Sorted.{IsNonDecreasingBy, IsPartitionPoint}
 use Rattle.std.proofs.lemmas.List.Sorted.{IsNonDecreasingBy-drop, IsPartitionPoint-from_clause}
 use Rattle.std.proofs.lemmas.List.Sorted.{IsPartitionedBy-ltb, IsPartitionedBy-leb}
 use Rattle.form_lister.specs.Choices.{HasRowsOf}
-use Rattle.form_lister.specs.declared.choices.Row.{Row}
+use Rattle.form_lister.specs.declared.choices.RuleRow.{RuleRow}
 use Rattle.form_lister.proofs.ChoiceLemmas.{found-rows}
 use Rattle.form_lister.proofs.choices.rows_with.Goals as goal
 
@@ -12,7 +12,7 @@ pub returns : goal.returns
 returns c = λ rising.
     let rows = c.args.rows.now in
     let flag = c.args.flag in
-    let n = λ (row : Row). row.flag in
+    let n = λ (row : RuleRow). row.flag in
     let start = c.partition_point-start.result in
     let end = c.partition_point-end.result in
     let rest : c.split_at.result.1.now ≡ drop start rows = c.split_at.ensures.back in

@@ -1,7 +1,7 @@
 -- A word is passed, and its mark is added if it has one.
 use Rattle.std.proofs.Common.{◌<◌, ◌∙◌, IfSome, subst, arith}
 use Rattle.word_cutter.specs.Runs.{found_word, words_after}
-use Rattle.paragraph_marks.specs.Judging.{IsNext}
+use Rattle.paragraph_marks.specs.Judging.{IsNextJudged}
 use Rattle.paragraph_marks.proofs.MarkLemmas.{behind-both, count-step, left-step, marks-step}
 use Rattle.paragraph_marks.proofs.judging.judge_words.Goals as goal
 
@@ -11,9 +11,9 @@ loop-count-preserved g c =
     let l = c.loop-count in
     let characters = c.next_judged.new.word.items in
     let judged = c.in-Some.judged in
-    let next : IsNext lexicon l.left characters judged =
-    subst (λ lexicon. IsNext lexicon l.left characters judged) l.invariant.same
-    (subst (λ judged. IfSome judged (IsNext (g.K.Asker.lexicon l.asker) l.left characters))
+    let next : IsNextJudged lexicon l.left characters judged =
+    subst (λ lexicon. IsNextJudged lexicon l.left characters judged) l.invariant.same
+    (subst (λ judged. IfSome judged (IsNextJudged (g.K.Asker.lexicon l.asker) l.left characters))
     c.in-Some.is c.in_ok-judged.ensures.next) in
     let word = found_word characters judged.found in
     let all = words_after lexicon.affixes.wordchars l.left in

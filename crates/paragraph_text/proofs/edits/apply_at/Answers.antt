@@ -1,7 +1,7 @@
 -- The edit is the one that is lent, part by part.
 use Rattle.std.proofs.Common.{◌≡◌, ◌∙◌, sym, ap, subst, IfErr}
-use Rattle.lists.specs.Answers.{IsDueOr}
-use Rattle.paragraph_text.specs.Edits.{first_refusal}
+use Rattle.text_lines.specs.lists.Answers.{IsDueOr}
+use Rattle.paragraph_text.specs.Edits.{edit_refusal}
 use Rattle.paragraph_text.specs.declared.edits.Edit.TheVariants.{Insert, Remove, Replace}
 use Rattle.paragraph_text.specs.declared.edits.EditRefusal.TheVariants.{NoMemory}
 use Rattle.paragraph_text.proofs.Kept.{kept-ok}
@@ -10,7 +10,7 @@ use Rattle.paragraph_text.proofs.edits.apply_at.Goals as goal
 pub returns-in-Insert-clause-refused : goal.returns-in-Insert-clause-refused
 returns-in-Insert-clause-refused c =
     subst (λ edit.
-    IfErr c.insert.result (IsDueOr NoMemory (first_refusal c.args.paragraphs.now edit)))
+    IfErr c.insert.result (IsDueOr NoMemory (edit_refusal c.args.paragraphs.now edit)))
     (ap (λ text. Insert c.in-Insert.before text) c.as_str-text.ensures.text ∙ sym c.in-Insert.is)
     c.insert.ensures.refused
 

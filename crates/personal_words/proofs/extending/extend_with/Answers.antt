@@ -1,6 +1,6 @@
 -- The parts are those of the dictionary that is asked for.
 use Rattle.std.proofs.Common.{◌∙◌, ◌++◌, refl, ap, sym, subst}
-use Rattle.spell_types.specs.Sanity.{IsSane}
+use Rattle.mark_types.specs.spell_types.Sanity.{IsSane}
 use Rattle.personal_words.proofs.ExtendLemmas.{is-extended, extended-sane}
 use Rattle.personal_words.proofs.extending.extend_with.Goals as goal
 

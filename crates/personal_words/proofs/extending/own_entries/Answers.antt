@@ -2,7 +2,7 @@
 use Rattle.std.proofs.Common.{◌∙◌, ◌∷◌, [], ap, map, subst}
 use Rattle.std.proofs.lemmas.List.{take_all}
 use Rattle.personal_words.specs.Extended.{entry_of_item}
-use Rattle.spell_types.specs.Flags.{put}
+use Rattle.mark_types.specs.spell_types.Flags.{put}
 use Rattle.personal_words.specs.Models.{AreLike}
 use Rattle.personal_words.proofs.ExtendLemmas.{more-entries}
 use Rattle.personal_words.proofs.extending.own_entries.Goals as goal

@@ -1,6 +1,6 @@
 -- The entries of the items so far stand there.
 use Rattle.std.proofs.Common.{◌≡◌, map, take}
-use Rattle.spell_types.specs.declared.Lexicon.{Lexicon}
+use Rattle.mark_types.specs.spell_types.declared.Lexicon.{Lexicon}
 use Rattle.personal_words.specs.Extended.{entry_of_item, forbidding}
 use Rattle.personal_words.proofs.extending.own_entries.Given as goal
 

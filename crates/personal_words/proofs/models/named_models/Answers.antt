@@ -3,7 +3,8 @@ use Rattle.std.proofs.Common.{[], ◌+◌, sym, subst, arith}
 use Rattle.personal_words.specs.Models.{HasModel, Puts}
 use Rattle.personal_words.proofs.ModelLemmas.{turn-named, turn-unnamed, all-named, put-none}
 use Rattle.personal_words.proofs.ModelLemmas.{NamedUpTo}
-use Rattle.personal_words.proofs.models.named_models.Goals.{in-Some+in_ok-copy+in_ok-put, in_default}
+use Rattle.personal_words.proofs.models.named_models.Goals.{in-Some+in_ok-copy+in_ok-put}
+use Rattle.personal_words.proofs.models.named_models.Goals.{in_default}
 use Rattle.personal_words.proofs.models.named_models.Goals as goal
 
 pub loop-item-preserved : goal.loop-item-preserved

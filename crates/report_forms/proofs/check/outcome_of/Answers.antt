@@ -2,11 +2,11 @@
 use Rattle.std.proofs.Common.{◌≡◌, ◌∙◌, ap, inl, subst, sym, Ok}
 use Rattle.std.specs.Prelude.{IfOk}
 use Rattle.std.specs.Arc.{arc_value}
-use Rattle.lists.specs.Answers.{GivesDue}
+use Rattle.outside.specs.lists.Answers.{GivesDue}
 use Rattle.document_report.specs.Given.{printed_by}
 use Rattle.document_report.specs.Reports.{report_of}
 use Rattle.personal_words.specs.Dictionaries.{in_force}
-use Rattle.file_loading.specs.Due.{MayCome, bytes_due}
+use Rattle.file_loading.specs.Due.{MayCome, bytes_due_of_file}
 use Rattle.report_forms.specs.Due.{printed_due}
 use Rattle.report_forms.specs.Operands.{CheckedFiles}
 use Rattle.file_loading.specs.declared.failure.Failure.TheVariants.{NoMemory}
@@ -40,7 +40,7 @@ returns-in_err-document-clause-due g c =
     (check-no-document told _ result (parts-in-force told _ c.in_ok-parts.ensures.due) (
       file.0,
       file.1,
-      subst (GivesDue MayCome (λ bytes. bytes.items) (bytes_due DOCUMENT_LIMIT file.0))
+      subst (GivesDue MayCome (λ bytes. bytes.items) (bytes_due_of_file DOCUMENT_LIMIT file.0))
           c.in_err-document.was file.2,
     )
     c.from_residual-in_err-document.ensures.1)
@@ -57,7 +57,7 @@ returns-clause-due g c =
     (check-reported told _ result (there.0, there.1, there.2 ∙ ap Ok (sym made)) (
       file.0,
       file.1,
-      subst (GivesDue MayCome (λ bytes. bytes.items) (bytes_due DOCUMENT_LIMIT file.0))
+      subst (GivesDue MayCome (λ bytes. bytes.items) (bytes_due_of_file DOCUMENT_LIMIT file.0))
           c.in_ok-document.was file.2,
     )
     (subst (λ document. GivesDue MayCome printed_by

@@ -1,9 +1,9 @@
 -- The report is what is due, or why there is none.
 use Rattle.std.proofs.Common.{◌≡◌, ◌∙◌, ap, sym, subst, refl, Err, Result}
 use Rattle.std.specs.Arc.{arc_value}
-use Rattle.lists.specs.AnswerLaws.{fails-told}
-use Rattle.lists.specs.Answers.{FailsAs, failing}
-use Rattle.document_report.specs.Documents.{MayCome as ReportMayCome}
+use Rattle.outside.specs.lists.AnswerLaws.{fails-told}
+use Rattle.outside.specs.lists.Answers.{FailsAs, failing}
+use Rattle.document_report.specs.Documents.{MayComeOfDocuments}
 use Rattle.document_report.specs.Given.{printed_as}
 use Rattle.document_report.specs.declared.printing.Report.{Report}
 use Rattle.document_report.specs.declared.fault.DocumentFault.{DocumentFault}
@@ -35,7 +35,7 @@ returns-in-Err-clause-due g c =
     let lexicon = arc_value c.args.judge.now in
     let due = printed_due (printed_as c.args.output) lexicon c.args.document.now in
     subst (FailsAs MayCome due) (sym c.from.ensures)
-    (fails-told ReportMayCome MayCome document_failure report-comes c.in-Err.ensures.due)
+    (fails-told MayComeOfDocuments MayCome document_failure report-comes c.in-Err.ensures.due)
 
 pub returns-in-Err-clause-failed : goal.returns-in-Err-clause-failed
 returns-in-Err-clause-failed g c =

@@ -1,6 +1,6 @@
 -- The tables are those of the dictionary.
 use Rattle.std.proofs.Common.{inl}
-use Rattle.lists.specs.AnswerLaws.{gives-fault}
+use Rattle.outside.specs.lists.AnswerLaws.{gives-fault}
 use Rattle.document_report.specs.Given.{printed_by}
 use Rattle.file_loading.specs.Due.{MayCome}
 use Rattle.file_loading.specs.declared.failure.Failure.TheVariants.{NoMemory}

@@ -1,6 +1,6 @@
 -- The forms are listed, or why they are not.
 use Rattle.std.proofs.Common.{◌∙◌, ap, subst, sym, Ok}
-use Rattle.lists.specs.Answers.{FailsAs}
+use Rattle.outside.specs.lists.Answers.{FailsAs}
 use Rattle.file_loading.specs.Due.{MayCome}
 use Rattle.report_forms.specs.Due.{listing_due}
 use Rattle.report_forms.specs.Listings.{listing}

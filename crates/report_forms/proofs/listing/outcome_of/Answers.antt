@@ -1,6 +1,6 @@
 -- The dictionary is due, and then its listing.
 use Rattle.std.proofs.Common.{subst}
-use Rattle.lists.specs.AnswerLaws.{fails-then, gives-fault, gives-then}
+use Rattle.outside.specs.lists.AnswerLaws.{fails-then, gives-fault, gives-then}
 use Rattle.document_report.specs.Given.{printed_by}
 use Rattle.file_loading.specs.Due.{MayCome}
 use Rattle.report_forms.specs.Due.{forms_due, listing_due}

@@ -1,8 +1,8 @@
 -- Each step gives what is due.
 use Rattle.std.proofs.Common.{◌≡◌, inl, subst, arith, Some, Ok}
 use Rattle.std.specs.Arc.{arc_value}
-use Rattle.lists.specs.AnswerLaws.{fails-then, gives-fault, gives-then}
-use Rattle.lists.specs.Answers.{FailsAs, GivesDue}
+use Rattle.outside.specs.lists.AnswerLaws.{fails-then, gives-fault, gives-then}
+use Rattle.outside.specs.lists.Answers.{FailsAs, GivesDue}
 use Rattle.outside.specs.Memory.{file_of}
 use Rattle.document_report.specs.Given.{printed_by}
 use Rattle.document_report.specs.Reports.{summary_of}

@@ -2,7 +2,7 @@
 use Rattle.std.proofs.Common.{arith, ◌+◌, ap, map, drop, subst, ℕ, List, [], get_or, Bor}
 use Rattle.std.specs.String.{string_bytes}
 use Rattle.std.proofs.lemmas.List.{drop_all}
-use Rattle.team_forms.specs.Sessions.{AnswersLine}
+use Rattle.team_forms.specs.Sessions.{AnswersSessionLine}
 use Rattle.team_forms.proofs.Lines.{AreMidway, all-answered, goes-on, next-line, quit-answered}
 use Rattle.team_forms.proofs.Stops.{asks-more}
 use Rattle.team_forms.proofs.answering.answer_all.Goals as goal
@@ -27,7 +27,7 @@ loop-line-preserved g c =
           (string_bytes c.loop-line.replies))
           (next-line (λ line. line.now) c.args.lines.now c.loop-line.line-index d
           c.loop-line-test.true) c.loop-line.invariant.1)
-          (subst (AnswersLine g.J.Judge.lexicon c.args.pairs.now c.args.session _
+          (subst (AnswersSessionLine g.J.Judge.lexicon c.args.pairs.now c.args.session _
           c.loop-line.console.eye c.answer.new.console.eye (string_bytes c.loop-line.replies)
           (string_bytes c.answer.new.replies)) c.in-On.is answered.answered),
     )
@@ -59,6 +59,6 @@ returns-in-Quit-clause-answered g c =
     (string_bytes c.loop-line.replies))
     (next-line (λ line. line.now) c.args.lines.now c.loop-line.line-index d
     c.loop-line-test.true) c.loop-line.invariant.1)
-    (subst (AnswersLine g.J.Judge.lexicon c.args.pairs.now c.args.session _
+    (subst (AnswersSessionLine g.J.Judge.lexicon c.args.pairs.now c.args.session _
     c.loop-line.console.eye c.answer.new.console.eye (string_bytes c.loop-line.replies)
     (string_bytes c.answer.new.replies)) c.in-Quit.is answered.answered)

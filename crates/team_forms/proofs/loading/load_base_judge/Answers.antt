@@ -1,8 +1,8 @@
 -- The dictionary is due, or why there is none.
 use Rattle.std.proofs.Common.{ap, subst, sym}
-use Rattle.lists.specs.AnswerLaws.{fails-told}
-use Rattle.lists.specs.Answers.{FailsAs, failing}
-use Rattle.dictionary_swap.specs.Loads.{MayCome as LoadMayCome}
+use Rattle.outside.specs.lists.AnswerLaws.{fails-told}
+use Rattle.outside.specs.lists.Answers.{FailsAs, failing}
+use Rattle.own_dictionary.specs.dictionary_swap.Loads.{MayComeOfLoads}
 use Rattle.file_loading.specs.Due.{MayCome, base_due}
 use Rattle.file_loading.specs.Failures.{failure_of}
 use Rattle.file_loading.specs.DueLaws.{load-comes}
@@ -17,5 +17,5 @@ pub returns-in-Err-clause-due : goal.returns-in-Err-clause-due
 unfolding base_due
 returns-in-Err-clause-due g c =
     let there = c.in-Err.ensures.due in
-    let fails = fails-told LoadMayCome MayCome failure_of load-comes there.2 in
+    let fails = fails-told MayComeOfLoads MayCome failure_of load-comes there.2 in
     (there.0, there.1, subst (FailsAs MayCome (base_due there.0)) (sym c.from.ensures) fails)

@@ -1,6 +1,6 @@
 -- The file that explains the bytes explains what they say.
-use Rattle.lists.specs.AnswerLaws.{fails-then, gives-fault, gives-then}
-use Rattle.lists.specs.Answers.{failing}
+use Rattle.outside.specs.lists.AnswerLaws.{fails-then, gives-fault, gives-then}
+use Rattle.outside.specs.lists.Answers.{failing}
 use Rattle.team_script.specs.Due.{script_due}
 use Rattle.file_loading.specs.Due.{MayCome}
 use Rattle.team_forms.specs.Teams.{script_failure, read_due}

@@ -1,6 +1,6 @@
 -- The history begins with what the eye knows, and has as many events as the eye counts.
 use Rattle.std.proofs.Common.{◌∙◌, sym, ap, subst, List}
-use Rattle.edit_core.specs.Runs.{Entry, asked_by}
+use Rattle.board_share.specs.edit_core.Runs.{Entry, events_asked_by}
 use Rattle.team_history.specs.ToldBy.{AreToldIn}
 use Rattle.team_history.proofs.Cuts.{cut-in}
 use Rattle.team_history.proofs.laws.closed_sessions_are_told.Goals as goal
@@ -11,6 +11,6 @@ returns c session commands replies eye history heard has = record {
       (λ (entries : List Entry). AreToldIn session history.opening entries commands replies)
       has.begins.1
       (cut-in session history.opening eye.run.entries has.begins.0 commands replies heard.cut);
-  no_more = ap (λ by. asked_by by history.entries) (sym heard.number) ∙ has.events
+  no_more = ap (λ by. events_asked_by by history.entries) (sym heard.number) ∙ has.events
       ∙ heard.counted;
 }

@@ -1,8 +1,8 @@
 -- By the stretch that the eye comes to know.
 use Rattle.std.proofs.Common.{◌∙◌, ◌+◌, ℕ, List, refl, sym, ap, subst, ◌∷◌, [], ◌++◌}
 use Rattle.std.specs.Prelude.{if◌then◌else◌}
-use Rattle.edit_core.specs.Runs.{Entry, last_board}
-use Rattle.edit_core.specs.Seen.{Seen}
+use Rattle.board_share.specs.edit_core.Runs.{Entry, last_board}
+use Rattle.board_share.specs.edit_core.Seen.{Seen}
 use Rattle.team_history.specs.Eyes.{AreToldJust}
 use Rattle.team_history.specs.ToldBy.{IsOneToldIn, is_taken}
 use Rattle.team_history.proofs.Cuts.{one-more, taken-more}

@@ -5,7 +5,7 @@ use Rattle.std.proofs.lemmas.List.{drop_all}
 use Rattle.console_lang.specs.Commands.{said_by}
 use Rattle.team_script.specs.declared.line.SessionLine.{SessionLine}
 use Rattle.team_script.specs.declared.pairs.Pair.{Pair}
-use Rattle.team_script.specs.Pairs.{loaded, loaded_by, is_among}
+use Rattle.team_script.specs.Pairs.{loaded, loaded_by, is_pair_among}
 use Rattle.team_script.proofs.LineLemmas.{next-item}
 use Rattle.team_script.proofs.PairLemmas.{AreFound, none-found, known-loaded, new-loaded}
 use Rattle.team_script.proofs.PairLemmas.{many-loaded, all-found}
@@ -33,7 +33,7 @@ pub loop-line-preserved-then-is_among : goal.loop-line-preserved-then-is_among
 loop-line-preserved-then-is_among c =
     known-loaded c.line-item.result _ c.in-Some.pair
     (pair-is c.line-item.result _ _ _ c.as_str.ensures.text c.in_ok-pair.ensures c.in-Some.is)
-    (ap (λ pairs. is_among pairs c.in-Some.pair) (sym c.deref.ensures) ∙ sym c.is_among.ensures
+    (ap (λ pairs. is_pair_among pairs c.in-Some.pair) (sym c.deref.ensures) ∙ sym c.is_among.ensures
     ∙ c.if-is_among.true)
     (ahead c.line-item.result c.loop-line-test.true c.line-item.is c.loop-line.invariant)
 
@@ -41,7 +41,7 @@ pub returns-then-len-eq-PAIR_LIMIT-clause-due : goal.returns-then-len-eq-PAIR_LI
 returns-then-len-eq-PAIR_LIMIT-clause-due c =
     inr (many-loaded c.line-item.result _ c.in-Some.pair
     (pair-is c.line-item.result _ _ _ c.as_str.ensures.text c.in_ok-pair.ensures c.in-Some.is)
-    (ap (λ pairs. is_among pairs c.in-Some.pair) (sym c.deref.ensures) ∙ sym c.is_among.ensures
+    (ap (λ pairs. is_pair_among pairs c.in-Some.pair) (sym c.deref.ensures) ∙ sym c.is_among.ensures
     ∙ c.if-is_among.false)
     (omega (arith, c.len.ensures, c.if-len-eq-PAIR_LIMIT.true))
     (ahead c.line-item.result c.loop-line-test.true c.line-item.is c.loop-line.invariant))
@@ -52,7 +52,7 @@ loop-line-preserved c =
     (sym c.in_ok-push.ensures.ok)
     (new-loaded c.line-item.result _ c.in-Some.pair
     (pair-is c.line-item.result _ _ _ c.as_str.ensures.text c.in_ok-pair.ensures c.in-Some.is)
-    (ap (λ pairs. is_among pairs c.in-Some.pair) (sym c.deref.ensures) ∙ sym c.is_among.ensures
+    (ap (λ pairs. is_pair_among pairs c.in-Some.pair) (sym c.deref.ensures) ∙ sym c.is_among.ensures
     ∙ c.if-is_among.false)
     (λ full. c.if-len-eq-PAIR_LIMIT.false (c.len.ensures ∙ full))
     (ahead c.line-item.result c.loop-line-test.true c.line-item.is c.loop-line.invariant))

@@ -1,16 +1,16 @@
 -- What is due of all lines follows from what is due of those that are read.
 use Rattle.std.proofs.Common.{◌∙◌, ◌≤◌, inr, length, subst, sym}
-use Rattle.lists.specs.AnswerLaws.{gives-fault}
+use Rattle.text_lines.specs.lists.AnswerLaws.{gives-fault}
 use Rattle.text_lines.specs.Lines.{line_texts}
 use Rattle.team_script.specs.Lines.{HasNoBreak, IsNumbered}
-use Rattle.team_script.specs.Due.{MayCome}
+use Rattle.team_script.specs.Due.{MayComeOfScripts}
 use Rattle.team_script.proofs.FileLemmas.{lines-given, bad-given, fault-given, few-told}
 use Rattle.team_script.proofs.SessionLemmas.{due-all}
 use Rattle.team_script.proofs.reading.read_lines.Goals as goal
 
 pub returns-in_err-told-clause-due : goal.returns-in_err-told-clause-due
 returns-in_err-told-clause-due c =
-    gives-fault MayCome (λ told. told) c.from_residual-in_err-told.result
+    gives-fault MayComeOfScripts (λ told. told) c.from_residual-in_err-told.result
     (fault-given c.args.bytes.now c.deref.result.now c.in_err-told.field-0.0
     (c.deref.ensures ∙ c.in_ok-found.ensures.good) c.in_err-told.ensures)
     c.from_residual-in_err-told.ensures.1

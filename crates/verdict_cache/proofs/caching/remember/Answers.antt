@@ -1,6 +1,6 @@
 -- The verdict is put, or what is remembered stays.
 use Rattle.std.proofs.Common.{◌∙◌, sym, ap, subst}
-use Rattle.spell_types.specs.Yields.{yields}
+use Rattle.mark_types.specs.spell_types.Yields.{yields}
 use Rattle.verdict_cache.specs.Verdicts.{AreVerdicts}
 use Rattle.verdict_cache.proofs.Remembering.{put-are}
 use Rattle.verdict_cache.proofs.caching.remember.Goals as goal

@@ -13,8 +13,8 @@ use Rattle.std_heap.proofs.Global.TheSendSync as handle
 use Rattle.std_heap.specs.declared.Global.{Global}
 use Rattle.std_heap.specs.contracts.GlobalAllocator.TheImpl.{ghosts}
 use Rattle.affedit_c.specs.Holding.{may_own}
-use Rattle.affedit_c.specs.contracts.kept.Kept.{the_row as R}
-use Rattle.affedit_c.proofs.kept.Kept.TheSendSync.{the_send as kept}
+use Rattle.affedit_c.specs.contracts.kept.KeptDictionary.{the_row as R}
+use Rattle.affedit_c.proofs.kept.KeptDictionary.TheSendSync.{the_send as kept}
 use Rattle.affedit_c.specs.contracts.held.Held.{the_row, the_type}
 
 owned : (heap : Global) (at : Ptr) (value : Option R.Denot)

@@ -1,5 +1,6 @@
 -- `into_parts` gives the parts what the pointer owns: a walk of its MIR by hand.
-use Rattle.std.proofs.Common.{◌≡◌, List, [], ◌∷◌, ◌++◌, Option, None, Some, IsSome, refl, sym, ap, ◌∙◌, subst}
+use Rattle.std.proofs.Common.{◌≡◌, List, [], ◌∷◌, ◌++◌, Option, None, Some, IsSome, refl, sym, ap}
+use Rattle.std.proofs.Common.{◌∙◌, subst}
 use mathlib.Core.Bool.{true, false}
 use lib.Dec.{T}
 use mir.Raw.{raw as bare}
@@ -10,7 +11,8 @@ use contract.Monad.{fact}
 use contract.Running.{tables}
 use prog.Wp.{WpFn}
 use types.Logic.{sem}
-use types.Kit.{‵, raw, ◌⊛◌, ◌$◌, ◌∵◌, !, qed, done, move, drop, split, join, fsplit, fjoin, fpick, fpack, feq_i, feq_l, rewrite, suffices}
+use types.Kit.{‵, raw, ◌⊛◌, ◌$◌, ◌∵◌, !, qed, done, move, drop, split, join, fsplit, fjoin, fpick}
+use types.Kit.{fpack, feq_i, feq_l, rewrite, suffices}
 use types.Run.{stop, fld, of_opd, no_more, and_then, enter, returns}
 use types.ByLocal.{alloc_all, pass_all, free_all, look_at, get, get_in, sets}
 use types.Part.{agg, sub, whole}
@@ -31,7 +33,7 @@ use Rattle.std_heap.specs.contracts.Global.{the_row as G}
 use Rattle.std_heap.specs.contracts.GlobalAllocator.TheImpl.{ghosts}
 use Rattle.std.proofs.raw_atomic.Walks.{proved_at}
 use Rattle.affedit_c.specs.Holding.{may_own}
-use Rattle.affedit_c.specs.contracts.kept.Kept.{the_row as R}
+use Rattle.affedit_c.specs.contracts.kept.KeptDictionary.{the_row as R}
 use Rattle.affedit_c.specs.contracts.held.Parts as parts
 use Rattle.affedit_c.specs.contracts.held.Held as held
 use Rattle.affedit_c.specs.contracts.held.Held.into_parts as f

@@ -5,7 +5,8 @@ use base.Logic.{SProp, ent, id⊢}
 use base.Fml.{ftrue}
 use contract.Running.{tables}
 use prog.Wp.{WpFn}
-use types.Kit.{‵, ◌⊛◌, ◌$◌, ◌∵◌, !, qed, done, move, drop, split, join, fsplit, fjoin, fpack, feq_i, rewrite, suffices}
+use types.Kit.{‵, ◌⊛◌, ◌$◌, ◌∵◌, !, qed, done, move, drop, split, join, fsplit, fjoin, fpack, feq_i}
+use types.Kit.{rewrite, suffices}
 use types.Run.{lit, no_more, and_then, enter, returns}
 use types.ByLocal.{alloc_all, pass_all, free_all, look_at, get, sets}
 use types.Part.{agg}

@@ -6,7 +6,8 @@ use base.Fml.{ftrue}
 use contract.Running.{tables}
 use prog.Wp.{WpFn}
 use types.Logic.{sem}
-use types.Kit.{‵, ◌⊛◌, ◌$◌, ◌∵◌, !, qed, done, move, drop, split, join, fsplit, fjoin, fpick, fpack, feq_i, feq_l, rewrite, suffices}
+use types.Kit.{‵, ◌⊛◌, ◌$◌, ◌∵◌, !, qed, done, move, drop, split, join, fsplit, fjoin, fpick, fpack}
+use types.Kit.{feq_i, feq_l, rewrite, suffices}
 use types.Run.{stop, fld, of_opd, no_more, and_then, enter, returns}
 use types.ByLocal.{alloc_all, pass_all, free_all, look_at, get, get_in, sets}
 use types.Part.{agg, sub, whole}
@@ -27,7 +28,7 @@ use Rattle.std_heap.proofs.Handle.{heap_val, heap_Tells}
 use Rattle.std_heap.specs.contracts.Global.{the_row as G}
 use Rattle.std_heap.specs.contracts.GlobalAllocator.TheImpl.{ghosts}
 use Rattle.std.proofs.raw_atomic.Walks.{proved_at}
-use Rattle.affedit_c.specs.contracts.kept.Kept.{the_row as R}
+use Rattle.affedit_c.specs.contracts.kept.KeptDictionary.{the_row as R}
 use Rattle.affedit_c.specs.contracts.held.Parts as parts
 use Rattle.affedit_c.specs.contracts.held.Held as held
 use Rattle.affedit_c.specs.contracts.held.Held.of_parts as f

@@ -1,6 +1,6 @@
 -- No front has the hash of what a rule adds, before one of the words.
 use Rattle.std.proofs.Common.{◌≡◌, ◌∙◌, ◌+◌, ◌-◌, ◌&&◌, ap, sym, take, drop, arith}
-use Rattle.lists.specs.Laws.{take-rest}
+use Rattle.spell_types.specs.lists.Laws.{take-rest}
 use Rattle.key_filter.specs.Filter.{may_have}
 use Rattle.affix_strip.specs.declared.hashed.TheConstants.{START}
 use Rattle.affix_strip.specs.Hashes.{hash_of}

@@ -5,7 +5,7 @@ use Rattle.std.proofs.lemmas.Fn.{says_at}
 use Rattle.break_points.specs.declared.table.Stretch.{Stretch}
 use Rattle.break_points.specs.Occurrences.{AreOccurrences}
 use Rattle.break_points.specs.Patterns.{anchored_of}
-use Rattle.break_points.specs.Pieces.{all_left, is_broken_by, is_broken_piece, ways_of}
+use Rattle.break_points.specs.Pieces.{all_left, is_broken_as_judged, is_broken_piece, ways_of}
 use Rattle.break_points.proofs.Deciding.{ok_weaker, base_decided, barred_decided, parts_decided}
 use Rattle.break_points.proofs.Deciding.{whole_word}
 use Rattle.break_points.proofs.OccurrenceWays.{no_occurrences}
@@ -33,7 +33,7 @@ returns-then-is_empty g c = λ judged answers.
     ) in
     parts_decided judged c.args.self.now c.args.word.now c.in_ok-judge.field-0 _
     (answers _ _ (says_at g.F.Fn c.judge.ensures c.in_ok-judge.was)) c.in-Other.is
-    (no_occurrences (is_broken_by judged c.args.self.now) c.args.self.now c.args.word.now
+    (no_occurrences (is_broken_as_judged judged c.args.self.now) c.args.self.now c.args.word.now
     occurrences none
     (subst (λ breaks. AreOccurrences breaks c.args.word.now occurrences)
     (ap (map anchored_of) c.as_slice.ensures.value ∙ c.self.view_is)
@@ -49,7 +49,7 @@ returns g c = λ judged answers.
     subst (λ breaks. AreOccurrences breaks word occurrences)
     (ap (map anchored_of) c.as_slice.ensures.value ∙ c.self.view_is)
     c.in_ok-occurrences.ensures in
-    let test = is_broken_by judged breaks in
+    let test = is_broken_as_judged judged breaks in
     ok_weaker c.decide_parts.result _ _
     (λ answer p. parts_decided judged breaks word c.in_ok-judge.field-0 answer
     (answers _ _ (says_at g.F.Fn c.judge.ensures c.in_ok-judge.was)) c.in-Other.is

@@ -1,7 +1,7 @@
 -- By what the line adds to the list.
 use Rattle.std.proofs.Common.{ap, refl, subst}
 use Rattle.console_lang.specs.declared.reply.Reply.TheVariants.{Done, NoOwn}
-use Rattle.personal_words.specs.Lists.{IsRefused, added}
+use Rattle.personal_words.specs.Lists.{IsOwnLineRefused, added}
 use Rattle.console_history.specs.Told.{Seat}
 use Rattle.desk_console.proofs.LoadLemmas.{own-added, own-blank, own-refused}
 use Rattle.desk_console.proofs.console.DeskConsole.own.Goals as goal
@@ -31,5 +31,5 @@ returns-in-Err-Why-clause-told g c =
     let before : Seat = record { eye = own.eye; dictionary = g.O.Dictionary.seen own.dictionary } in
     let items = added before.dictionary.base.affixes before.dictionary.own c.args.text.now in
     own-refused before before c.args.text.now c.in-Err-Why.why
-    (subst (IsRefused items) c.in-Err-Why.field-0-is c.in-Err-Why.ensures.refused)
+    (subst (IsOwnLineRefused items) c.in-Err-Why.field-0-is c.in-Err-Why.ensures.refused)
     (ap NoOwn c.in-Err-Why.why-is) refl

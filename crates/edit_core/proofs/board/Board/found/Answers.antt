@@ -4,7 +4,7 @@ use Rattle.std.specs.Arc.{arc_value}
 use Rattle.std.specs.Option.{option_copied, option_map}
 use Rattle.std.proofs.lemmas.Option.{slice_get-map, none-some}
 use Rattle.edit_core.specs.Seen.{Seen, standing_of}
-use Rattle.edit_core.specs.Steps.{IsAt, IsFoundAt, found}
+use Rattle.edit_core.specs.Steps.{IsAt, IsBoardFoundAt, found}
 use Rattle.edit_core.proofs.Found.{found-none, found-some, some-at}
 use Rattle.edit_core.proofs.Kept.{seen}
 use Rattle.paragraph_text.specs.Laws.{some-at as stands-at}
@@ -61,7 +61,7 @@ returns-in-Some-get-2-clause-found g c =
           (sym c.get-in-Some-get.ensures ∙ ap option_copied c.in-Some-get-2.is)
           ∙ ap (λ s. Some s) (sym c.standing.ensures);
     } in
-    subst (λ (board : Seen). IsFoundAt board id place c.para.inside.rev stands) c.self.view_is (
+    subst (λ (board : Seen). IsBoardFoundAt board id place c.para.inside.rev stands) c.self.view_is (
     record {
       paragraph = paragraph;
       here = here;

@@ -3,7 +3,7 @@ use Rattle.std.proofs.Common.{◌≡◌, ◌∙◌, sym, ap, Some, slice_get}
 use Rattle.std.specs.Arc.{arc_value}
 use Rattle.std.specs.Option.{option_copied, option_map}
 use Rattle.std.proofs.lemmas.Option.{slice_get-map}
-use Rattle.edit_core.specs.Seen.{Seen, IsTheirs, standing_of}
+use Rattle.edit_core.specs.Seen.{Seen, IsCheckOfParagraph, standing_of}
 use Rattle.edit_core.specs.Views.{view_of, shown_in}
 use Rattle.edit_core.proofs.Kept.{seen}
 use Rattle.edit_core.proofs.Locality.{shown-at, shown-kept, shows-now}
@@ -30,7 +30,7 @@ returns-in-Some-get-clause-some g c =
     shown-at board 1 board.standings place (standing_of s) stands
     ∙ ap (λ m. Some m)
     (shown-kept lexicon_of board place paragraph s c.shown_marks_are_local.ensures at
-    (zip-at (IsTheirs lexicon_of board.lexicon) board.paragraphs inside.states place paragraph s
+    (zip-at (IsCheckOfParagraph lexicon_of board.lexicon) board.paragraphs inside.states place paragraph s
     c.self.invariant.1 at beside) ∙ sym c.shown.ensures) in
     shows-now board c.args.self.now place _ c.self.view_is (
     record {

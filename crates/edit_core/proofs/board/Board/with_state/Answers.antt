@@ -2,7 +2,7 @@
 use Rattle.std.proofs.Common.{◌≡◌, ◌<◌, ◌^◌, sym, subst, slice_get, Some}
 use Rattle.std.specs.Arc.{arc_value}
 use Rattle.paragraph_text.specs.Paragraphs.{Paragraph}
-use Rattle.edit_core.specs.Seen.{Seen, IsTheirs}
+use Rattle.edit_core.specs.Seen.{Seen, IsCheckOfParagraph}
 use Rattle.edit_core.proofs.Kept.{kept-moved, seen-moved}
 use Rattle.edit_core.proofs.board.Board.with_state.Goals as goal
 
@@ -16,7 +16,7 @@ invariant_of-result g c =
     (subst (λ (board : Seen). board.point < 2 ^ 62) (sym c.self.view_is) c.requires.goes_on)
     c.in_ok-try_clone.ensures c.in_ok-copy.ensures c.in_ok-replaced.ensures
     (subst (λ (board : Seen). (paragraph : Paragraph) → slice_get board.paragraphs c.args.place
-    ≡ Some paragraph → IsTheirs lexicon_of board.lexicon paragraph c.args.state)
+    ≡ Some paragraph → IsCheckOfParagraph lexicon_of board.lexicon paragraph c.args.state)
     (sym c.self.view_is) c.requires.theirs)
 
 pub returns : goal.returns

@@ -1,6 +1,6 @@
 -- By what the line adds to the list.
 use Rattle.std.proofs.Common.{◌≡◌, ◌∙◌, ◌++◌, ◌∷◌, [], sym, ap, subst, true, false}
-use Rattle.personal_words.specs.Lists.{IsAdded, IsRefused, added}
+use Rattle.personal_words.specs.Lists.{IsAdded, IsOwnLineRefused, added}
 use Rattle.personal_words.specs.Dictionaries.{in_force}
 use Rattle.own_dictionary.proofs.BaseLemmas.{same-added}
 use Rattle.own_dictionary.proofs.asking.OwnDictionaryDictionarySpeller.with_item.Goals as goal
@@ -41,4 +41,4 @@ returns-in-Err-clause-refused c =
     let is : c.lexicon.result.now ≡ in_force own =
     c.lexicon.ensures.same ∙ c.stems.ensures ∙ c.deref.ensures ∙ c.speller.ensures in
     let same = same-added own c.args.text.now is (c.in_ok-own.ensures ∙ c.own.ensures) in
-    subst (λ due. IsRefused due c.in-Err.fault) same c.in-Err.ensures.refused
+    subst (λ due. IsOwnLineRefused due c.in-Err.fault) same c.in-Err.ensures.refused

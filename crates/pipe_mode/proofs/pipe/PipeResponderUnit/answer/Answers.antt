@@ -3,7 +3,7 @@ use Rattle.std.proofs.Common.{◌∙◌, ◌++◌, ap, refl, subst, sym}
 use Rattle.std.proofs.lemmas.Result.{err_from_is_err_and}
 use Rattle.std.specs.String.{string_bytes}
 use Rattle.input_lines.specs.Answers.{AnswersLine}
-use Rattle.pipe_mode.specs.Pipes.{HasAnswered}
+use Rattle.pipe_mode.specs.Pipes.{HasAnsweredLines}
 use Rattle.pipe_mode.proofs.PipeLemmas.{answered-idle, answered-next}
 use Rattle.pipe_mode.proofs.pipe.PipeResponderUnit.answer.Goals as goal
 
@@ -33,6 +33,6 @@ returns-clause-answers c =
         λ first _ lines said led.
             answered-next inside.speller inside.terse inside.number c.args.line.now reply
             c.in_ok-reply.ensures
-            (subst (λ here. HasAnswered first here lines said) (sym c.self.view_is) led),
+            (subst (λ here. HasAnsweredLines first here lines said) (sym c.self.view_is) led),
       ),
     )

@@ -1,0 +1,6 @@
+//! Tests of boards and of paragraphs that are checked: calls of lower crates that no run of the program
+//! shows. It has no code of its own.
+#![tactic(auto)]
+
+#[cfg(test)]
+mod tests;
