@@ -12,18 +12,15 @@ export AFFEDIT_NO_BUILD=1
 [ -n "${AFFEDIT-}" ] || "$top/tests/program" > /dev/null
 work=$(mktemp -d)
 trap 'rm -rf "$work"' EXIT
+# The set-up of docs/PIPE.md.
+"$top/examples/ispell-face" --emacs "$top/examples/sample.aff" "$top/examples/sample.dic" > "$work/set-up.el"
 cat > "$work/try.el" << 'LISP'
 (require 'cl-lib)
 (require 'ispell)
 (require 'flyspell)
 (defvar work (getenv "WORK"))
-(defvar top (getenv "TOP"))
-(setq ispell-program-name (concat top "/examples/ispell-face")
-      ispell-local-dictionary-alist
-      `(("affedit" "[[:alpha:]]" "[^[:alpha:]]" "[']" t
-         (,(concat top "/examples/sample.aff") ,(concat top "/examples/sample.dic")) nil utf-8))
-      ispell-dictionary "affedit"
-      ispell-personal-dictionary (concat work "/personal")
+(load (concat work "/set-up.el") nil t)
+(setq ispell-personal-dictionary (concat work "/personal")
       flyspell-issue-message-flag nil
       inhibit-message t)
 
@@ -48,7 +45,7 @@ cat > "$work/try.el" << 'LISP'
     (nreverse words)))
 
 (with-temp-buffer
-  (insert "\u00e9t\u00e9 the citys reads\n*who rereads !foxes\n^order 12 in\n")
+  (insert "\u00e9t\u00e9 the citys reads\n*who rereads !foxes\n^order 12 in\nisn\u2019t 4nd 2nd\n")
   (flyspell-mode 1)
   (flyspell-region (point-min) (point-max))
   (told "a small region" (marked))
@@ -71,15 +68,15 @@ cat > "$work/try.el" << 'LISP'
   (told "asked with a personal word" (asked nil)))
 LISP
 cat > "$work/wanted" << 'WANTED'
-a small region: 1-4 été, 9-14 citys, 35-40 foxes
-a large region: 1-4 été, 9-14 citys, 35-40 foxes
+a small region: 1-4 été, 9-14 citys, 35-40 foxes, 54-59 isn’t, 60-63 4nd
+a large region: 1-4 été, 9-14 citys, 35-40 foxes, 54-59 isn’t, 60-63 4nd
 a word: 9-14 citys
-asked: été, citys, foxes
+asked: été, citys, foxes, isn’t, 4nd
 a line: été the cities reads
-asked behind a word of the session: été
-asked behind a personal word: none
-asked with a personal word: foxes
+asked behind a word of the session: été, isn’t, 4nd
+asked behind a personal word: isn’t, 4nd
+asked with a personal word: foxes, isn’t, 4nd
 WANTED
 mkdir "$work/home"
-HOME=$work/home TOP=$top WORK=$work LC_ALL=C.UTF-8 emacs --batch -Q -l "$work/try.el" > "$work/told" 2> "$work/errors" || { cat "$work/errors"; exit 1; }
+HOME=$work/home WORK=$work LC_ALL=C.UTF-8 emacs --batch -Q -l "$work/try.el" > "$work/told" 2> "$work/errors" || { cat "$work/errors"; exit 1; }
 diff "$work/wanted" "$work/told"

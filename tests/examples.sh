@@ -138,6 +138,13 @@ sed -n 's/^> //p' "$work/block" > "$work/sent"
 piped() { ./affedit pipe examples/sample.aff examples/sample.dic < "$work/sent"; }
 expect 'lines of words' 0 piped < <(grep -v '^> ' "$work/block"; echo)
 
+# The set-up for Emacs in docs/PIPE.md, whose first line prints the others, and whose folder is /path/of.
+awk '/^## For programs that run ispell/ { inside = 1; next } /^## / { inside = 0 } inside && /^    / { print substr($0, 5) }' docs/PIPE.md > "$work/block"
+set_up() { eval "$(head -n 1 "$work/block")" | sed "s|$top/|/path/of/|g"; }
+if has 'the set-up for Emacs' python3; then
+    expect 'the set-up for Emacs' 0 set_up < <(tail -n +2 "$work/block")
+fi
+
 # The pipes of the manual page: what they print, and what an error does to them.
 [ "$(grep -c '^\.Dl \$ affedit check en_US.aff en_US.dic letter | awk \\(aqNF == 4 { print \$1 }\\(aq | uniq$' docs/affedit.1)" = 1 ] || { echo 'the pipe of the manual page is another'; failed=1; }
 printf 'the citys, the citys\nwho\nan order\n' > "$work/text"
