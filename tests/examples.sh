@@ -223,6 +223,25 @@ expect 'in color' 1 seen "$work/text" << MARKS
 who reads https://example.org/citys, name@citys.net ${red}or$plain the
 ~/citys/orders --citys, x86 ${red}and$plain the ${red}citys$plain
 MARKS
+# Both print the same of standard input, without an operand for it or with -, and of a FILE, by a `check` of their own. The text is longer than a pipe.
+{ cat "$work/text"; printf 'who who who, who who who, who who %s\n' {1..3000}; echo 'the citys, a/b'; } > "$work/long"
+by_itself() {
+    local script=$1
+    shift
+    "examples/$script" examples/sample.aff examples/sample.dic "$@"
+}
+by_pipe() { cat "$work/long" | by_itself "$@"; }
+for operand in '' -; do
+    # shellcheck disable=SC2086
+    expect "standard input without addresses, by ${operand:-no operand}" 1 by_pipe without-addresses $operand < <(without "$work/long")
+    # shellcheck disable=SC2086
+    expect "standard input in color, by ${operand:-no operand}" 1 by_pipe in-color $operand < <(check "$work/long" | examples/in-color "$work/long")
+done
+expect 'a file without addresses, by the dictionary' 1 by_itself without-addresses "$work/text" < <(without "$work/text")
+expect 'a file in color, by the dictionary' 1 by_itself in-color "$work/text" < <(check "$work/text" | examples/in-color "$work/text")
+faulty() { printf 'who\n\xff\n' | by_itself "$@"; }
+expect 'standard input that is refused, without addresses' 3 faulty without-addresses <<< 'doc 2'
+expect 'standard input that is refused, in color' 3 faulty in-color <<< 'doc 2'
 printf 'SET ISO8859-1\n' > "$work/bad.aff"
 refused() { { ./affedit check "$work/bad.aff" examples/sample.dic "$work/text" || true; } | examples/"$1" "$work/text"; }
 expect 'a refusal, without addresses' 3 refused without-addresses <<< 'aff 1 OtherEncoding'
