@@ -124,6 +124,12 @@ if has 'a row without a proof' python3; then
     expect 'a row without a proof' 0 tried <<< '2 runs, 0 left to `rt try --test`, 0 failed'
 fi
 
+# The rows of docs/DECISIONS.md.
+awk '/^        / { print substr($0, 9) }' docs/DECISIONS.md > "$work/rows"
+if has 'the rows of docs/DECISIONS.md' python3; then
+    expect 'the rows of docs/DECISIONS.md' 0 tests/rows "$work/rows" <<< '4 runs, 0 left to `rt try --test`, 0 failed'
+fi
+
 # The dialogue for plugins in docs/CONSOLE.md: what is sent stands behind `> `.
 awk '/^## For authors/ { inside = 1 } inside && /^    / { print substr($0, 5) }' docs/CONSOLE.md > "$work/block"
 [ -s "$work/block" ] || { echo 'docs/CONSOLE.md has no dialogue for plugins'; failed=1; }
