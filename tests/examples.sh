@@ -131,11 +131,47 @@ if has 'the rows of docs/DECISIONS.md' python3; then
 fi
 
 # The dialogue for plugins in docs/CONSOLE.md: what is sent stands behind `> `.
-awk '/^## For authors/ { inside = 1 } inside && /^    / { print substr($0, 5) }' docs/CONSOLE.md > "$work/block"
+awk '/^## / { inside = /^## For authors/ } inside && /^    / { print substr($0, 5) }' docs/CONSOLE.md > "$work/block"
 [ -s "$work/block" ] || { echo 'docs/CONSOLE.md has no dialogue for plugins'; failed=1; }
 sed -n 's/^> //p' "$work/block" > "$work/sent"
 dialogue() { ./affedit edit crates/affedit/data/a.aff crates/affedit/data/a.dic < "$work/sent"; }
 expect 'a dialogue for plugins' 0 dialogue < <(grep -v '^> ' "$work/block")
+
+# The slips of docs/CONSOLE.md: each line that is sent is no command, and each that was meant is one.
+slips() { table docs/CONSOLE.md '| sent | what was wrong | meant |' | sed -n 's/^| `\([^`]*\)` | .* | `\([^`]*\)` |$/'"$1"'/p'; }
+answers() { while IFS= read -r line; do printf '%b\n' "$line"; done | ./affedit edit examples/sample.aff examples/sample.dic; }
+sent() { slips '\1' | answers; }
+meant() { slips '\2' | answers | grep -v '^no Command$'; }
+expect 'ten slips' 0 sent < <(printf 'no Command\n%.0s' {1..10})
+expect 'what was meant by them' 0 meant << 'ANSWERS'
+no Place 0
+text 0 dict 0
+.
+ok 0
+text 0 dict 0
+.
+no Place 0
+ok 1
+ok 2
+ok 3
+no Missing
+ok 4
+ANSWERS
+
+# The client of docs/CONSOLE.md, whose first line prints the others; with more answers than a pipe holds; and with a dictionary that is refused.
+awk '/^## / { inside = /^## A client/ } inside && /^    / { print substr($0, 5) }' docs/CONSOLE.md > "$work/block"
+client() { eval "$(head -n 1 "$work/block")"; }
+printf 'the citys, who %s\n' {1..20000} > "$work/many"
+printf 'SET ISO8859-1\n' > "$work/bad.aff"
+if has 'a client in Python' python3; then
+    expect 'a client in Python' 0 client < <(tail -n +2 "$work/block")
+    expect 'a client with a long text' 0 timeout 60 examples/edit-client examples/sample.{aff,dic} "$work/many" < <(
+        echo 'text 20000 dict 0'
+        check "$work/many" | awk 'NF == 4 { print $1 ":" $2 + 1 ": " $4 }'
+    )
+    expect 'a client whose dictionary is refused' 3 examples/edit-client "$work/bad.aff" examples/sample.dic "$work/many" 2> "$work/errors" < /dev/null
+    grep -qxF 'edit-client: aff 1 OtherEncoding' "$work/errors" || { cat "$work/errors"; failed=1; }
+fi
 
 # The lines of words in docs/PIPE.md. The empty line behind an answer ends no block there.
 awk '/^## An example/ { inside = 1; next } /^## / { inside = 0 } inside && /^    / { while (empty > 0) { print ""; empty-- } print substr($0, 5); begun = 1 } inside && /^ *$/ && begun { empty++ }' docs/PIPE.md > "$work/block"
@@ -248,7 +284,6 @@ expect 'a file in color, by the dictionary' 1 by_itself in-color "$work/text" < 
 faulty() { printf 'who\n\xff\n' | by_itself "$@"; }
 expect 'standard input that is refused, without addresses' 3 faulty without-addresses <<< 'doc 2'
 expect 'standard input that is refused, in color' 3 faulty in-color <<< 'doc 2'
-printf 'SET ISO8859-1\n' > "$work/bad.aff"
 refused() { { ./affedit check "$work/bad.aff" examples/sample.dic "$work/text" || true; } | examples/"$1" "$work/text"; }
 expect 'a refusal, without addresses' 3 refused without-addresses <<< 'aff 1 OtherEncoding'
 expect 'a refusal, in color' 3 refused in-color <<< 'aff 1 OtherEncoding'
