@@ -226,9 +226,8 @@ printf 'citys\n*\n' > "$work/words"
 if has 'what the linter says of a personal list' python3; then
     expect 'a bad personal list' 1 tools/lint-dictionary examples/sample.aff examples/sample.dic "$work/words" << TOLD
 $work/words:2: EmptyWord
-    the line:    *
-    a bad line:  \`*\`; \`word/\`; with \`IGNORE -\`, \`--\`
-    mended:      \`*word\`; \`word/model\` or \`word\`; the line left out
+    the line:  *
+    leave it out by:  LC_ALL=C sed -i 2d $work/words
 TOLD
 fi
 

@@ -9,6 +9,7 @@ import re
 FILE_MOST = 16_777_216
 FLAG_MOST = 65_000
 ROWS_MOST = 65_000
+RULES_MOST = 200_000
 
 # Options with one flag, with a number and with a text.
 FLAG_OPTIONS = frozenset(
@@ -43,9 +44,11 @@ PRINTED = bytes(range(33, 127))
 
 FIELD = re.compile(r'[^ \t]+')
 DECIMAL = re.compile(r'[0-9]+')
-ENTRY_END = re.compile(r'\t| +[a-z][a-z]:')
+# A field of morphology. No search begins in the midst of blanks.
+MORPHOLOGY = re.compile(r'(?<! ) +[a-z][a-z]:')
 # The slash before flags: not the first character, and no backslash before it.
 SLASH = re.compile(r'(?<=[^\\])/', re.DOTALL)
+PAIR = re.compile('..', re.DOTALL)
 
 
 class Refused(Exception):
@@ -97,13 +100,24 @@ def number_of(text):
 
 def entry_of(line):
     """START, SLASH and END of the entry of a line; SLASH is END where no flags follow. None for a line without an entry."""
-    if not line or line[0] == '\t' or not line.strip(' \t'):
+    end = line.find('\t')
+    if end < 0:
+        end = len(line)
+    if not end:
         return None
-    stop = ENTRY_END.search(line)
-    end = len(line[:stop.start()].rstrip(' ')) if stop else len(line.rstrip(' '))
-    start = min(len(line) - len(line.lstrip(' ')), end)
-    slash = SLASH.search(line, start + 1, end) if '/' in line else None
-    return start, slash.start() if slash else end, end
+    start = 0
+    # Most lines have no blanks.
+    if ' ' in line:
+        if not line.strip(' \t'):
+            return None
+        stop = MORPHOLOGY.search(line, 0, end)
+        end = len(line[:stop.start() if stop else end].rstrip(' '))
+        start = min(len(line) - len(line.lstrip(' ')), end)
+    slash = line.find('/', start + 1, end)
+    if slash > 0 and '\\' in line:
+        found = SLASH.search(line, start + 1, end)
+        slash = found.start() if found else -1
+    return start, slash if slash > 0 else end, end
 
 
 def slash_of(text):
@@ -115,13 +129,14 @@ def slash_of(text):
 def rule_flags(text, kind):
     """Reads a compound rule: a list of START, END of its flags and whether parentheses stand there. None if it is none of hunspell(5)."""
     flags, place, was_flag = [], 0, False
+    last_close = text.rfind(')')
     while place < len(text):
         if text[place] in '*?':
             if not was_flag:
                 return None
             place, was_flag = place + 1, False
             continue
-        close = text.find(')', place) if text[place] == '(' else -1
+        close = text.find(')', place) if text[place] == '(' and place < last_close else -1
         if close >= 0:
             flags.append((place + 1, close, True))
             place = close + 1
@@ -157,6 +172,16 @@ def flags_of(text, kind):
     if kind == 'long':
         return [text[place:place + 2] for place in range(0, len(text) - 1, 2)]
     return list(text)
+
+
+def pieces_of(fields, kind):
+    """The different pieces of some flag fields. Each stands for one flag at most."""
+    if kind == 'char':
+        return set(''.join(fields))
+    found = set()
+    for field in fields:
+        found.update(field.split(',') if kind == 'num' else PAIR.findall(field))
+    return found
 
 
 def join_flags(flags, kind):

@@ -1,193 +1,17 @@
 """Mends a dictionary by the grammar of hunspell(5), so that the program reads it. Nothing is read or written here."""
 
-import codecs
+import itertools
 import re
 
 import dictionary_grammar as grammar
 from dictionary_grammar import Refused
+from dictionary_lines import COUNT, Changes, Decoding, Line, bytes_of, flag_spans, roles_of
+from dictionary_shrinking import Shrinking
 
-MARK = b'\xef\xbb\xbf'
-SET_LINE = re.compile(rb'^[ \t]*SET[ \t]+([^ \t\r\n]+)', re.MULTILINE)
-FLAG_LINE = re.compile(rb'^[ \t]*FLAG[ \t]', re.MULTILINE)
-ADDRESS = re.compile(r'[a-z]+://')
+ADDRESS = re.compile(r'[a-z]://')
+# The first line of a file that was prepared with a loss begins so.
+LOSSY = '# prepared with --lossy: '
 RULE_EFFECT = 'compounds of that rule alone are marked'
-COUNT = re.compile(r'([0-9]+)(#.*)?')
-
-
-class Line:
-    """A line of a file: its number in what was read, its text, and what stands before its line feed."""
-
-    __slots__ = ('number', 'text', 'end')
-
-    def __init__(self, number, text, end=''):
-        self.number, self.text, self.end = number, text, end
-
-
-class Changes:
-    """What was changed, with the first line of each kind of change and how many lines it has."""
-
-    def __init__(self):
-        self.kinds = {}
-
-    def add(self, file, line, message, key=None, count=1):
-        kind = self.kinds.setdefault((file, key or message), [line, message, 0])
-        kind[2] += count
-
-    def told(self, names):
-        """One line of text for each kind, in the order of files and lines."""
-        found = sorted((file, kind[0], place) for place, ((file, _), kind) in enumerate(self.kinds.items()))
-        kinds = list(self.kinds.values())
-        for file, _, place in found:
-            line, message, count = kinds[place]
-            more = f' ({count} lines, of which this is the first)' if count > 1 else ''
-            yield f'{names[file]}:{line}: {message}{more}'
-
-
-def split_lines(text):
-    """The lines of a text; a last piece without characters is none."""
-    pieces = text.split('\n')
-    if not pieces[-1]:
-        pieces.pop()
-    return [Line(number, piece[:-1], '\r') if piece.endswith('\r') else Line(number, piece) for number, piece in enumerate(pieces, 1)]
-
-
-def roles_of(lines):
-    """Each line of an option with the name that it is read by, its fields, and whether it is the first line of a table or a class."""
-    seen = set()
-    for line in lines:
-        spans = grammar.fields_of(line.text)
-        if not spans or line.text[spans[0][0]] == '#':
-            continue
-        fields = [line.text[start:end] for start, end in spans]
-        name = fields[0]
-        if name not in grammar.READ:
-            continue
-        key = (name, fields[1] if name in grammar.CLASSES and len(fields) > 1 else None)
-        first = key not in seen and len(fields) > 1
-        if len(fields) > 1:
-            seen.add(key)
-        if first and name in grammar.TABLES:
-            first = COUNT.fullmatch(fields[1]) is not None
-        yield line, name, spans, fields, first
-
-
-def flag_spans(text, name, spans, first):
-    """START, END and sort of each text with flags in a line: `one` flag, a `set` of them, those of a `rule`, or a `row` of AF."""
-    if len(spans) < 2 or (first and name in grammar.TABLES):
-        return []
-    start, end = spans[1]
-    if name in grammar.FLAG_OPTIONS:
-        return [(start, end, 'one')]
-    if name in ('AF', 'COMPOUNDRULE'):
-        return [(start, end, 'row' if name == 'AF' else 'rule')]
-    if name in grammar.CLASSES:
-        found = [(start, end, 'one')]
-        if not first and len(spans) > 3:
-            start, end = spans[3]
-            slash = start + grammar.slash_of(text[start:end])
-            if slash < end:
-                found.append((slash + 1, end, 'set'))
-        return found
-    if name == 'CHECKCOMPOUNDPATTERN':
-        slashes = [(text.find('/', start, end), end) for start, end in spans[1:3]]
-        return [(slash + 1, end, 'one') for slash, end in slashes if slash >= 0]
-    return []
-
-
-class Decoding:
-    """Decodes both files from the encoding that the line SET names, or finds that they are UTF-8."""
-
-    def __init__(self, aff, dic, changes):
-        self.files = {'aff': aff.removeprefix(MARK), 'dic': dic.removeprefix(MARK)}
-        self.changes = changes
-        for file, data in (('aff', aff), ('dic', dic)):
-            if data.startswith(MARK):
-                changes.add(file, 1, 'a byte order mark left out')
-        found = SET_LINE.search(self.files['aff'])
-        self.name = found.group(1).decode('latin-1') if found else None
-        if self.name is None:
-            self.name = 'UTF-8' if all(self.is_whole(data, 'utf-8') for data in self.files.values()) else 'ISO8859-1'
-        self.codec = grammar.codec_of(self.name)
-        self.latin = grammar.LatinBytes()
-        codecs.register_error('latin-bytes', self.latin)
-
-    @staticmethod
-    def is_whole(data, codec):
-        try:
-            data.decode(codec)
-            return True
-        except UnicodeDecodeError:
-            return False
-
-    def lines(self):
-        """The lines of both files, decoded."""
-        if self.codec == 'utf-8' and not FLAG_LINE.search(self.files['aff']) and self.has_byte_flags():
-            return self.byte_flags()
-        both = []
-        for file, data in self.files.items():
-            if not self.is_whole(data, self.codec):
-                both.append(self.mixed(file, data))
-                continue
-            if self.codec != 'utf-8' and not data.isascii():
-                self.changes.add(file, 1, f'converted from {self.name} to UTF-8')
-            both.append(split_lines(data.decode(self.codec)))
-        return both
-
-    def mixed(self, file, data):
-        """The lines of a file in which some are not of its encoding."""
-        if self.codec != 'utf-8':
-            self.changes.add(file, 1, f'converted from {self.name} to UTF-8')
-        lines = split_lines(data.decode('latin-1'))
-        for line in lines:
-            line.text = self.decoded(file, line.number, line.text)
-        return lines
-
-    def decoded(self, file, number, text):
-        """A text of which each character is a byte so far, decoded; bytes that the encoding has not are those of Latin-1."""
-        if text.isascii():
-            return text
-        before = self.latin.count
-        text = text.encode('latin-1').decode(self.codec, 'latin-bytes')
-        if self.latin.count > before:
-            self.changes.add(file, number, f'bytes that are not {self.name} replaced: read as Latin-1')
-        return text
-
-    def has_byte_flags(self):
-        """Whether flags are single bytes: some flag field is not UTF-8. Characters of one byte each stand for them then."""
-        if all(self.is_whole(data, 'utf-8') for data in self.files.values()):
-            return False
-        for line, name, spans, _, first in roles_of(split_lines(self.files['aff'].decode('latin-1'))):
-            for start, end, _ in flag_spans(line.text, name, spans, first):
-                if not self.is_whole(line.text[start:end].encode('latin-1'), 'utf-8'):
-                    return True
-        lines = split_lines(self.files['dic'].decode('latin-1'))
-        entries = ((line.text, grammar.entry_of(line.text)) for line in lines[1:] if not line.text.isascii())
-        return any(found and not self.is_whole(text[found[1]:found[2]].encode('latin-1'), 'utf-8') for text, found in entries)
-
-    def byte_flags(self):
-        """The lines of both files, where flags are single bytes in a file that is UTF-8 elsewhere."""
-        aff = split_lines(self.files['aff'].decode('latin-1'))
-        kept = {line.number: flag_spans(line.text, name, spans, first) for line, name, spans, _, first in roles_of(aff)}
-        for line in aff:
-            self.decode_around('aff', line, kept.get(line.number, ()))
-        dic = split_lines(self.files['dic'].decode('latin-1'))
-        for line in dic[1:]:
-            if not line.text.isascii():
-                found = grammar.entry_of(line.text)
-                self.decode_around('dic', line, [(found[1], found[2])] if found else ())
-        return [aff, dic]
-
-    def decode_around(self, file, line, kept):
-        """Decodes a line but for the texts from START to END, whose bytes are flags."""
-        if line.text.isascii():
-            return
-        pieces, place = [], 0
-        for start, end, *_ in kept:
-            pieces += [self.decoded(file, line.number, line.text[place:start]), line.text[start:end]]
-            if not line.text[start:end].isascii():
-                self.changes.add(file, line.number, 'flags that are single bytes read as Latin-1')
-            place = end
-        line.text = ''.join(pieces) + self.decoded(file, line.number, line.text[place:])
 
 
 class Flags:
@@ -199,12 +23,14 @@ class Flags:
         self.aliases = None
         # The flags of both files, those of the .aff file alone, and new names of those that the type cannot have.
         self.used, self.known, self.renamed = set(), set(), {}
-        self.sets = {}
+        # Pieces of flag fields that stay as they are, and what becomes of each field.
+        self.plain, self.sets = set(), {}
+        # A flag that stands in neither file, once it is asked for.
+        self.free = None
 
-    def collect(self, aff, dic):
-        """Finds the flags of both files, and gives new names to those that the type cannot have."""
-        bad = {}
-        roles = list(roles_of(aff))
+    def collect(self, aff, roles, fields):
+        """Finds the flags of both files, and gives new names to those that the type cannot have. FIELDS are those of entries."""
+        bad, known = {}, set()
         if any(name == 'AF' for _, name, _, _, _ in roles):
             self.aliases = sum(name == 'AF' and not first for _, name, _, _, first in roles)
         for line, name, spans, _, first in roles:
@@ -212,20 +38,22 @@ class Flags:
                 if sort == 'rule':
                     self.collect_rule(line.text[start:end], bad)
                 elif sort != 'set' or self.aliases is None:
-                    self.known.update(grammar.flags_of(line.text[start:end], self.kind))
-        self.used.update(self.known, self.passed_over(aff))
+                    known.add(line.text[start:end])
+        pieces = grammar.pieces_of(known, self.kind)
+        self.known.update(self.flags_of_pieces(pieces))
         if self.aliases is None:
-            fields = set()
-            for line in dic[1:]:
-                found = grammar.entry_of(line.text) if '/' in line.text else None
-                if found:
-                    fields.add(line.text[found[1] + 1:found[2]])
-            for field in fields:
-                self.used.update(grammar.flags_of(field, self.kind))
+            pieces |= grammar.pieces_of(fields, self.kind)
+        self.used.update(self.known, self.flags_of_pieces(pieces), self.passed_over(aff))
         if self.kind == 'num':
             bad.update((flag, None) for flag in sorted(self.used, key=int) if not 0 < int(flag) <= grammar.FLAG_MOST)
         free = grammar.free_flags(self.used | set(bad), self.kind)
         self.renamed = {flag: next(free) for flag in bad}
+        if self.kind == 'num':
+            self.plain = {piece for piece in pieces if grammar.is_decimal(piece) and str(grammar.number_of(piece)) not in self.renamed}
+
+    def flags_of_pieces(self, pieces):
+        """The flags that pieces of flag fields stand for."""
+        return pieces if self.kind == 'char' else grammar.flags_of(grammar.join_flags(pieces, self.kind), self.kind)
 
     def passed_over(self, aff):
         """The flags of options that are passed over, which no other flag may take."""
@@ -243,7 +71,9 @@ class Flags:
 
     def unused(self):
         """A flag that stands in neither file."""
-        return next(grammar.free_flags(self.used | set(self.renamed.values()), self.kind))
+        if self.free is None:
+            self.free = next(grammar.free_flags(self.used | set(self.renamed.values()), self.kind))
+        return self.free
 
     def name_of(self, file, number, flag):
         """The name that a flag has in what is written."""
@@ -277,17 +107,30 @@ class Flags:
             known = self.sets[text, is_row] = self.mend_set(text, is_row)
         return known
 
+    def is_plain(self, text):
+        """Whether a field of flags, and not of a number of AF, stays as it is."""
+        if self.kind == 'num':
+            return not text or self.plain.issuperset(text.split(','))
+        is_whole = self.kind == 'char' or len(text) % 2 == 0
+        return is_whole and (not self.renamed or self.renamed.keys().isdisjoint(grammar.flags_of(text, self.kind)))
+
+    def changed(self, fields):
+        """Those of some flag fields of entries that do not stay as they are."""
+        if self.aliases is None:
+            fields = [field for field in fields if not self.is_plain(field)]
+        return {field for field in fields if self.look(field)[0] != field}
+
     def mend_set(self, text, is_row):
         """The flags of a field, mended, with messages and the kinds of change that they are of."""
         if self.aliases is not None and not is_row:
             return self.mend_alias(text)
+        if self.is_plain(text):
+            return text, []
         flags = grammar.flags_of(text, self.kind)
-        messages = []
-        whole = len(text) % 2 == 0 if self.kind == 'long' else True
-        if self.kind == 'num' and text:
-            whole = all(map(grammar.is_decimal, text.split(',')))
-        if not whole:
-            messages.append(dropped(text))
+        is_whole = len(text) % 2 == 0 if self.kind == 'long' else True
+        if self.kind == 'num':
+            is_whole = all(map(grammar.is_decimal, text.split(',')))
+        messages = [] if is_whole else [dropped(text)]
         for flag in flags:
             if flag in self.renamed:
                 messages.append((f'the flag {flag} renamed to {self.renamed[flag]}', ('renamed', flag)))
@@ -314,28 +157,32 @@ def shown(text):
 
 
 class Losses:
-    """What changes which words are accepted: reasons to refuse, or with --lossy what is dropped."""
+    """The lines that are left out and change which words are accepted: why, each with its line, and what that means for words."""
 
-    def __init__(self, lossy, changes):
-        self.lossy, self.changes = lossy, changes
-        self.reasons, self.dropped = [], []
+    def __init__(self):
+        self.reasons, self.effects = [], []
 
-    def take(self, line, what, why, effect):
-        """Whether a line may be left out, with what that means for words."""
-        if not self.lossy:
-            self.reasons.append((line.number, f'{what} {why}: without it {effect}'))
-            return False
-        self.changes.add('aff', line.number, f'{what} left out: {effect}')
-        self.dropped.append(f'{what} ({effect})')
-        return True
+    def add(self, line, what, why, effect):
+        self.reasons.append((line.number, f'{what} {why}: without it {effect}'))
+        self.effects.append(f'{what} ({effect})')
+
+
+def edited(text, edits):
+    """A text with others in place of its parts from START to END. No two of them overlap."""
+    pieces, place = [], 0
+    for start, end, new in edits:
+        pieces += [text[place:start], new]
+        place = end
+    return ''.join(pieces) + text[place:]
 
 
 class AffMending:
     """Mends the lines of the .aff file."""
 
-    def __init__(self, lines, flags, changes, losses):
-        self.lines, self.flags, self.changes, self.losses = lines, flags, changes, losses
-        self.roles = list(roles_of(lines))
+    def __init__(self, lines, roles, flags, changes, losses):
+        self.lines, self.roles, self.flags, self.changes, self.losses = lines, roles, flags, changes, losses
+        # Whether COMPOUNDWORDMAX is set.
+        self.has_most = any(name == 'COMPOUNDWORDMAX' for _, name, _, _, _ in roles)
         self.values, self.edits, self.before = {}, {}, {}
         # Lines that are left out, and those that end at a comment.
         self.gone, self.cut = set(), set()
@@ -347,6 +194,11 @@ class AffMending:
         self.gone.add(line)
         if message:
             self.told(line, message, key)
+
+    def lose(self, line, what, why, effect):
+        """Leaves out a line, with what that means for words."""
+        self.drop(line, f'{what} left out: {effect}')
+        self.losses.add(line, what, why, effect)
 
     def edit(self, line, start, end, new):
         """Puts a text in place of that from START to END."""
@@ -378,18 +230,17 @@ class AffMending:
             found += self.before.get(line, ())
             if line in self.gone:
                 continue
-            for start, end, new in sorted(self.edits.get(line, ()), reverse=True):
-                line.text = line.text[:start] + new + line.text[end:]
+            if line in self.edits:
+                line.text = edited(line.text, sorted(self.edits[line]))
             found.append(line)
         return found
 
     def mend_left_out(self, line, name):
-        """An option that is not built: without loss where hunspell(5) gives it no effect, else left to --lossy."""
-        has_most = any(name == 'COMPOUNDWORDMAX' for _, name, _, _, _ in self.roles)
-        if name != 'COMPLEXPREFIXES' and not has_most:
+        """An option that is not built: left out without a loss if hunspell(5) gives it no effect."""
+        if name != 'COMPLEXPREFIXES' and not self.has_most:
             self.drop(line, f'{name} left out: it changes nothing without COMPOUNDWORDMAX')
-        elif self.losses.take(line, name, 'is not judged', grammar.LEFT_OUT[name]):
-            self.drop(line, None)
+        else:
+            self.lose(line, name, 'is not judged', grammar.LEFT_OUT[name])
 
     def mend_option(self, line, name, spans, fields):
         """An option with one value, SET and FLAG too."""
@@ -402,8 +253,8 @@ class AffMending:
             number = before[0].number
             if before[1] == fields[1]:
                 self.drop(line, f'{name} left out: it says what line {number} says')
-            elif self.losses.take(line, name, f'has another value than line {number}', f'line {number} counts'):
-                self.drop(line, None)
+            else:
+                self.lose(line, name, f'has another value than line {number}', f'line {number} counts')
             return
         value = self.value_of(line, name, self.without_comment(line, name, spans[1], fields[1]))
         if value is None:
@@ -448,8 +299,11 @@ class AffMending:
 
     def mend_table(self, name, rows):
         """A table: its rows, and the number that its header announces."""
-        while len(rows) > 1 and len(rows[0][2]) == 1 and any(first for *_, first in rows):
-            self.drop(rows.pop(0)[0], f'a line of {name} before its header left out, which lacks a text')
+        if any(first for *_, first in rows):
+            place = next(place for place, row in enumerate(rows) if len(row[2]) > 1)
+            for line, *_ in rows[:place]:
+                self.drop(line, f'a line of {name} before its header left out, which lacks a text')
+            rows = rows[place:]
         header = rows.pop(0) if rows[0][3] else None
         kept = sum(self.mend_row(name, *row[:3]) for row in rows)
         if header is None:
@@ -489,8 +343,7 @@ class AffMending:
         text = line.text[start:end]
         flags = grammar.rule_flags(text, self.flags.kind)
         if flags is None:
-            if self.losses.take(line, f'the compound rule `{shown(text)}`', 'is none of hunspell(5)', RULE_EFFECT):
-                self.drop(line, None)
+            self.lose(line, f'the compound rule `{shown(text)}`', 'is none of hunspell(5)', RULE_EFFECT)
             return False
         for first, last, _ in flags:
             name = text[first:last]
@@ -522,8 +375,8 @@ class AffMending:
                 return found + rules[place:]
             if fields[2] == header[2][2]:
                 self.drop(line, 'a further header of a class left out: its rules join those above')
-            elif self.losses.take(line, 'a further header of a class', 'has another cross', 'its rules have the cross of the first'):
-                self.drop(line, None)
+            else:
+                self.lose(line, 'a further header of a class', 'has another cross', 'its rules have the cross of the first')
             count = grammar.number_of(fields[3])
             found += rules[place + 1:place + 1 + count]
             place += 1 + count
@@ -568,33 +421,35 @@ class AffMending:
 class DicMending:
     """Mends the lines of the .dic file."""
 
-    def __init__(self, lines, flags, ignored, changes):
+    def __init__(self, lines, flags, changes):
         self.lines, self.flags, self.changes = lines, flags, changes
-        self.ignored = {ord(char): None for char in ignored}
+        self.entries = [grammar.entry_of(line.text) for line in lines]
+        # The different texts of flags, without that of the first line.
+        found = itertools.islice(zip(lines, self.entries), 1, None)
+        self.fields = {line.text[entry[1] + 1:entry[2]] for line, entry in found if entry and entry[1] < entry[2]}
 
-    def mend(self):
-        """The lines, mended."""
+    def mend(self, ignored):
+        """The lines, mended. IGNORED are the characters of IGNORE."""
         first = self.lines[0]
+        found = zip(self.lines, self.entries)
+        fields = self.fields
         if grammar.DECIMAL.match(first.text.lstrip(' ')):
-            return [first] + [line for line in self.lines[1:] if self.mend_entry(line)]
-        self.changes.add('dic', 1, f'a first line {len(self.lines)} put in, the count')
-        return [Line(1, str(len(self.lines)), first.end)] + [line for line in self.lines if self.mend_entry(line)]
+            head = next(found)[0]
+        else:
+            self.changes.add('dic', 1, f'a first line {len(self.lines)} put in, the count')
+            head = Line(1, str(len(self.lines)), first.end)
+            fields = fields | {first.text[entry[1] + 1:entry[2]] for entry in self.entries[:1] if entry}
+        changed = self.flags.changed(fields)
+        return [head] + [line for line, entry in found if entry is None or self.stays(line, entry, ignored, changed)]
 
-    def mend_entry(self, line):
-        """Whether a line stays."""
+    def stays(self, line, entry, ignored, changed):
+        """Whether a line stays. Its flags are mended if they are in CHANGED."""
+        start, slash, end = entry
         text = line.text
-        found = grammar.entry_of(text)
-        if found is None:
-            return True
-        start, slash, end = found
-        word = text[start:slash]
-        if not (word.translate(self.ignored) if self.ignored else word):
+        if start == slash or (ignored and not text[start:slash].strip(ignored)):
             self.changes.add('dic', line.number, 'an entry without a word left out', 'no word')
             return False
-        if slash == end:
-            return True
-        new = self.flags.look(text[slash + 1:end])[0]
-        if new == text[slash + 1:end]:
+        if slash == end or not changed or text[slash + 1:end] not in changed:
             return True
         if text[start] == '"' and text[end - 1] == '"':
             message = f'an entry in quotation marks left out, which its slash would cut: `{shown(text[start:end])}`'
@@ -604,162 +459,42 @@ class DicMending:
         return True
 
 
-class Shrinking:
-    """Makes files smaller that would be larger than may be read, without a change of the words that they accept."""
-
-    def __init__(self, aff, dic, flags, changes):
-        self.aff, self.dic, self.flags, self.changes = aff, dic, flags, changes
-
-    def size(self, lines):
-        return sum(len(line.text.encode()) + len(line.end) + 1 for line in lines)
-
-    def shrink(self):
-        """Takes one step after the other, until the files are small enough or nothing is left to do."""
-        if self.size(self.aff) > grammar.FILE_MOST:
-            self.drop_passed_over()
-        for step in (self.drop_morphology, self.drop_equal, self.fold, self.number_flags):
-            if self.size(self.dic) > grammar.FILE_MOST:
-                step()
-        for file, lines in (('aff', self.aff), ('dic', self.dic)):
-            if self.size(lines) > grammar.FILE_MOST:
-                raise Refused(f'the .{file} file has {self.size(lines):,} bytes in UTF-8, and {grammar.FILE_MOST:,} may be read')
-
-    def drop_passed_over(self):
-        before = len(self.aff)
-        self.aff = [line for line, *_ in roles_of(self.aff)]
-        self.changes.add('aff', 1, f'lines that are passed over left out: {before - len(self.aff)}')
-
-    def drop_morphology(self):
-        for line in self.dic[1:]:
-            found = grammar.entry_of(line.text)
-            if found and line.text[found[2]:].strip(' \t'):
-                line.text = line.text[:found[2]]
-                self.changes.add('dic', line.number, 'fields of morphology left out, to make the file small enough')
-
-    def drop_equal(self):
-        seen, kept = set(), self.dic[:1]
-        for line in self.dic[1:]:
-            if line.text in seen:
-                self.changes.add('dic', line.number, 'an entry left out that stands above, to make the file small enough')
-            else:
-                kept.append(line)
-            seen.add(line.text)
-        self.dic = kept
-
-    def bare_words(self):
-        """The entries that are a word alone, with their lines."""
-        found = {}
-        for line in self.dic[1:]:
-            text = line.text
-            if text and '/' not in text and '\\' not in text and grammar.entry_of(text) == (0, len(text), len(text)):
-                found[text] = line
-        return found
-
-    def fold(self):
-        """An entry that is another one with a character behind it becomes a form of that one, by a flag of its own."""
-        if self.flags.aliases is not None:
-            return
-        words = self.bare_words()
-        counts = {}
-        # Only entries without flags, or further affixes would be lost.
-        for word in words:
-            if word[:-1] in words:
-                counts[word[-1]] = counts.get(word[-1], 0) + 1
-        ignored = {char for line in self.aff if line.text.startswith('IGNORE') for char in line.text}
-        ends = sorted((end for end in counts if end not in ignored and end not in '0/\\#'), key=lambda end: (-counts[end], end))[:20]
-        names = dict(zip(ends, grammar.free_flags(self.flags.used | set(self.flags.renamed.values()), self.flags.kind)))
-        folded, gone = {}, set()
-        for word in sorted(words, key=len):
-            if word[-1] in names and word[:-1] in words and word[:-1] not in gone:
-                folded.setdefault(word[:-1], []).append(names[word[-1]])
-                gone.add(word)
-        if folded:
-            self.write_folded(words, folded, gone, names)
-
-    def write_folded(self, words, folded, gone, names):
-        lines = {words[word] for word in gone}
-        for word, flags in folded.items():
-            words[word].text = f'{word}/{grammar.join_flags(flags, self.flags.kind)}'
-        for line in sorted(lines, key=lambda line: line.number):
-            self.changes.add('dic', line.number, 'an entry written as a form of another, to make the file small enough')
-        self.dic = [line for line in self.dic if line not in lines]
-        for end, flag in names.items():
-            self.aff += [Line(0, f'SFX {flag} N 1'), Line(0, f'SFX {flag} 0 {end} .')]
-        self.changes.add('aff', len(self.aff), f'{len(names)} classes put in at the end, for forms of entries')
-
-    def places_of_flags(self):
-        """Each line with START and END of its flags, in both files."""
-        for line, name, spans, _, first in roles_of(self.aff):
-            for start, end, sort in flag_spans(line.text, name, spans, first):
-                if sort == 'set':
-                    yield line, start, end
-        for line in self.dic[1:]:
-            found = grammar.entry_of(line.text) if '/' in line.text else None
-            if found and found[1] + 1 < found[2]:
-                yield line, found[1] + 1, found[2]
-
-    def number_flags(self):
-        """Flag fields become numbers of rows of AF, the most frequent ones the shortest."""
-        if self.flags.aliases is not None:
-            return
-        counts = {}
-        for line, start, end in list(self.places_of_flags()):
-            text = line.text[start:end]
-            if ' ' in text:
-                # Flags that the .aff file has not change nothing.
-                flags = grammar.flags_of(text, self.flags.kind)
-                text = grammar.join_flags([flag for flag in flags if flag in self.flags.known], self.flags.kind)
-                line.text = (line.text[:start] + text if text else line.text[:start - 1]) + line.text[end:]
-            if text:
-                counts[text] = counts.get(text, 0) + 1
-        if len(counts) > grammar.ROWS_MOST or any(' ' in text for text in counts):
-            return
-        rows = sorted(counts, key=lambda text: (-counts[text], text))
-        numbers = {text: str(number) for number, text in enumerate(rows, 1)}
-        for line, start, end in list(self.places_of_flags()):
-            line.text = line.text[:start] + numbers[line.text[start:end]] + line.text[end:]
-        self.aff += [Line(0, f'AF {len(rows)}')] + [Line(0, f'AF {text}') for text in rows]
-        self.changes.add('aff', len(self.aff), f'a table AF of {len(rows)} rows put in at the end')
-        self.changes.add('dic', 2, 'flags of entries written as numbers of rows of AF, to make the file small enough')
-
-
 class Prepared:
-    """A dictionary that was mended: both files, the changes, and the numbers that lines had before."""
+    """A dictionary that was mended: both files, the changes, the reasons why words are judged otherwise, and the lines with their old numbers."""
 
-    def __init__(self, aff, dic, changes):
-        self.changes = changes
-        self.files = {'aff': self.written(aff), 'dic': self.written(dic)}
-        self.numbers = {'aff': [line.number for line in aff], 'dic': [line.number for line in dic]}
+    def __init__(self, aff, dic, files, changes, reasons):
+        self.files, self.changes, self.reasons = files, changes, reasons
+        self.lines = {'aff': aff, 'dic': dic}
 
-    @staticmethod
-    def written(lines):
-        return ''.join(f'{line.text}{line.end}\n' for line in lines).encode()
+    def number_of(self, file, place):
+        """The number that a line had before, by its place from 0; that of the last line, if there is no such place."""
+        lines = self.lines[file]
+        return lines[place].number if place < len(lines) else len(lines)
 
 
-def prepare(aff, dic, lossy):
-    """Mends a dictionary. Raises Refused with the reasons, each with its line, where words would be judged otherwise."""
-    changes = Changes()
-    losses = Losses(lossy, changes)
+def prepare(aff, dic):
+    """Mends a dictionary. Where words are judged otherwise then, the reasons tell it. Raises Refused if it cannot be made small enough."""
+    changes, losses = Changes(), Losses()
     decoding = Decoding(aff, dic, changes)
     aff, dic = decoding.lines()
     if not dic:
         raise Refused('the .dic file has no lines')
-    kinds = [grammar.flag_kind(fields[1]) for _, name, _, fields, _ in roles_of(aff) if name == 'FLAG' and len(fields) > 1]
+    roles = list(roles_of(aff))
+    kinds = [grammar.flag_kind(fields[1]) for _, name, _, fields, _ in roles if name == 'FLAG' and len(fields) > 1]
     flags = Flags(next(filter(None, kinds), 'char'), changes)
-    flags.collect(aff, dic)
-    has_set = any(name == 'SET' and len(fields) > 1 for _, name, _, fields, _ in roles_of(aff))
-    mending = AffMending(aff, flags, changes, losses)
-    aff = mending.mend()
-    if losses.reasons:
-        raise Refused(losses.reasons)
+    dic_mending = DicMending(dic, flags, changes)
+    flags.collect(aff, roles, dic_mending.fields)
+    has_set = any(name == 'SET' and len(fields) > 1 for _, name, _, fields, _ in roles)
+    aff_mending = AffMending(aff, roles, flags, changes, losses)
+    aff = aff_mending.mend()
     if decoding.name != 'UTF-8' and not has_set:
         aff.insert(0, Line(0, 'SET UTF-8', aff[0].end if aff else ''))
         changes.add('aff', 1, 'SET UTF-8 put in')
-    ignored = mending.values.get('IGNORE', (None, ''))[1]
-    dic = DicMending(dic, flags, ignored, changes).mend()
+    dic = dic_mending.mend(aff_mending.values.get('IGNORE', (None, ''))[1])
     shrinking = Shrinking(aff, dic, flags, changes)
-    shrinking.shrink()
+    files = shrinking.shrink()
     aff, dic = shrinking.aff, shrinking.dic
-    if losses.dropped:
-        aff.insert(0, Line(0, '# prepared with --lossy: ' + '; '.join(losses.dropped)))
-    return Prepared(aff, dic, changes)
+    if losses.effects:
+        aff.insert(0, Line(0, LOSSY + '; '.join(losses.effects)))
+        files['aff'] = bytes_of(aff)
+    return Prepared(aff, dic, files, changes, losses.reasons)

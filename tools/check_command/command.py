@@ -16,7 +16,7 @@ from .preparing import Cache
 from .printing import CountPrinter, GithubPrinter, JsonPrinter, Printer, WordPrinter
 from .program import Program, path_of_program
 from .speller import Dictionary, Speller
-from .terminal import Progress, TerminalPrinter
+from .terminal import FileProgress, TerminalPrinter
 
 PRINTERS = {'json': JsonPrinter, 'github': GithubPrinter, 'l': WordPrinter, 'count': CountPrinter}
 
@@ -145,7 +145,7 @@ def run(words):
     """The exit status of a command line."""
     error = getattr(sys.stderr, 'buffer', None)
     output = Output(getattr(sys.stdout, 'buffer', None))
-    progress = Progress(error)
+    progress = FileProgress(error)
     teller = Teller(error, progress)
     marked = 0
     try:

@@ -18,7 +18,7 @@ from .program import TOP
 
 TOOLS = os.path.join(TOP, 'tools')
 # What prepares: another version of it makes other entries of the cache.
-PREPARING = ('prepare-dictionary', 'dictionary_grammar.py', 'dictionary_mending.py')
+PREPARING = ('prepare-dictionary', *(f'dictionary_{part}.py' for part in ('grammar', 'lines', 'mending', 'preparing', 'shrinking')))
 FILES = ('aff', 'dic')
 RECORD = 'made.json'
 MAKING = '.making-'

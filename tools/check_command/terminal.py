@@ -1,19 +1,16 @@
 """What is shown at a terminal: marks in colour with their line, and how far a long run is."""
 
-import contextlib
 import os
 import re
 import shutil
-import threading
-import time
 import unicodedata
 
 from .faults import CONTROLS, shown
 from .printing import Printer, marks_of
+from .progress import Progress
 
 BOLD, RED, PLAIN = '\x1b[1m', '\x1b[1;31m', '\x1b[0m'
 SLOW = 2.0
-OFTEN = 0.5
 # Signs that turn the direction of a line, and what else has no width, would hide what is marked.
 HIDDEN = re.compile('[\u200b-\u200f\u2028-\u202e\u2060-\u206f\ufeff]')
 
@@ -84,56 +81,17 @@ def back_cut(text, room):
     return text
 
 
-class Progress:
-    """A line on standard error that says how far a run is, at a terminal and after two seconds."""
+class FileProgress(Progress):
+    """Says after two seconds how many files are checked."""
 
     def __init__(self, stream):
-        self.stream = stream
-        self.is_terminal = stream is not None and stream.isatty() and os.environ.get('TERM', '') not in ('', 'dumb')
-        self.begun = time.monotonic()
+        super().__init__(stream, SLOW)
         self.files, self.size = 0, 0
-        self.is_shown = False
-        # Held while anything is printed, so that the line never stands in the midst of it.
-        self.lock = threading.RLock()
-        self.ended = threading.Event()
-
-    def start(self):
-        """Begins to show the line, from a thread beside."""
-        if self.is_terminal:
-            threading.Thread(target=self.show, daemon=True).start()
 
     def count(self, size):
         """Counts a file that is checked."""
         self.files += 1
         self.size += size
 
-    def show(self):
-        """Shows the line until the run ends."""
-        while not self.ended.wait(OFTEN):
-            if time.monotonic() - self.begun > SLOW:
-                with self.lock:
-                    if not self.ended.is_set():
-                        self.is_shown = True
-                        self.write(f'\r{self.files:,} files checked, {self.size / 1e6:,.1f} MB\x1b[K')
-
-    @contextlib.contextmanager
-    def paused(self):
-        """Takes the line away while something else is printed."""
-        with self.lock:
-            if self.is_shown:
-                self.is_shown = False
-                self.write('\r\x1b[K')
-            yield
-
-    def stop(self):
-        """Takes the line away for good."""
-        self.ended.set()
-        with self.paused():
-            return
-
-    def write(self, text):
-        try:
-            self.stream.write(text.encode())
-            self.stream.flush()
-        except (OSError, ValueError):
-            self.ended.set()
+    def text(self):
+        return f'{self.files:,} files checked, {self.size / 1e6:,.1f} MB'
