@@ -671,7 +671,9 @@ diff "$work/wanted" "$work/out" || { echo 'docs/DICTIONARIES.md has other names 
 # A loss is promised only if --lossy has no fault: here there is one entry too many.
 made 'COMPLEXPREFIXES\n' ''
 { echo 1; letters 1000001; } > "$work/in/a.dic"
-prepare 'a loss, and a fault' 1 a.aff a.dic out <<< 'prepare-dictionary: a.dic:1000002: TooMany cannot be mended: `baaaaab`'
+prepare 'a loss, and a fault' 1 a.aff a.dic out << 'SAID'
+prepare-dictionary: a.dic:1000002: TooMany cannot be mended: `baaaaab`
+SAID
 
 # linted WHAT [OWN]: what the linter tells of a.aff and a.dic stands on standard input, without its own folder. The status is 1.
 linted() {

@@ -22,7 +22,7 @@ fi
 real=$("$top/tests/program") || { echo 'no row of what ended a run was run'; exit 1; }
 mkdir -p "$work/real/out" "$work/real/tools/launcher" "$work/in/folder"
 cp "$top/affedit" "$work/real/affedit"
-cp "$top"/tools/launcher/{explaining.bash,causes,commands,statuses} "$work/real/tools/launcher"
+cp "$top"/tools/launcher/{explaining.bash,rewriting.bash,causes,commands,statuses} "$work/real/tools/launcher"
 cp "$real" "$work/real/out/affedit"
 affedit=$work/real/affedit
 cd "$work/in"
@@ -39,12 +39,14 @@ seq 20001 > many
 printf '1 ins 1 wrods\n1 settle\n1 show\n\n16\n' > script
 input=/dev/null
 
-# row WHAT STATUS OUTPUT WORD..: what the program prints and its status, and on standard error what stands on standard input.
+# row WHAT STATUS OUTPUT WORD..: what the program prints and its status, and on standard error what stands on standard input, with the launcher's
+# name without its folder.
 row() {
     local what=$1 wanted=$2 output=$3 status=0
     shift 3
     cat > "$work/wanted"
     "$affedit" "$@" < "$input" > "$work/out" 2> "$work/said" || status=$?
+    sed -i "s|$work/real/||" "$work/said"
     if [ "$status" != "$wanted" ] || [ "$(cat "$work/out")" != "$output" ] || ! diff "$work/wanted" "$work/said"; then
         echo "$what: status $status, wanted $wanted; printed: $(head -c 300 "$work/out")"
         failed=1
@@ -55,6 +57,7 @@ row 'marks' 1 $'1 6 11 wrods\n1 of 2' check a.aff a.dic text < /dev/null
 row 'no marks' 0 '0 of 2' check a.aff a.dic text --workers 2 --own own < /dev/null
 row 'a command with a wrong letter' 2 'affedit: words' chek a.aff a.dic text << 'SAID'
 affedit: `chek` is no command; the nearest is `check`
+affedit: the line to copy: affedit check a.aff a.dic text
 affedit: the form is: affedit check AFF DIC FILE [--workers N] [--own OWN]
 affedit: `affedit --help` says what they do
 SAID
@@ -77,24 +80,20 @@ words 'a file in the place of the command' '`a.aff` is no command, but a file; a
 words 'no text' '`check` takes 3 names of files, and the words behind it are 2' check a.aff a.dic
 words 'two texts' '`many` is a word too many' check a.aff a.dic text many
 words 'help behind a command' '`--help` stands alone: `affedit --help`' check --help
-words 'an option in front' '`--own` stands too early: options stand behind the names of the files' check --own own a.aff a.dic text
 words 'a misspelled option' '`--worker` is no option; the nearest is `--workers`' check a.aff a.dic text --worker 2
 words 'another option' '`--verbose` is no option' check a.aff a.dic text --verbose
-words 'an option in one word' '`--workers=2` is two words: write `--workers 2`' check a.aff a.dic text --workers=2
 words 'workers without a number' '`--workers` has no number behind it' check a.aff a.dic text --workers
 words 'too many workers' '`17` is no number of workers: 0 to 16, in one or two digits' check a.aff a.dic text --workers 17
 words 'three digits' '`004` is no number of workers: 0 to 16, in one or two digits' check a.aff a.dic text --workers 004
 words 'workers twice' '`--workers` stands there twice' check a.aff a.dic text --workers 1 --workers 2
 words 'too many workers of edit' '`17` is no number of workers: 0 to 16, in one or two digits' edit a.aff a.dic --workers 17
 words 'no personal list' '`--own` has no name of a file behind it' check a.aff a.dic text --own
-words 'workers behind the list' '`--workers` stands too late: `--own OWN` is last' check a.aff a.dic text --own own --workers 2
 words 'an option of forms' '`--own` is a word too many: `forms` takes two names and nothing else' forms a.aff a.dic --own own
 words 'an option of pipe' '`--workers` is a word too many: `pipe` takes two names and nothing else' pipe a.aff a.dic --workers 1
 words 'no script' '`team` takes 3 names of files, and the words behind it are 2' team a.aff a.dic
 words 'two scripts' '`many` is a word too many' team a.aff a.dic script many
 words 'a misspelled option of team' '`--worker` is no option; the nearest is `--workers`' team a.aff a.dic script --worker 2
 words 'a misspelled option that team has not got' '`--owm` is no option' team a.aff a.dic script --owm own
-words 'workers of team in one word' '`--workers=2` is two words: write `--workers 2`' team a.aff a.dic script --workers=2
 words 'too many workers of team' '`17` is no number of workers: 0 to 16, in one or two digits' team a.aff a.dic script --workers 17
 words 'a personal list of team' '`--own` is a word too many: `team` takes no personal list' team a.aff a.dic script --own own
 words 'a list of team in one word' '`--own=own` is a word too many: `team` takes no personal list' team a.aff a.dic script --own=own
@@ -115,10 +114,74 @@ for form in "make 18446744073709551615 0001" "check a.aff a.dic text --workers 1
     [ "$status" -le 1 ] && [ ! -s "$work/said" ] || { echo "$form: status $status, said: $(cat "$work/said")"; failed=1; }
 done
 
+# same FORM WORD..: these words are put into the order of the form, and nothing is said of that.
+same() {
+    local form=$1 status=0 wanted=0
+    shift
+    # shellcheck disable=SC2086
+    "$affedit" $form < text > "$work/wanted" 2> /dev/null || wanted=$?
+    "$affedit" "$@" < text > "$work/out" 2> "$work/said" || status=$?
+    [ "$status" = "$wanted" ] && [ ! -s "$work/said" ] && diff "$work/wanted" "$work/out" || { echo "$*: status $status, wanted $wanted"; failed=1; }
+}
+same 'check a.aff a.dic text --own own' check a.aff a.dic text --own=own
+same 'check a.aff a.dic text --own own' check --own own a.aff a.dic text
+same 'check a.aff a.dic text --own own' check a.aff --own=own a.dic text
+same 'check a.aff a.dic text --workers 2 --own own' check a.aff a.dic text --own own --workers 2
+same 'check a.aff a.dic text --workers 2 --own own' check --own=own a.aff a.dic --workers=2 text
+same 'check a.aff a.dic text --workers 2' check a.aff a.dic text --workers=2
+same 'check a.aff a.dic /dev/stdin' check a.aff a.dic -
+same 'check a.aff a.dic /dev/stdin --workers 1' check --workers 1 a.aff a.dic -
+same 'edit a.aff a.dic --workers 2 --own own' edit --own=own --workers=2 a.aff a.dic
+same 'team a.aff a.dic script --workers 2' team --workers=2 a.aff a.dic script
+[ "$("$affedit" team a.aff a.dic - < script)" = "$("$affedit" team a.aff a.dic script)" ] || { echo 'a script by standard input in short'; failed=1; }
+# The words of a form stay as they are, whatever files are named like.
+cp own ./--own
+cp text ./--workers
+cp a.aff ./-
+for form in 'check a.aff a.dic --workers' 'check a.aff a.dic --own' 'check - a.dic --own --workers 2' 'check a.aff a.dic -' \
+    'check a.aff a.dic --workers --own own'; do
+    # shellcheck disable=SC2086
+    "$real" $form > "$work/wanted" && wanted=0 || wanted=$?
+    # shellcheck disable=SC2086
+    "$affedit" $form < text > "$work/out" 2> "$work/said" && status=0 || status=$?
+    [ "$status" = "$wanted" ] && [ "$status" -le 1 ] && [ ! -s "$work/said" ] && cmp "$work/wanted" "$work/out" || { echo "$form: status $status"; failed=1; }
+done
+# What may mean two things is left to people.
+row 'an option that is a file too' 2 'affedit: words' check a.aff a.dic --own own text << 'SAID'
+affedit: `own` is a word too many
+affedit: the line to copy: affedit check a.aff a.dic text --own own
+affedit: the form is: affedit check AFF DIC FILE [--workers N] [--own OWN]
+affedit: `affedit --help` says what they do
+SAID
+rm ./--own ./--workers ./-
+row 'an option twice' 2 'affedit: words' check a.aff a.dic text --workers 1 --own own --workers=2 << 'SAID'
+affedit: `--workers=2` stands too late: `--own OWN` is last
+affedit: the line to copy: affedit check a.aff a.dic text --workers 2 --own own
+affedit: the form is: affedit check AFF DIC FILE [--workers N] [--own OWN]
+affedit: `affedit --help` says what they do
+SAID
+row 'a misspelled option to copy' 2 'affedit: words' chekc a.aff a.dic text --worker=2 << 'SAID'
+affedit: `chekc` is no command; the nearest is `check`
+affedit: the line to copy: affedit check a.aff a.dic text --workers 2
+affedit: the form is: affedit check AFF DIC FILE [--workers N] [--own OWN]
+affedit: `affedit --help` says what they do
+SAID
+row 'no command' 2 'affedit: words' text a.aff a.dic << 'SAID'
+affedit: `text` is no command, but a file; a command stands before the files
+affedit: the line to copy: affedit check a.aff a.dic text
+affedit: the form is: affedit check AFF DIC FILE [--workers N] [--own OWN]
+affedit: `affedit --help` says what they do
+SAID
+row 'a value that is none' 2 'affedit: words' check --workers=17 a.aff a.dic text << 'SAID'
+affedit: `17` is no number of workers: 0 to 16, in one or two digits
+affedit: the form is: affedit check AFF DIC FILE [--workers N] [--own OWN]
+affedit: `affedit --help` says what they do
+SAID
+
 row 'a name that is not there' 5 missing check a.aff b.dic text << 'SAID'
 affedit: there is no file `b.dic`
 SAID
-row 'standard input by another name' 5 missing check a.aff a.dic - << 'SAID'
+row 'standard input in the place of a dictionary' 5 missing check - a.dic text << 'SAID'
 affedit: there is no file `-`
 affedit: standard input is the file /dev/stdin
 SAID
@@ -137,9 +200,111 @@ affedit: `large` has 16777217 bytes, and 16777216 are the most
 SAID
 row 'a long line' 8 'limit 65536' check a.aff a.dic long << 'SAID'
 long:3: the line has 65537 bytes, and 65536 are the most
+affedit: affedit-check has no such limit: affedit-check -d ./a long
 SAID
 row 'many lines' 8 'limit 20000' check a.aff a.dic many << 'SAID'
 affedit: `many` has 20001 lines, and 20000 are the most
+affedit: affedit-check has no such limit: affedit-check -d ./a many
+SAID
+cp many ./-many
+row 'many lines, own words, and a name like an option' 8 'limit 20000' check "$work/in/a.aff" "$work/in/a.dic" -many --own own << SAID
+affedit: \`-many\` has 20001 lines, and 20000 are the most
+affedit: affedit-check has no such limit: affedit-check -d $work/in/a -p own ./-many
+SAID
+row 'many lines, and files of two names' 8 'limit 20000' check a.aff ./a.dic many << 'SAID'
+affedit: `many` has 20001 lines, and 20000 are the most
+affedit: affedit-check has no such limit: affedit-check -d ./NAME FILE, with the dictionary in ./NAME.aff and ./NAME.dic
+SAID
+truncate -s 67108865 huge
+row 'a huge text' 8 'limit 67108864' check a.aff a.dic huge << 'SAID'
+affedit: `huge` has 67108865 bytes, and 67108864 are the most
+affedit: affedit-check has no such limit: affedit-check -d ./a huge
+SAID
+rm huge
+input=many
+row 'many lines of standard input' 8 'limit 20000' check a.aff a.dic - << 'SAID'
+affedit: `/dev/stdin` has 20001 lines, and 20000 are the most
+affedit: affedit-check has no such limit: affedit-check -d ./a -
+SAID
+input=/dev/null
+printf 'hello\nhello \xff\xfe \0 hello\0\n' > binary
+row 'a binary file' 4 'doc 2' check a.aff a.dic binary << 'SAID'
+binary:2: the line is not UTF-8
+affedit: `binary` is a binary file, and no text: line 2 has a byte 0
+SAID
+printf '1 show\n1 ins 1 \xff\0\n' > script
+row 'a binary script' 4 'script 2' team a.aff a.dic script << 'SAID'
+script:2: the line is not UTF-8
+affedit: `script` is a binary file, and no text: line 2 has a byte 0
+SAID
+row 'a binary dictionary' 3 'aff 2 NotUtf8' check binary a.dic text << 'SAID'
+binary:2: the line is not UTF-8 (NotUtf8)
+affedit: `binary` is a binary file, and no text: line 2 has a byte 0
+SAID
+printf '\xff\xfeh\0i\0\n\0' > 'two bytes'
+row 'a text in UTF-16' 4 'doc 1' check a.aff a.dic 'two bytes' << 'SAID'
+two bytes:1: the line is not UTF-8
+affedit: `two bytes` is UTF-16. It becomes UTF-8 by: iconv -f UTF-16 -t UTF-8 two\ bytes > two\ bytes-utf8
+SAID
+eval "$(sed -n 's/.*UTF-8 by: //p' "$work/said")"
+[ "$(cat 'two bytes-utf8')" = hi ] || { echo 'the command for a text in UTF-16 does not help'; failed=1; }
+# copied WHAT STATUS OUTPUT: the line to copy that was said last is run, and ends so.
+copied() {
+    local status=0 said
+    said=$(eval "$work/real/$(sed -n 's/^affedit: the line to copy: //p' "$work/said")" 2> /dev/null) || status=$?
+    [ "$status" = "$2" ] && [ "$said" = "$3" ] || { echo "$1, copied: status $status, printed: $said"; failed=1; }
+}
+row 'the text before the dictionary' 3 'dic 1 BadCount' check text a.aff a.dic --own=own << 'SAID'
+a.aff:1: the first line does not begin with the number of entries (BadCount)
+affedit: `text` stands before the files of the dictionary, and has to stand after them
+affedit: the line to copy: affedit check a.aff a.dic text --own own
+SAID
+copied 'the text before the dictionary' 0 '0 of 2'
+cp a.aff 'rules 1'
+cp a.dic words
+row 'the same by names that say nothing' 3 'dic 1 BadCount' check text 'rules 1' words << 'SAID'
+rules 1:1: the first line does not begin with the number of entries (BadCount)
+affedit: `text` stands before the files of the dictionary, and has to stand after them
+affedit: the line to copy: affedit check rules\ 1 words text
+SAID
+copied 'the same by names that say nothing' 1 $'1 6 11 wrods\n1 of 2'
+row 'the text in the midst' 3 'dic 1 BadCount' check a.aff text a.dic << 'SAID'
+text:1: the first line does not begin with the number of entries (BadCount)
+affedit: the .aff file stands first, then the .dic file: `a.aff`, then `a.dic`
+affedit: the line to copy: affedit check a.aff a.dic text
+SAID
+copied 'the text in the midst' 1 $'1 6 11 wrods\n1 of 2'
+input=text
+row 'standard input before the dictionary' 3 'dic 1 BadCount' check /dev/stdin a.aff a.dic << 'SAID'
+a.aff:1: the first line does not begin with the number of entries (BadCount)
+affedit: `/dev/stdin` stands before the files of the dictionary, and has to stand after them
+affedit: the line to copy: affedit check a.aff a.dic /dev/stdin
+SAID
+input=/dev/null
+row 'exchanged files of edit' 3 'dic 1 BadCount' edit a.dic a.aff --workers 1 << 'SAID'
+a.aff:1: the first line does not begin with the number of entries (BadCount)
+affedit: the .aff file stands first, then the .dic file: `a.aff`, then `a.dic`
+affedit: the line to copy: affedit edit a.aff a.dic --workers 1
+SAID
+# A .dic file without a count is one all the same, in its place.
+printf 'hello\n' > none.dic
+row 'no count' 3 'dic 1 BadCount' check a.aff none.dic text << 'SAID'
+none.dic:1: the first line does not begin with the number of entries (BadCount)
+affedit: to mend both files, or to see why not: affedit-prepare-dictionary a.aff none.dic a-prepared
+SAID
+# What is never mended is not promised.
+printf 'SFX A Y 200001\n' > rules.aff
+row 'too many rules' 3 'aff 1 TooMany' check rules.aff a.dic text << 'SAID'
+rules.aff:1: more rows or rules are announced than are allowed (TooMany)
+affedit: to see what helps: affedit-lint-dictionary rules.aff a.dic
+SAID
+row 'a bad item of a personal list' 3 'own 1 EmptyWord' check a.aff a.dic text --own <(echo '*') << 'SAID'
+affedit: a file of the dictionary, or the personal list, has a fault: the last line has the file, the line and the cause
+SAID
+echo '*' > star
+row 'a bad item of a personal list' 3 'own 1 EmptyWord' check a.aff a.dic text --own star << 'SAID'
+star:1: the word is empty, or the model behind the slash is (EmptyWord)
+affedit: to see what helps: affedit-lint-dictionary a.aff a.dic star
 SAID
 row 'a text in Latin-1' 4 'doc 2' check a.aff a.dic latin << 'SAID'
 latin:2: the line is not UTF-8
@@ -147,15 +312,17 @@ affedit: a text in Latin-1 becomes UTF-8 by: iconv -f ISO-8859-1 -t UTF-8
 SAID
 row 'exchanged files' 3 'dic 1 BadCount' check a.dic a.aff text << 'SAID'
 a.aff:1: the first line does not begin with the number of entries (BadCount)
-affedit: `a.dic` looks like a .dic file, and `a.aff` does not: the .aff file stands first
+affedit: the .aff file stands first, then the .dic file: `a.aff`, then `a.dic`
+affedit: the line to copy: affedit check a.aff a.dic text
 SAID
+copied 'exchanged files' 1 $'1 6 11 wrods\n1 of 2'
 row 'a short table' 3 'aff 3 TableShort' check short.aff a.dic none << 'SAID'
 short.aff:3: the table announces more rows than it has (TableShort)
-affedit: affedit-lint-dictionary shows the line; affedit-prepare-dictionary mends such files
+affedit: to mend both files, or to see why not: affedit-prepare-dictionary short.aff a.dic short-prepared
 SAID
 row 'the same of edit' 3 'aff 3 TableShort' edit short.aff a.dic << 'SAID'
 short.aff:3: the table announces more rows than it has (TableShort)
-affedit: affedit-lint-dictionary shows the line; affedit-prepare-dictionary mends such files
+affedit: to mend both files, or to see why not: affedit-prepare-dictionary short.aff a.dic short-prepared
 SAID
 # scripted WHAT STATUS OUTPUT SCRIPT: the same of `team` by this script, a format of printf.
 scripted() {
@@ -177,7 +344,7 @@ affedit: `large` has 16777217 bytes, and 16777216 are the most
 SAID
 row 'a short table of team' 3 'aff 3 TableShort' team short.aff a.dic none << 'SAID'
 short.aff:3: the table announces more rows than it has (TableShort)
-affedit: affedit-lint-dictionary shows the line; affedit-prepare-dictionary mends such files
+affedit: to mend both files, or to see why not: affedit-prepare-dictionary short.aff a.dic short-prepared
 SAID
 scripted 'a session that may not be' 4 'script 2' '1 show\n17 show\n' << 'SAID'
 script:2: `17` is no number of a session: 1 to 16, in one or two digits

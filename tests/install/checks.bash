@@ -41,24 +41,26 @@ files_below() { (cd "$1" && find . ! -type d -printf '%P\n') | LC_ALL=C sort; }
 
 # runs WHAT PREFIX: what is installed there runs from another folder, and no command but those of the system and its own is found.
 runs() {
-    local page what=$1 sample=$2/lib/affedit/examples/sample PATH=$2/bin:/usr/bin:/bin
+    local page quoted what=$1 sample=$2/lib/affedit/examples/sample PATH=$2/bin:/usr/bin:/bin
     ! grep -rqIF -e "$top" -e "$copy" "$2" || wrong "$what: it names the folder of the sources"
+    printf -v quoted %q "$sample"
     cd "$work" || return
     expect "$what: the sample" 1 affedit check "$sample.aff" "$sample.dic" "$sample.txt" << 'MARKS'
 2 30 35 citys
 1 of 15
 MARKS
-    expect "$what: a wrong word" 2 affedit chek "$sample.aff" "$sample.dic" "$sample.txt" << 'SAID'
+    expect "$what: a wrong word" 2 affedit chek "$sample.aff" "$sample.dic" "$sample.txt" << SAID
 affedit: words
-affedit: `chek` is no command; the nearest is `check`
+affedit: \`chek\` is no command; the nearest is \`check\`
+affedit: the line to copy: affedit check $quoted.aff $quoted.dic $quoted.txt
 affedit: the form is: affedit check AFF DIC FILE [--workers N] [--own OWN]
-affedit: `affedit --help` says what they do
+affedit: \`affedit --help\` says what they do
 SAID
     printf 'SET UTF-8\nREP 2\nREP a b\n' > bad.aff
-    expect "$what: a fault" 3 affedit edit bad.aff "$sample.dic" << 'SAID'
+    expect "$what: a fault" 3 affedit edit bad.aff "$sample.dic" << SAID
 aff 2 TableShort
 bad.aff:2: the table announces more rows than it has (TableShort)
-affedit: affedit-lint-dictionary shows the line; affedit-prepare-dictionary mends such files
+affedit: to mend both files, or to see why not: affedit-prepare-dictionary bad.aff $quoted.dic bad-prepared
 SAID
     affedit --help > help
     "$copy/affedit" --help | sed 's|docs/affedit\.1|affedit(1)|' | same "$what: the help" help

@@ -4,6 +4,9 @@
 # where that is not enough the program is asked again for that line, over files that can be read twice.
 # shellcheck shell=bash disable=SC2016,SC2154
 
+# shellcheck source=tools/launcher/rewriting.bash
+. "$tools/rewriting.bash"
+
 # How many workers `edit` takes.
 edit_workers=16
 file_most=16777216
@@ -34,10 +37,11 @@ help() {
 affedit --help, affedit -h, affedit --version
         prints this, or the version, the kit that proved the program, and the digest of its sources
 
-AFF and DIC are the files of a dictionary, in UTF-8. FILE is a text; standard input is the file /dev/stdin.
+AFF and DIC are the files of a dictionary, in UTF-8. FILE is a text; standard input is the file /dev/stdin, or `-` for short.
 SCRIPT is a file. Each line is blank, or `K TEXT`: the number of a session, 1 to 16, one space, and a line of the input of `edit`.
 --workers N  so many threads, 0 to 16. They share FILE: the same is printed, and sooner. Of `edit` and `team` they check in the background.
 --own OWN    a personal list: each line adds a word, or prohibits the word behind a `*`.
+Options may be anywhere after the command, also as `--own=OWN`.
 `check` prints a line `LINE START END WORD` for each marked word, and then `M of W`, the numbers of marked words and of words.
 START and END are byte offsets from 0 in the line, END exclusive. LINE counts from 1.
 
@@ -82,6 +86,20 @@ shown() {
 
 tell() {
     printf 'affedit: %s\n' "$1"
+}
+
+# line_of WORD..: a line for a shell with these words.
+line_of() {
+    local line
+    printf -v line ' %q' "$@"
+    echo "${line# }"
+}
+
+# launch_of WORD..: the line that runs the launcher with these words, by the name that it was run by.
+launch_of() {
+    local name=$0
+    [ "$(type -P "${0##*/}")" != "$0" ] || name=${0##*/}
+    line_of "$name" "$@"
 }
 
 is_utf8() {
@@ -160,10 +178,10 @@ command_fault() {
     local near names
     mapfile -t names < <(rows commands | cut -d ' ' -f 1)
     near=$(nearest "$1" "${names[@]}")
-    if [ -n "$near" ]; then
-        echo "$(shown "$1") is no command; the nearest is $(shown "$near")"
-    elif [ -e "$1" ]; then
+    if [ -e "$1" ]; then
         echo "$(shown "$1") is no command, but a file; a command stands before the files"
+    elif [ -n "$near" ]; then
+        echo "$(shown "$1") is no command; the nearest is $(shown "$near")"
     else
         echo "$(shown "$1") is no command"
     fi
@@ -249,17 +267,47 @@ made_fault() {
     fi
 }
 
-# explain_words WORD..: what was not understood, and the form that is nearest.
+# propose WORD..: sets `arranged` to the words of a form that these were meant to be, with the command and the options that are nearest.
+# Fails where that is not seen.
+propose() {
+    local command=${1-} names word near words=()
+    mapfile -t names < <(rows commands | cut -d ' ' -f 1)
+    if [ -e "$command" ] && [ -z "$(form_of "$command")" ]; then
+        set -- check "$@"
+    else
+        near=$(nearest "$command" "${names[@]}")
+        set -- "${near:-$command}" "${@:2}"
+    fi
+    for word in "$@"; do
+        near=''
+        [[ $word != --* ]] || near=$(nearest "${word%%=*}" --workers --own)
+        [ -z "$near" ] || word=$near${word#"${word%%=*}"}
+        words+=("$word")
+    done
+    if [ -n "$(words_fault "${words[@]}")" ]; then
+        arrange "${words[@]}" && [ -z "$(words_fault "${arranged[@]}")" ]
+    else
+        arranged=("${words[@]}")
+    fi && { order named "${arranged[@]}" || true; }
+}
+
+# explain_words WORD..: what was not understood, the line that was meant if that is seen, and the form that is nearest.
 explain_words() {
-    local fault command=${1-} names near form
+    # shellcheck disable=SC2034
+    local fault command=${1-} names near form arranged doubt
     if [ $# -eq 0 ]; then
         help
         return
     fi
     fault=$(words_fault "$@")
     tell "${fault:-the command line is none of the forms}"
-    mapfile -t names < <(rows commands | cut -d ' ' -f 1)
-    near=$(nearest "$command" "${names[@]}")
+    if propose "$@"; then
+        tell "the line to copy: $(launch_of "${arranged[@]}")"
+        near=${arranged[0]}
+    else
+        mapfile -t names < <(rows commands | cut -d ' ' -f 1)
+        near=$(nearest "$command" "${names[@]}")
+    fi
     while IFS= read -r form; do
         tell "the form is: affedit $form"
     done < <(if [ -n "$near" ]; then form_of "$near"; else rows commands | cut -f 1; fi)
@@ -363,17 +411,61 @@ message_of() {
 
 # tool NAME: how a script is called, in the sources and where it is installed.
 tool() {
-    if [ -e "$tools/building.bash" ]; then echo "$top/tools/$1"; else echo "affedit-$1"; fi
+    if [ -e "$tools/building.bash" ]; then echo "$top/tools/$1"; else echo "affedit-${1#affedit-}"; fi
 }
 
-# Whether the file in the place of the .aff file begins as a .dic file does, and the other one does not.
-are_exchanged() {
-    local first second
-    IFS= read -r first < "${names[0]}" || true
-    IFS= read -r second < "${names[1]}" || true
-    [[ ${first#$'\xef\xbb\xbf'} =~ ^[0-9]+[[:space:]]*$ ]] && ! [[ ${second#$'\xef\xbb\xbf'} =~ ^[[:space:]]*[0-9] ]]
-} 2> /dev/null
+# What the files of a dictionary are known by: the ends of their names, or how they begin.
+named_aff() { [[ $1 == *.aff ]]; }
+named_dic() { [[ $1 == *.dic ]]; }
+begins_aff() { head -c 65536 -- "$1" | LC_ALL=C grep -qaE $'^(\xef\xbb\xbf)?(SET|FLAG|TRY|KEY|WORDCHARS|REP|MAP|PFX|SFX|BREAK|ICONV|COMPOUND[A-Z]*)[ \t]'; }
+begins_dic() { head -n 1 -- "$1" | head -c 64 | LC_ALL=C grep -qaE $'^(\xef\xbb\xbf)?[0-9]+[ \t]*\r?$'; }
 
+# order KNOWN COMMAND WORD..: sets `arranged` to the words with the .aff file first and then the .dic file, as they are KNOWN by: `named` or
+# `begins`. Fails if two files or none are taken for one of them, or if the order is right.
+order() {
+    local known=$1 command=$2 count=2 name aff=() dic=() others=()
+    shift 2
+    [[ $command != check && $command != team ]] || count=3
+    for name in "${@:1:count}"; do
+        if "${known}_aff" "$name"; then
+            aff+=("$name")
+        elif "${known}_dic" "$name"; then
+            dic+=("$name")
+        else
+            others+=("$name")
+        fi
+    done 2> /dev/null
+    [ ${#aff[@]}${#dic[@]} = 11 ] || return 1
+    arranged=("$command" "${aff[@]}" "${dic[@]}" "${others[@]}" "${@:count + 1}")
+    ! { [ "$1" = "${aff[0]}" ] && [ "$2" = "${dic[0]}" ]; }
+}
+
+# explain_order WORD..: that the files stand in another order than the command takes them in, and the line to copy. Fails if they do not.
+explain_order() {
+    local arranged
+    order named "$@" || { are_plain && order begins "$@"; } || return
+    if [ "$2" = "${arranged[3]-}" ]; then
+        tell "$(shown "$2") stands before the files of the dictionary, and has to stand after them"
+    else
+        tell "the .aff file stands first, then the .dic file: $(shown "${arranged[1]}"), then $(shown "${arranged[2]}")"
+    fi
+    tell "the line to copy: $(launch_of "${arranged[@]}")"
+}
+
+# advise KIND CAUSE: what mends a fault. The causes that prepare-dictionary never mends are left to the linter.
+advise() {
+    local own out
+    own=$(name_of own)
+    out=${names[0]##*/}
+    case $1:$2 in
+        own:* | *:TooMany | aff:BadCondition | aff:LeftOut)
+            tell "to see what helps: $(line_of "$(tool lint-dictionary)" "${names[@]:0:2}" ${own:+"$own"})"
+            ;;
+        *) tell "to mend both files, or to see why not: $(line_of "$(tool prepare-dictionary)" "${names[@]:0:2}" "${out%.aff}-prepared")" ;;
+    esac
+}
+
+# explain_fault WORD..: the line with a fault, and what helps.
 explain_fault() {
     local kind line cause more said name
     said=''
@@ -381,14 +473,15 @@ explain_fault() {
     read -r kind line cause more <<< "$said"
     if ! [[ $kind =~ ^(aff|dic|own)$ && $line =~ ^[0-9]+$ && -n $cause && -z $more ]]; then
         tell 'a file of the dictionary, or the personal list, has a fault: the last line has the file, the line and the cause'
+        explain_order "$@"
         return
     fi
     name=$(name_of "$kind")
     echo "$(plain "$name"):$line: $(message_of "$kind" "$cause") ($cause)"
-    if [ "$kind" != own ] && are_exchanged; then
-        tell "$(shown "${names[0]}") looks like a .dic file, and $(shown "${names[1]}") does not: the .aff file stands first"
-    elif [ "$kind" != own ]; then
-        tell "$(tool lint-dictionary) shows the line; $(tool prepare-dictionary) mends such files"
+    if [ "$kind" != own ] && explain_order "$@"; then
+        return
+    elif [ "$cause" != NotUtf8 ] || ! explain_binary "$name"; then
+        advise "$kind" "$cause"
     fi
 }
 
@@ -405,7 +498,31 @@ explain_document() {
     else
         tell "$(shown "$file") has a line that is not UTF-8: the last line has its number"
     fi
-    tell 'a text in Latin-1 becomes UTF-8 by: iconv -f ISO-8859-1 -t UTF-8'
+    explain_encoding "$file"
+}
+
+# explain_encoding FILE: what helps if a text is not UTF-8.
+explain_encoding() {
+    explain_binary "$1" || tell 'a text in Latin-1 becomes UTF-8 by: iconv -f ISO-8859-1 -t UTF-8'
+}
+
+# explain_binary FILE: that a file has bytes 0, which no text has but in UTF-16. Fails if it has none, or cannot be read again.
+explain_binary() {
+    local line
+    [ -f "$1" ] || return
+    line=$(first_zero "$1")
+    if [[ $(head -c 2 -- "$1" | LC_ALL=C od -A n -t x1) =~ ^\ (ff\ fe|fe\ ff)$ ]]; then
+        tell "$(shown "$1") is UTF-16. It becomes UTF-8 by: $(line_of iconv -f UTF-16 -t UTF-8 "$1") > $(line_of "$1-utf8")"
+    elif [ -n "$line" ]; then
+        tell "$(shown "$1") is a binary file, and no text: line $line has a byte 0"
+    else
+        return 1
+    fi
+}
+
+# first_zero FILE: the number of the first line with a byte 0; nothing if there is none.
+first_zero() {
+    LC_ALL=C tr -c '\000\n' x < "$1" | LC_ALL=C tr '\000' 0 | LC_ALL=C grep -nom 1 0 | head -n 1 | cut -d : -f 1
 }
 
 # ---- status 8: limits
@@ -429,12 +546,14 @@ explain_limit() {
         said=$(too_large "${names[place]}" "$most")
         if [ -n "$said" ]; then
             echo "$said"
+            [ "${kinds[place]}" != file ] || explain_way_out
             return
         fi
     done
     if [ "$1" = check ]; then
         [ ! -f "${names[place]}" ] || said=$(asked_of_text "${names[place]}")
         text_limit "${names[place]}" "$said"
+        explain_way_out
     elif [ "$1" = team ]; then
         explain_script_limit
     elif ! are_plain; then
@@ -443,6 +562,22 @@ explain_limit() {
         tell 'the dictionary has more forms than are listed, 1000000'
     else
         tell 'the input has too many bytes, or a line of it has: the last line has the number that is the most'
+    fi
+}
+
+# explain_way_out: the command that checks the text and has no limit to its size and lines.
+explain_way_out() {
+    local base=${names[0]%.aff} own file words
+    own=$(name_of own)
+    file=$(name_of file)
+    [[ $base == */* ]] || base=./$base
+    [[ $file != -* ]] || file=./$file
+    [ "$file" != /dev/stdin ] || file=-
+    words=("$(tool affedit-check)" -d "$base" ${own:+-p "$own"} "$file")
+    if [[ ${names[0]} == *.aff && ${names[1]} == "${names[0]%.aff}.dic" && $base != *,* ]]; then
+        tell "affedit-check has no such limit: $(line_of "${words[@]}")"
+    else
+        tell "affedit-check has no such limit: $(tool affedit-check) -d ./NAME FILE, with the dictionary in ./NAME.aff and ./NAME.dic"
     fi
 }
 
@@ -516,7 +651,7 @@ explain_script() {
         tell "$(shown "$script") has a line that is not UTF-8, or is of no form: the last line has its number"
     elif [ "$why" = bytes ]; then
         echo "$(plain "$script"):$number: the line is not UTF-8"
-        tell 'a text in Latin-1 becomes UTF-8 by: iconv -f ISO-8859-1 -t UTF-8'
+        explain_encoding "$script"
         return
     elif [ -z "$word" ]; then
         echo "$(plain "$script"):$number: the line begins with a space, in place of the number of a session"
@@ -632,7 +767,7 @@ explain_end() {
     fi
     case $status in
         2) explain_words "$@" ;;
-        3) explain_fault ;;
+        3) explain_fault "$@" ;;
         4) if [ "$1" = team ]; then explain_script; else explain_document; fi ;;
         5) explain_missing "$1" ;;
         # A reader that has enough is nothing to tell of.
