@@ -1,4 +1,4 @@
-"""Prepares a pair of files: reads it, mends it, has the program read what was made, and writes it. Shared by prepare-dictionary and lint-dictionary."""
+"""Prepares a pair of files for prepare-dictionary and lint-dictionary: reads it, mends it, has the program read the result, and writes it."""
 
 import gc
 import os
