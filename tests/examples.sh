@@ -67,6 +67,11 @@ for block in "${blocks[@]}"; do
 done
 [ ${#ends[@]} = 0 ] || { echo "README.md has not got: ${!ends[*]}"; failed=1; }
 
+# What README.md says of the limits of a text: each line has the command without the limit.
+for limit in 20000 65536; do
+    awk '/^## / { inside = /Limits/ } inside' README.md | grep "limit $limit.*affedit-check" > /dev/null || { echo "README.md has no way out of limit $limit"; failed=1; }
+done
+
 # One table says what the commands are, and one what the statuses are. README.md, the manual page, --help and docs/CONSOLE.md say the same.
 rows() { grep -v '^#' "tools/launcher/$1"; }
 # same WHAT FILE: this file has what stands on standard input.

@@ -5,6 +5,10 @@ from dictionary_grammar import Refused
 from dictionary_lines import Line, bytes_of, flag_spans, roles_of
 
 
+def has_blanks(text):
+    return ' ' in text or '\t' in text
+
+
 class Shrinking:
     """Makes files smaller that would be larger than may be read, without a change of the words that they accept."""
 
@@ -34,7 +38,7 @@ class Shrinking:
 
     def drop_morphology(self):
         for line in self.dic[1:]:
-            found = grammar.entry_of(line.text)
+            found = grammar.entry_of(line.text) if has_blanks(line.text) else None
             if found and line.text[found[2]:].strip(' \t'):
                 line.text = line.text[:found[2]]
                 self.changes.add('dic', line.number, 'fields of morphology left out, to make the file small enough')
@@ -54,8 +58,9 @@ class Shrinking:
         found = {}
         for line in self.dic[1:]:
             text = line.text
-            if text and '/' not in text and '\\' not in text and grammar.entry_of(text) == (0, len(text), len(text)):
-                found[text] = line
+            if text and '/' not in text and '\\' not in text:
+                if not has_blanks(text) or grammar.entry_of(text) == (0, len(text), len(text)):
+                    found[text] = line
         return found
 
     def fold(self):
