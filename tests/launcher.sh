@@ -292,6 +292,11 @@ row 'no count' 3 'dic 1 BadCount' check a.aff none.dic text << 'SAID'
 none.dic:1: the first line does not begin with the number of entries (BadCount)
 affedit: to mend both files, or to see why not: affedit-prepare-dictionary a.aff none.dic a-prepared
 SAID
+echo 1 > number
+row 'no count, and a text that begins with a number' 3 'dic 1 BadCount' check a.aff none.dic number << 'SAID'
+none.dic:1: the first line does not begin with the number of entries (BadCount)
+affedit: to mend both files, or to see why not: affedit-prepare-dictionary a.aff none.dic a-prepared
+SAID
 # What is never mended is not promised.
 printf 'SFX A Y 200001\n' > rules.aff
 row 'too many rules' 3 'aff 1 TooMany' check rules.aff a.dic text << 'SAID'

@@ -100,6 +100,15 @@ a.dic:1000002: TooMany
 SAID
 copied 'many entries' '0 of 0' a-1.aff a-1.dic
 [ "$(xargs < "$work/in/a-2.dic")" = '1 baaaaab' ] || { echo 'many entries: the second part is another'; failed=1; }
+made '' '1\n'
+letters 170 | sed "s/.*/foo& po:$(head -c 100000 /dev/zero | tr '\0' x)/" >> "$work/in/a.dic"
+linted 'a large file' << 'SAID'
+a.aff, a.dic: limit 16777216
+    mend it by:  tools/prepare-dictionary a.aff a.dic a-prepared
+    this changes:
+    a.dic:2: fields of morphology left out, to make the file small enough (170 lines, of which this is the first)
+SAID
+copied 'a large file' '0 of 0' a-prepared.aff a-prepared.dic
 made 'AF 65001\n' '0\n'
 { letters 65001 | sed 's/^/AF /'; } >> "$work/in/a.aff"
 linted 'many rows' << 'SAID'

@@ -33,7 +33,7 @@ def of_own(place):
 
 def of_pair(place, aff, check):
     """The lines of advice on a file of a dictionary. CHECK is the name of the command that takes two dictionaries."""
-    fields = place.text.split()
+    fields = grammar.FIELD.findall(place.text)
     if place.path == aff and place.cause == 'TooMany':
         return [ROWS]
     if place.cause == 'TooMany':
@@ -47,7 +47,7 @@ def of_pair(place, aff, check):
 
 def header(place, fields):
     """The advice on a rule that has no header of its class above it."""
-    rules = sum(line.split()[:2] == fields[:2] for line in place.lines)
+    rules = sum(grammar.FIELD.findall(line)[:2] == fields[:2] for line in place.lines if line.lstrip().startswith(fields[0]))
     text = f'{fields[0]} {fields[1]} Y {rules}'.replace('\\', '\\\\')
     return [f'put the header of its class above it by:  {place.sed(f"{place.number}i {text}")}',
             f'With {fields[0]} {fields[1]} N these affixes do not go with those of the other side.']

@@ -421,7 +421,7 @@ begins_aff() { head -c 65536 -- "$1" | LC_ALL=C grep -qaE $'^(\xef\xbb\xbf)?(SET
 begins_dic() { head -n 1 -- "$1" | head -c 64 | LC_ALL=C grep -qaE $'^(\xef\xbb\xbf)?[0-9]+[ \t]*\r?$'; }
 
 # order KNOWN COMMAND WORD..: sets `arranged` to the words with the .aff file first and then the .dic file, as they are KNOWN by: `named` or
-# `begins`. Fails if two files or none are taken for one of them, or if the order is right.
+# `begins`. Fails with 2 if the order is right, and with 1 if it is not known: two files or none are taken for one of them.
 order() {
     local known=$1 command=$2 count=2 name aff=() dic=() others=()
     shift 2
@@ -437,13 +437,18 @@ order() {
     done 2> /dev/null
     [ ${#aff[@]}${#dic[@]} = 11 ] || return 1
     arranged=("$command" "${aff[@]}" "${dic[@]}" "${others[@]}" "${@:count + 1}")
-    ! { [ "$1" = "${aff[0]}" ] && [ "$2" = "${dic[0]}" ]; }
+    [ "$1" != "${aff[0]}" ] || [ "$2" != "${dic[0]}" ] || return 2
 }
 
 # explain_order WORD..: that the files stand in another order than the command takes them in, and the line to copy. Fails if they do not.
 explain_order() {
-    local arranged
-    order named "$@" || { are_plain && order begins "$@"; } || return
+    local arranged status=0
+    order named "$@" || status=$?
+    if [ "$status" = 1 ] && are_plain; then
+        status=0
+        order begins "$@" || status=$?
+    fi
+    [ "$status" = 0 ] || return
     if [ "$2" = "${arranged[3]-}" ]; then
         tell "$(shown "$2") stands before the files of the dictionary, and has to stand after them"
     else
