@@ -1,6 +1,6 @@
 #!/usr/bin/env bash
 # What the repository says of itself. docs/ARCHITECTURE.md has the picture of crates.txt (tools/storeys), and no name stands for two things but those of
-# tests/names.txt (tools/names). Then come both tools over a folder of small crates made for this. Last is what bench/gate.sh prints of a stored run,
+# tests/names.txt (tools/names). NOTICE names the crates of the kit that crates.txt names. Then come both tools over a folder of small crates made for this. Last is what bench/gate.sh prints of a stored run,
 # and of a run of a kit made for this, which proves nothing. Prints what went wrong; the status is 0 if nothing did.
 # shellcheck disable=SC2119,SC2120,SC2317
 set -euo pipefail
@@ -26,6 +26,21 @@ expect() {
 storeys() { "$here/tools/storeys" "$@"; }
 names() { "$here/tools/names" "$@"; }
 gate() { PATH=$work/kit:$PATH "$here/bench/gate.sh" "$@"; }
+
+# ---- NOTICE: the crates of the kit that the program and the library for C are made of by crates.txt, and std, which is always there.
+# shellcheck source=tools/launcher/sources.bash
+. "$top/tools/launcher/sources.bash"
+# parts: the words of crates.txt behind the names of these crates, but for the crates of the repository.
+parts() {
+    {
+        echo std
+        crates_of "${kept_builds[@]}" | while IFS= read -r name; do
+            sed -n "s/#.*//; s/^$name\\( [^:]*\\)\\?://p" "$top/crates.txt" | tr -s ' ' '\n' | sed '/^$/d'
+        done
+    } | LC_ALL=C sort -u | LC_ALL=C comm -23 - <(sed -n 's/^\([a-z_0-9]*\)[ :].*/\1/p' "$top/crates.txt" | LC_ALL=C sort)
+}
+noticed() { awk '/^1\. / { inside = 1 } /^2\. / { exit } inside && /^[a-z]/ { sub(/:.*/, ""); gsub(/, /, "\n"); print }' "$top/NOTICE" | LC_ALL=C sort; }
+expect 'the crates in NOTICE' 0 noticed < <(parts)
 
 mkdir -p "$here"/{bench,tools,docs,tests} "$here"/crates/{low,lower,app,app_tests}/{src,specs} "$work/kit"
 cp "$top/tools/storeys" "$top/tools/names" "$here/tools"
