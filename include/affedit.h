@@ -32,6 +32,12 @@
 #include <stddef.h>
 #include <stdint.h>
 
+/* The version of this header, and of the library beside it. */
+#define AFFEDIT_VERSION "1.0.0"
+#define AFFEDIT_VERSION_MAJOR 1
+#define AFFEDIT_VERSION_MINOR 0
+#define AFFEDIT_VERSION_PATCH 0
+
 #ifdef __cplusplus
 extern "C" {
 #endif
