@@ -28,9 +28,12 @@ else
     skip 'the library for C with sanitizers' "the package $(sanitizers)"
     cp plain calls
 fi
+cc -Wall -Wextra -Werror -I"$top/include" "$top/tests/c/version.c" -o version
+[ "$(./version)" = "$(cat "$top/VERSION") $(cat "$top/VERSION")" ] || { echo "the versions of the header: $(./version), and of VERSION: $(cat "$top/VERSION")"; failed=1; }
 # Names that C++ keeps, and headers that a header needs.
 if has 'the header in C++' c++; then
     c++ -Wall -Wextra -Werror -fsyntax-only -x c++ "$top/include/affedit.h"
+    c++ -std=c++17 -I"$top/include" -Wall -Wextra -Werror -fsyntax-only -x c++ "$top/include/affedit.hpp"
 fi
 cc -std=c99 -Wall -Wextra -Wpedantic -Werror -fsyntax-only -x c "$top/include/affedit.h"
 
