@@ -35,7 +35,7 @@ copy_checkout() {
     mkdir -p "$copy/dist"
     cp "$program" "$copy/dist/affedit"
     cp "$("$top/tools/library")" "$copy/dist/libaffedit.a"
-    (cd "$top" && cp -r --parents affedit VERSION CHANGELOG.md crates.txt crates/*/{src,specs,proofs} bindings docs editors examples include tools "$copy")
+    (cd "$top" && cp -r --parents affedit VERSION CHANGELOG.md NOTICE crates.txt crates/*/{src,specs,proofs} bindings docs editors examples include tools "$copy")
     { echo 'kit of a test'; echo "sources $(digest_of_sources)"; } > "$copy/dist/MADE"
     (cd "$copy/dist" && sha256sum affedit libaffedit.a | sed 's/\(.*\)  \(.*\)/\2 \1/' >> MADE)
 }
@@ -43,10 +43,19 @@ copy_checkout() {
 install_it() { "${bare[@]}" "$copy/tools/install" "$@"; }
 uninstall_it() { "${bare[@]}" "$copy/tools/uninstall" "$@"; }
 
+# wanted_files: what is to be installed here; the shared library needs a C compiler.
+wanted_files() {
+    if "${bare[@]}" bash -c 'command -v cc' > /dev/null; then
+        cat "$top/tests/install/files"
+    else
+        grep -v '^lib/libaffedit\.so' "$top/tests/install/files"
+    fi
+}
+
 # whole WHAT PREFIX: the files are those that are wanted, and the list of what is to be removed names them.
 whole() {
     files_below "$2" > "$work/found"
-    { cat "$top/tests/install/files"; echo lib/affedit/FILES; } | LC_ALL=C sort | same "$1: the files" "$work/found"
+    { wanted_files; echo lib/affedit/FILES; } | LC_ALL=C sort | same "$1: the files" "$work/found"
     grep -v '/$' "$2/lib/affedit/FILES" | same "$1: the list" "$work/found"
 }
 
@@ -137,6 +146,19 @@ chmod 555 "$copy"
 "${bare[@]}" "${somebody[@]}" "$copy/tools/install" "$work/open/prefix" > "$work/said"
 whole 'from a checkout that cannot be written' "$work/open/prefix"
 chmod 755 "$copy"
+
+# Without a C compiler all but the shared library is installed, and there is no package.
+expect 'without a C compiler' 0 "${bare[@]}" CC=no-such-compiler "$copy/tools/install" "$work/without" << SAID
+without libaffedit.so.1: tools/shared-library: there is no C compiler no-such-compiler
+installed: $work/without/bin/affedit
+SAID
+[ -z "$(files_below "$work/without" | grep '\.so')" ] || wrong 'without a C compiler a shared library is installed'
+if has 'the package' dpkg dpkg-deb; then
+    expect 'a package without a C compiler' 1 "${bare[@]}" CC=no-such-compiler "$copy/tools/package" "$work" << SAID
+without libaffedit.so.1: tools/shared-library: there is no C compiler no-such-compiler
+tools/package: libaffedit.so.1 belongs in a package
+SAID
+fi
 
 # The plugins in the checkout, as their README.md has it, and the provider for Enchant.
 printf "vim.opt.runtimepath:append('%s/editors/nvim')\nrequire('affedit').setup({})\n" "$copy" > init.lua

@@ -67,11 +67,7 @@ SAID
     expect "$what: the version" 0 affedit --version < <(echo "affedit $version"; grep -E '^(kit|sources) ' "$copy/dist/MADE")
     scripts "$1" "$sample"
     if has_compiler 'a C program by pkg-config'; then
-        export PKG_CONFIG_PATH=$2/lib/pkgconfig
-        eval "cc example.c $(pkg-config --cflags --libs affedit) -o example"
-        expect "$what: a program in C" 0 ./example "$sample.aff" "$sample.dic" city citys <<< $'city: generated\ncitys: not generated'
-        expect "$what: the version of the library" 0 pkg-config --modversion affedit <<< "$version"
-        unset PKG_CONFIG_PATH
+        links "$1" "$2" "$sample"
     fi
     if has 'the manual pages that are installed' mandoc mandoc; then
         for page in affedit affedit-check; do
@@ -81,6 +77,28 @@ SAID
         done
     fi
     editors "$1" "$2" "$sample"
+}
+
+# links WHAT PREFIX SAMPLE: a program in C links either library by pkg-config, which tells the version that the header has, and the examples are built.
+links() {
+    local -x PKG_CONFIG_PATH=$2/lib/pkgconfig
+    local sample=$3 examples=$2/lib/affedit/examples/c
+    # pkg-config writes words as a shell reads them.
+    local flags shared archive
+    eval "flags=($(pkg-config --cflags affedit)) shared=($(pkg-config --libs affedit)) archive=$(pkg-config --variable=archive affedit)"
+    cc example.c "${flags[@]}" "${shared[@]}" -o example
+    cc example.c "${flags[@]}" "$archive" -o alone
+    expect "$1: a program in C" 0 env "LD_LIBRARY_PATH=$2/lib" ./example "$sample.aff" "$sample.dic" city citys <<< $'city: generated\ncitys: not generated'
+    expect "$1: a program in C with the archive" 0 ./alone "$sample.aff" "$sample.dic" city citys <<< $'city: generated\ncitys: not generated'
+    [[ $(readelf -d example) == *'[libaffedit.so.1]'* && $(readelf -d alone) != *libaffedit* ]] || wrong "$1: the wrong library is linked"
+    expect "$1: the version of the library" 0 pkg-config --modversion affedit <<< "$version"
+    cc "${flags[@]}" "$top/tests/c/version.c" -o version
+    expect "$1: the version of the header" 0 ./version <<< "$version $version"
+    cc "${flags[@]}" "$examples/check_file.c" "$archive" -o example
+    expect "$1: an example in C" 1 ./example "$sample.aff" "$sample.dic" "$sample.txt" <<< '2:31: citys'
+    if has 'an example in Python' python3 python3; then
+        expect "$1: an example in Python" 1 python3 "$examples/check_file.py" "$2/lib/libaffedit.so.1" "$sample.aff" "$sample.dic" "$sample.txt" <<< '2:31: citys'
+    fi
 }
 
 # scripts WHAT SAMPLE: the scripts affedit-NAME, which PATH finds.

@@ -3,7 +3,7 @@
 
 try_package() {
     local package again root=$work/root options
-    has 'the package' dpkg dpkg-deb || return 0
+    has 'the package' dpkg dpkg-deb && has 'the package' gcc cc || return 0
     mkdir "$work/package" "$work/again" "$root" "$work/database" "$work/database"/{updates,info}
     package=$("${bare[@]}" SOURCE_DATE_EPOCH=1000000000 "$copy/tools/package" "$work/package")
     [ "$package" = "$work/package/affedit_${version}_$(dpkg --print-architecture).deb" ] || wrong "the name of the package: $package"
@@ -24,6 +24,8 @@ try_package() {
     packed | same 'the package: the files' <(files_below "$root/usr")
     (cd "$root" && dpkg-deb --control "$package" "$work/control" && md5sum --quiet -c "$work/control/md5sums") || wrong 'the package: its sums'
     zcat "$root/usr/share/doc/affedit/changelog.gz" | same 'the changelog of the package' "$copy/CHANGELOG.md"
+    head -n 1 "$root/usr/share/doc/affedit/copyright" | same 'the license in the package' <(echo 'No license is given for Affedit itself yet. It is made of parts of others:')
+    tail -n +3 "$root/usr/share/doc/affedit/copyright" | same 'the licenses of others in the package' "$copy/NOTICE"
     runs 'the package' "$root/usr"
     expect 'tools/uninstall, of what dpkg installed' 1 "${bare[@]}" "$copy/tools/uninstall" "$root/usr" << SAID
 tools/uninstall: there is no $root/usr/lib/affedit/FILES, which tools/install writes; nothing is removed
@@ -34,5 +36,8 @@ SAID
 
 # packed: the files of the package, from /usr.
 packed() {
-    sed 's|\.1$|.1.gz|; s|changelog$|changelog.gz|; s|zsh/site-functions|zsh/vendor-completions|' "$top/tests/install/files" | LC_ALL=C sort
+    {
+        echo share/doc/affedit/copyright
+        sed '/^share\/man/ s|$|.gz|; s|changelog$|changelog.gz|; s|zsh/site-functions|zsh/vendor-completions|' "$top/tests/install/files"
+    } | LC_ALL=C sort
 }
