@@ -148,11 +148,11 @@ whole 'from a checkout that cannot be written' "$work/open/prefix"
 chmod 755 "$copy"
 
 # Without a C compiler all but the shared library is installed, and there is no package.
-expect 'without a C compiler' 0 "${bare[@]}" CC=no-such-compiler "$copy/tools/install" "$work/without" << SAID
+expect 'without a C compiler' 0 "${bare[@]}" CC=no-such-compiler "$copy/tools/install" "$work/no compiler" << SAID
 without libaffedit.so.1: tools/shared-library: there is no C compiler no-such-compiler
-installed: $work/without/bin/affedit
+installed: $work/no compiler/bin/affedit
 SAID
-[ -z "$(files_below "$work/without" | grep '\.so')" ] || wrong 'without a C compiler a shared library is installed'
+! files_below "$work/no compiler" | grep -q '\.so' || wrong 'without a C compiler a shared library is installed'
 if has 'the package' dpkg dpkg-deb; then
     expect 'a package without a C compiler' 1 "${bare[@]}" CC=no-such-compiler "$copy/tools/package" "$work" << SAID
 without libaffedit.so.1: tools/shared-library: there is no C compiler no-such-compiler
