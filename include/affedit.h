@@ -3,9 +3,10 @@
  * words. What each function answers is proved, for any bytes, as long as its caller keeps to this
  * page:
  *
- *  - Every pointer is valid, aligned, not null and to initialized memory, also where a length is 0.
- *    A length counts what the pointer leads to, and is below 2^63. Where a parameter is `const`,
- *    the memory is read during the call alone, and no pointer to it is kept.
+ *  - Every pointer is valid, aligned, not null and to initialized memory, also where a length is 0:
+ *    a caller that has nothing to give gives the address of any variable of that type. A length
+ *    counts what the pointer leads to, and is below 2^63. Where a parameter is `const`, the memory
+ *    is read during the call alone, and no pointer to it is kept.
  *  - Memory that a function writes overlaps no other memory of that call, and no one else reads or
  *    writes it during the call. So two handles of one call are two variables.
  *  - A handle is a variable of the caller's that begins as AFFEDIT_CLOSED_HANDLE. From then on the
@@ -23,7 +24,25 @@
  * No function starts a thread, takes a lock, opens a file, prints, or ends the process. The library
  * keeps nothing but what handles have, and frees it as they are closed. A handle has its dictionary,
  * its personal words, and the last 4,096 words of 64 characters or less that were asked, each with
- * its answer.
+ * its answer. Beside the dictionary and personal words that takes 1.6 MB at most. A call takes less
+ * than 64 kB of stack. Both figures are measured (tests/c/limits.c), and not proved.
+ *
+ * Which words are known follows from the dictionary. Where it says nothing else:
+ *
+ *  - affedit_word takes its bytes as one word, and cuts nothing off. No bytes are known. So is a
+ *    number: groups of ASCII digits with one dot, comma or dash between neighbours, of any length.
+ *    Any other word of more than 100 characters, behind ICONV and IGNORE, is unknown.
+ *  - An entry `word` stands for `Word` and `WORD` too, and `Paris` for `PARIS`.
+ *  - A word may be broken at dashes: where `word` is known, `word-word`, `-word` and `word-` are.
+ *  - A dot at the end belongs to the word: `word.` is unknown, unless WORDCHARS has a dot. A space
+ *    is a character like others: `ice cream` is known by an entry with the space.
+ *  - Nothing is normalized: a composed letter is not the letter with its combining accent, and
+ *    U+2019 is not the apostrophe. ICONV may say that they are.
+ *  - affedit_marks cuts a text into words: runs of letters, combining marks and characters of
+ *    WORDCHARS, with an apostrophe or U+2019 directly between two of these. A run without a letter
+ *    or an ASCII digit is no word. So digits, dashes and dots are in no word unless WORDCHARS has
+ *    them: `2nd` has the word `nd`. A soft hyphen cuts a word, and a line feed always does.
+ *  - Between two marks stands a byte at least. A text of N bytes has at most N / 2 + 1 marks.
  */
 #ifndef AFFEDIT_H
 #define AFFEDIT_H

@@ -1,7 +1,8 @@
 #!/usr/bin/env bash
 # Whether a program in C is answered as it has to be by the library for C that tests/program finds: 102,000 words of three made languages, of which is known
 # which are generated; the marks of the same words, with a personal list, beside those of `check`; each cause of a fault; bytes of all kinds as words,
-# texts and files; handles; 8 threads with a handle each; and each allocation refused in turn. The program is built with the sanitizers of addresses and
+# texts and files; handles; 8 threads with a handle each; and each allocation refused in turn. Then what affedit.h says of words, texts, memory and the
+# stack (tests/c/meaning.c, tests/c/limits.c). The program is built with the sanitizers of addresses and
 # of undefined behaviour, and run once more by valgrind, if they are installed. Prints what differs, and what was skipped; the status is 0 if nothing
 # differs.
 set -euo pipefail
@@ -68,6 +69,12 @@ for name in affixes compounds alphabet; do
     head -n 40 $name.words > few.words
     runs "$name: memory" ./calls memory $name.aff few.dic $name.own few.words
 done
+
+cc -std=c11 -g -Wall -Wextra -Wpedantic -Werror -I"$top/include" "$top/tests/c/meaning.c" "$library" -o meaning
+runs 'what words and texts mean' ./meaning
+cc -std=c11 -D_GNU_SOURCE -O1 -g -Wall -Wextra -Werror -I"$top/include" "$top/tests/c/limits.c" "$library" \
+    -Wl,--wrap=malloc -Wl,--wrap=realloc -Wl,--wrap=free -pthread -o limits
+runs 'memory and the stack' ./limits
 
 # Each cause of a fault, and where it is: the lines of the .aff file, of the .dic file and of a personal list, with bars between lines.
 fault() {
