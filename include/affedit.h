@@ -31,7 +31,7 @@
  *
  *  - affedit_word takes its bytes as one word, and cuts nothing off. No bytes are known. So is a
  *    number: groups of ASCII digits with one dot, comma or dash between neighbours, of any length.
- *    Any other word of more than 100 characters, behind ICONV and IGNORE, is unknown.
+ *    Any other word of more than 100 characters, after ICONV and IGNORE, is unknown.
  *  - An entry `word` stands for `Word` and `WORD` too, and `Paris` for `PARIS`.
  *  - A word may be broken at dashes: where `word` is known, `word-word`, `-word` and `word-` are.
  *  - A dot at the end belongs to the word: `word.` is unknown, unless WORDCHARS has a dot. A space

@@ -2,7 +2,7 @@
  * Affedit for C++17: a dictionary that closes itself, and exceptions in place of answers. affedit.h says what each function does, and what its callers
  * keep to: one call at a time has a dictionary, and threads that ask at once have one each, by share(). Nothing of this page is proved.
  *
- * Where memory is wanting, std::bad_alloc is thrown. What a call throws leaves the dictionary as it was.
+ * A call that is out of memory throws std::bad_alloc. A call that throws leaves the dictionary as it was.
  */
 #ifndef AFFEDIT_HPP
 #define AFFEDIT_HPP
@@ -19,7 +19,7 @@
 
 namespace affedit {
 
-/* A call that is refused, with the answer of the function of affedit.h. */
+/* A call that failed, with the answer of the function of affedit.h. */
 class error : public std::runtime_error {
 public:
     error(std::uint32_t answer, const std::string &why) : std::runtime_error(why), answer_(answer) {}
@@ -29,7 +29,7 @@ private:
     std::uint32_t answer_;
 };
 
-/* Files that are refused, with the first fault. */
+/* Files with a fault: the first one. */
 class fault_error : public error {
 public:
     explicit fault_error(affedit_fault fault)
@@ -104,10 +104,10 @@ private:
 
     dictionary() = default;
 
-    /* Where an empty text is, which may be nowhere: a pointer is never null. */
+    /* The bytes of a text. An empty one may be at null, which no pointer of a call may be. */
     static const std::uint8_t *bytes(std::string_view text) { return reinterpret_cast<const std::uint8_t *>(text.empty() ? "" : text.data()); }
 
-    /* Throws what an answer other than AFFEDIT_DONE is told by. */
+    /* Throws unless the answer is AFFEDIT_DONE. */
     static void need(std::uint32_t answer, affedit_fault fault = {}) {
         switch (answer) {
         case AFFEDIT_DONE: return;

@@ -96,6 +96,10 @@ links() {
     expect "$1: the version of the header" 0 ./version <<< "$version $version"
     cc "${flags[@]}" "$examples/check_file.c" "$archive" -o example
     expect "$1: an example in C" 1 ./example "$sample.aff" "$sample.dic" "$sample.txt" <<< '2:31: citys'
+    if has 'an example in C++' g++ c++; then
+        c++ "${flags[@]}" "$examples/check_file.cpp" "$archive" -o example
+        expect "$1: an example in C++" 1 ./example "$sample.aff" "$sample.dic" "$sample.txt" <<< '2:31: citys'
+    fi
     if has 'an example in Python' python3 python3; then
         expect "$1: an example in Python" 1 python3 "$examples/check_file.py" "$2/lib/libaffedit.so.1" "$sample.aff" "$sample.dic" "$sample.txt" <<< '2:31: citys'
     fi
