@@ -405,8 +405,47 @@ local function try_jumps()
     table.sort(listed)
     table.sort(ordered)
     expect('the diagnostics are the marks', vim.deep_equal(ordered, listed))
+    expect('nothing is told of diagnostics that are all marks', #told == 0, table.concat(told, '\n'))
     vim.cmd('Affedit nodiagnostics')
     expect('the diagnostics are gone', #vim.diagnostic.get(0) == 0)
+end
+
+-- How many rows a row is away from the window.
+local function rows_away(row)
+    return math.max(vim.fn.line('w0') - 1 - row, row + 1 - vim.fn.line('w$'), 0)
+end
+
+-- Of very many marks the diagnostics are the nearest to the window, wherever that is. The marks are denser behind line 1000.
+local function try_many_diagnostics()
+    local lines = {}
+    for at = 1, 4000 do
+        lines[at] = ('citys '):rep(at < 1000 and at % 2 or at % 5)
+    end
+    open(lines)
+    for _, line in ipairs({ 1, 1000, 2500, 4000 }) do
+        local what = 'diagnostics around line ' .. line
+        api.nvim_win_set_cursor(0, { line, 0 })
+        vim.cmd('redraw')
+        told = {}
+        vim.cmd('Affedit diagnostics')
+        expect(what, wait(function() return #vim.diagnostic.get(0) > 0 end))
+        local listed, farthest, left, nearest = {}, 0, 0, math.huge
+        for _, found in ipairs(vim.diagnostic.get(0)) do
+            listed[('%d %d %d'):format(found.lnum, found.col, found.end_col)] = true
+            farthest = math.max(farthest, rows_away(found.lnum))
+        end
+        for _, mark in ipairs(marks.list(0)) do
+            if not listed[table.concat(mark, ' ')] then
+                left = left + 1
+                nearest = math.min(nearest, rows_away(mark[1]))
+            end
+        end
+        expect(what .. ' are 5,000 marks', #vim.diagnostic.get(0) == 5000 and left == 1500, left .. ' are left')
+        expect(what .. ' are the nearest', farthest <= nearest, farthest .. ' rows and ' .. nearest)
+        expect(what .. ' are told', #told == 1 and told[1]:find('5,000 of 6,500 marks', 1, true), table.concat(told, '\n'))
+        vim.cmd('Affedit nodiagnostics')
+    end
+    told = {}
 end
 
 local function try_dictionaries()
@@ -646,7 +685,8 @@ local function try_edits()
 end
 
 local tests = {
-    try_edits, try_bytes, try_long_lines, try_states, try_jumps, try_dictionaries, try_words, try_ends, try_large, try_help,
+    try_edits, try_bytes, try_long_lines, try_states, try_jumps, try_many_diagnostics, try_dictionaries, try_words, try_ends,
+    try_large, try_help,
 }
 
 local function run()
