@@ -76,7 +76,7 @@ end
 local pair = { aff = top .. '/examples/sample.aff', dic = top .. '/examples/sample.dic' }
 local own = work .. '/data/affedit/words'
 
--- The marks that `check` prints of lines, as `line start stop`. A line that it refuses has none.
+-- The marks that `check` prints of lines, as `line start stop`, without the dots at a word's end. A line that it refuses has none.
 local checked
 checked = function(lines)
     write(work .. '/text', table.concat(lines, '\n') .. '\n')
@@ -91,9 +91,9 @@ checked = function(lines)
     assert(status == 0 or status == 1, 'check ended with ' .. status .. ': ' .. table.concat(printed, ' '))
     local found = {}
     for _, line in ipairs(printed) do
-        local mark = line:match('^(%d+ %d+ %d+) ')
-        if mark then
-            found[#found + 1] = mark
+        local start, stop, word = line:match('^(%d+ %d+) (%d+) (.+)$')
+        if start then
+            found[#found + 1] = start .. ' ' .. stop - #word:match('%.*$')
         end
     end
     assert(printed[#printed]:match('^' .. #found .. ' of '), 'check printed ' .. printed[#printed])
@@ -448,6 +448,13 @@ local function try_many_diagnostics()
     told = {}
 end
 
+-- Exchanges the dictionary, and waits until that is done.
+local function use(stem)
+    vim.cmd('Affedit dictionary ' .. stem)
+    wait(function() return service.options.pair.stem == stem end)
+    pair = { aff = stem .. '.aff', dic = stem .. '.dic' }
+end
+
 local function try_dictionaries()
     write(work .. '/other.aff', 'SET UTF-8\n')
     write(work .. '/other.dic', '2\ncitys\nwrold\n')
@@ -465,16 +472,11 @@ local function try_dictionaries()
     wait(function() return #told > 0 end)
     compare('a dictionary that is refused')
     expect_told('it is told', 'bad is not read: aff 1 OtherEncoding; sample stays')
-    vim.cmd('Affedit dictionary ' .. work .. '/other')
-    wait(function() return service.options.pair.name == 'other' end)
-    pair = { aff = work .. '/other.aff', dic = work .. '/other.dic' }
+    use(work .. '/other')
     compare('another dictionary')
-    vim.cmd('Affedit dictionary ' .. work .. '/a folder/third')
-    pair = { aff = work .. '/a folder/third.aff', dic = work .. '/a folder/third.dic' }
+    use(work .. '/a folder/third')
     compare('a dictionary with a space in its path')
-    vim.cmd('Affedit dictionary ' .. top .. '/examples/sample')
-    wait(function() return service.options.pair.name == 'sample' end)
-    pair = { aff = top .. '/examples/sample.aff', dic = top .. '/examples/sample.dic' }
+    use(top .. '/examples/sample')
     compare('the first dictionary again')
     expect('nothing more was told', #told == 0, table.concat(told, '\n'))
 end
@@ -635,6 +637,48 @@ local function try_words()
     told = {}
 end
 
+-- A chosen suggestion leaves the dot behind the mark, and doubles none.
+local function suggest_with_dots()
+    local suggest, select = require('affedit.suggest'), vim.ui.select
+    local of, choice = suggest.of, nil
+    suggest.of = function() return { choice } end
+    vim.ui.select = function(list, _, done) done(list[1]) end
+    for _, case in ipairs({ { 'fxo.', 'fox', 'fox.' }, { 'ect.', 'etc.', 'etc.' }, { 'ect', 'etc.', 'etc.' } }) do
+        choice = case[2]
+        open({ case[1] })
+        settle('before a suggestion')
+        vim.cmd('Affedit suggest')
+        local line = api.nvim_get_current_line()
+        expect(('`%s` becomes `%s`'):format(case[1], case[3]), line == case[3], line)
+    end
+    suggest.of, vim.ui.select = of, select
+end
+
+-- With a dot in WORDCHARS a mark is the word without the dots at its end, and so is what is added.
+local function try_dots()
+    write(work .. '/dots.aff', 'SET UTF-8\nWORDCHARS .\n')
+    write(work .. '/dots.dic', '1\nthe\n')
+    use(work .. '/dots')
+    open({ 'the Hudn. the. Hudn... z.B. z.B', '... Hudn' })
+    local function expect_marks(what, wanted)
+        local found = compare(what)
+        expect(what, vim.deep_equal(found, wanted), vim.inspect(found))
+    end
+    expect_marks('words with dots', { '1 4 8', '1 15 19', '1 23 26', '1 28 31', '2 4 8' })
+    -- At the dot behind the word.
+    api.nvim_win_set_cursor(0, { 1, 8 })
+    vim.cmd('Affedit add')
+    expect_marks('a word is known with dots and without', { '1 23 26', '1 28 31' })
+    vim.cmd('Affedit add z.B.')
+    expect_marks('an abbreviation is known with its dot', { '1 28 31' })
+    expect('the file has the words', read(own) == 'Hudn\nz.B.\n', read(own))
+    suggest_with_dots()
+    write(own, '')
+    use(top .. '/examples/sample')
+    affedit.run('restart')
+    expect('nothing is told of dots', #told == 0, table.concat(told, '\n'))
+end
+
 -- The screen is marked before the rest of a large buffer is looked at.
 local function try_large()
     local lines = {}
@@ -685,7 +729,7 @@ local function try_edits()
 end
 
 local tests = {
-    try_edits, try_bytes, try_long_lines, try_states, try_jumps, try_many_diagnostics, try_dictionaries, try_words, try_ends,
+    try_edits, try_bytes, try_long_lines, try_states, try_jumps, try_many_diagnostics, try_dictionaries, try_words, try_dots, try_ends,
     try_large, try_help,
 }
 

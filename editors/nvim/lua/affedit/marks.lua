@@ -459,9 +459,12 @@ function M.count(buf)
     return count
 end
 
--- The mark at a byte of a line, as `{ start, stop }`.
+-- The mark at a byte of a line, as `{ start, stop }`. At a dot behind a mark it is that mark.
 function M.at(buf, row, column)
     local text = api.nvim_buf_get_lines(buf, row, row + 1, false)[1] or ''
+    while text:sub(column + 1, column + 1) == '.' do
+        column = column - 1
+    end
     local answer = memo.get(text)
     for at = 1, type(answer) == 'table' and #answer or 0, 2 do
         if answer[at] <= column and column < answer[at + 1] then

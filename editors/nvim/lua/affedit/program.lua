@@ -199,7 +199,17 @@ local function inserted(request, line)
     end
 end
 
+-- How many dots a line ends with.
+local function dots_at_end(line)
+    local at = #line
+    while line:sub(at, at) == '.' do
+        at = at - 1
+    end
+    return #line - at
+end
+
 -- One mark `P S E WORD`. Each line was inserted before those that stood, so paragraph P is the P-th of them from the last.
+-- The dots at the end of WORD are left out of the mark: a word with them is known if it is known without them. It is never all dots.
 local function marked(request, line)
     local paragraph, start, stop = line:match('^(%d+) (%d+) (%d+) ')
     local at = paragraph and request.stands[#request.stands + 1 - tonumber(paragraph)]
@@ -208,7 +218,7 @@ local function marked(request, line)
     end
     local answer, offset = request.answers[request.owners[at]], request.offsets[at]
     if type(answer) == 'table' then
-        answer[#answer + 1], answer[#answer + 2] = start + offset, stop + offset
+        answer[#answer + 1], answer[#answer + 2] = start + offset, stop + offset - dots_at_end(line)
     end
 end
 

@@ -18,7 +18,8 @@ function M.of(word)
     return nil, 'hunspell suggests nothing for ' .. word
 end
 
--- Offers suggestions for the mark at the cursor, and puts the chosen one in its place.
+-- Offers suggestions for the mark at the cursor, and puts the chosen one in its place. A suggestion with a dot at its end takes the
+-- place of a dot behind the mark too.
 function M.choose()
     local buf, cursor = vim.api.nvim_get_current_buf(), vim.api.nvim_win_get_cursor(0)
     local row = cursor[1] - 1
@@ -27,15 +28,18 @@ function M.choose()
         service.tell('there is no mark at the cursor')
         return
     end
+    local start, stop = unpack(mark)
     local text = vim.api.nvim_buf_get_lines(buf, row, row + 1, false)[1]
-    local list, reason = M.of(text:sub(mark[1] + 1, mark[2]))
+    local word = text:sub(start + 1, stop)
+    local list, reason = M.of(word)
     if not list then
         service.tell(reason)
         return
     end
-    vim.ui.select(list, { prompt = 'Instead of ' .. text:sub(mark[1] + 1, mark[2]) .. ':' }, function(choice)
+    vim.ui.select(list, { prompt = 'Instead of ' .. word .. ':' }, function(choice)
         if choice and vim.api.nvim_buf_get_lines(buf, row, row + 1, false)[1] == text then
-            vim.api.nvim_buf_set_text(buf, row, mark[1], row, mark[2], { choice })
+            local has_both = vim.endswith(choice, '.') and text:sub(stop + 1, stop + 1) == '.'
+            vim.api.nvim_buf_set_text(buf, row, start, row, stop + (has_both and 1 or 0), { choice })
         end
     end)
 end
