@@ -3,11 +3,13 @@
 import os
 import signal
 import subprocess
+import sys
 import time
 
-from command_runs import COMMAND, SAMPLE, write
+from command_runs import COMMAND, SAMPLE, TOP, write
 
 SAY = ['-d', SAMPLE]
+TOOLS = os.path.join(TOP, 'tools')
 
 
 def test_words(tester):
@@ -112,7 +114,7 @@ def test_output(tester):
 
 
 def test_program(tester):
-    """Programs that are missing or end in another way, and signals."""
+    """Programs that are missing or end in another way."""
     folder = tester.folder()
     write(folder, 'a', 'teh\n')
 
@@ -127,21 +129,73 @@ def test_program(tester):
     ended('a signal', 8, 'kill -9 $$')
     ended('a program that prints nothing', 8, 'exit 1')
     tester.ends('a program that is not there', (125, ''), [*SAY, 'a'], folder=folder, env=tester.environment(AFFEDIT=folder + '/none'))
-    write(folder, 'program', '#!/bin/sh\n: > started\nexec sleep 60\n')
-    for number in (signal.SIGTERM, signal.SIGINT):
-        started = os.path.join(folder, 'started')
-        if os.path.exists(started):
-            os.unlink(started)
-        with subprocess.Popen([COMMAND, *SAY, 'a'], cwd=folder, env=tester.environment(AFFEDIT=os.path.join(folder, 'program')),
-                              stdin=subprocess.DEVNULL, stdout=subprocess.DEVNULL, stderr=subprocess.PIPE) as process:
-            end = time.monotonic() + 30
-            while not os.path.exists(started) and time.monotonic() < end:
-                time.sleep(0.05)
-            process.send_signal(number)
-            _, errors = process.communicate(timeout=30)
-        tester.same(f'signal {number}', (b'', True), (errors, process.returncode in (-number, 128 + number)))
+
+
+# The command, in which Popen is slow: it returns when the signal is sent.
+SLOW = f"""\
+import os
+import subprocess
+import sys
+import time
+
+sys.dont_write_bytecode = True
+sys.path.insert(0, {TOOLS!r})
+
+
+class SlowPopen(subprocess.Popen):
+    def __init__(self, *words, **more):
+        super().__init__(*words, **more)
+        end = time.monotonic() + 30
+        while not os.path.exists('sent') and time.monotonic() < end:
+            time.sleep(0.02)
+
+
+subprocess.Popen = SlowPopen
+from check_command.command import main
+main()
+"""
+
+
+def await_text(path):
+    """The text of a file, when it has some."""
+    end = time.monotonic() + 30
+    while time.monotonic() < end:
+        if os.path.exists(path) and os.path.getsize(path):
+            with open(path, encoding='utf-8') as file:
+                return file.read()
+        time.sleep(0.05)
+    raise AssertionError(f'{path} is not written')
+
+
+def is_left(process):
+    """Whether a process still runs. If so, it is ended."""
+    try:
+        os.kill(process, signal.SIGKILL)
+    except ProcessLookupError:
+        return False
+    return True
+
+
+def test_signals(tester):
+    """Signals that come while the program runs, and while it is started: no process is left, and standard error is closed."""
+    for what, command in (('runs', [COMMAND]), ('is started', [sys.executable, '-c', SLOW])):
+        for number in (signal.SIGTERM, signal.SIGINT):
+            folder = tester.folder()
+            write(folder, 'a', 'teh\n')
+            write(folder, 'program', '#!/bin/sh\necho $$ > started\nexec sleep 60\n')
+            os.chmod(os.path.join(folder, 'program'), 0o755)
+            with subprocess.Popen([*command, *SAY, 'a'], cwd=folder, env=tester.environment(AFFEDIT=os.path.join(folder, 'program')),
+                                  stdin=subprocess.DEVNULL, stdout=subprocess.DEVNULL, stderr=subprocess.PIPE) as process:
+                child = int(await_text(os.path.join(folder, 'started')))
+                process.send_signal(number)
+                write(folder, 'sent', '')
+                status = process.wait(timeout=30)
+                left = is_left(child)
+                errors = process.stderr.read()
+            tester.same(f'signal {number} while the program {what}: its status', True, status in (-number, 128 + number))
+            tester.same(f'signal {number} while the program {what}: a process left and errors', (False, b''), (left, errors))
 
 
 def test(tester):
-    for part in (test_words, test_files, test_unreadable, test_lines, test_output, test_program):
+    for part in (test_words, test_files, test_unreadable, test_lines, test_output, test_program, test_signals):
         part(tester)

@@ -15,6 +15,7 @@ from .files import Files
 from .preparing import Cache
 from .printing import CountPrinter, GithubPrinter, JsonPrinter, Printer, WordPrinter
 from .program import Program, path_of_program
+from .signals import ENDING
 from .speller import Dictionary, Speller
 from .terminal import FileProgress, TerminalPrinter
 
@@ -164,9 +165,7 @@ def run(words):
 
 def main():
     """Runs the command of this process."""
-    signal.signal(signal.SIGTERM, lambda number, _: sys.exit(128 + number))
-    if signal.getsignal(signal.SIGINT) is not signal.SIG_IGN:
-        signal.signal(signal.SIGINT, signal.default_int_handler)
+    ENDING.install()
     try:
         sys.exit(run(sys.argv[1:]))
     except KeyboardInterrupt:

@@ -5,6 +5,7 @@ import subprocess
 import threading
 
 from .faults import FILES, LIMIT, MEMORY, NO_PROGRAM, Fault
+from .signals import ENDING
 
 TOP = os.path.dirname(os.path.dirname(os.path.dirname(os.path.realpath(__file__))))
 # Threads take long to start beside what a short text takes.
@@ -71,21 +72,29 @@ class Program:
 
     def run(self, words, text):
         """The status and the output of the program. Its input is written while its output is read."""
+        process = feeder = None
         try:
-            process = subprocess.Popen(words, stdin=subprocess.PIPE, stdout=subprocess.PIPE, env=self.environment)
-        except OSError as error:
-            raise Fault(NO_PROGRAM, f'{self.path} cannot be run: {error.strerror}') from None
-        feeder = threading.Thread(target=feed, args=(process.stdin, text), daemon=True)
-        try:
-            feeder.start()
+            # A signal in the midst of Popen would leave the program running, known to nobody.
+            with ENDING.held():
+                process = self.started(words)
+                feeder = feeder_of(process.stdin, text)
             output = process.stdout.read()
             return process.wait(), output
         finally:
-            if process.poll() is None:
-                process.kill()
-                process.wait()
-            feeder.join()
-            process.stdout.close()
+            if process is not None:
+                if process.poll() is None:
+                    process.kill()
+                    process.wait()
+                if feeder is not None:
+                    feeder.join()
+                process.stdout.close()
+
+    def started(self, words):
+        """The program as a process that has just begun."""
+        try:
+            return subprocess.Popen(words, stdin=subprocess.PIPE, stdout=subprocess.PIPE, env=self.environment)
+        except OSError as error:
+            raise Fault(NO_PROGRAM, f'{self.path} cannot be run: {error.strerror}') from None
 
     @staticmethod
     def failure(status, said):
@@ -98,6 +107,13 @@ class Program:
             return Fault(NO_PROGRAM, 'there is no program to run')
         ended = f'signal {-status}' if status < 0 else f'status {status}'
         return Fault(status if 1 < status < 125 else LIMIT, f'the program ended with {ended}: {said}')
+
+
+def feeder_of(stream, text):
+    """A thread that writes a text."""
+    feeder = threading.Thread(target=feed, args=(stream, text), daemon=True)
+    feeder.start()
+    return feeder
 
 
 def feed(stream, text):
