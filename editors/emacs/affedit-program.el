@@ -145,12 +145,19 @@ Nil where it cannot be cut."
       (aset (affedit--request-answers request) (aref (affedit--request-owners request) at)
             (if (looking-at "no \\([A-Za-z]+\\)") (match-string 1) "refused")))))
 
+(defun affedit--dots ()
+  "How many dots are at the end of the line at point."
+  (save-excursion
+    (end-of-line)
+    (- (skip-chars-backward "."))))
+
 (defun affedit--marked (request)
   "The line at point is a mark P S E WORD of REQUEST.
-Each line was inserted before those that stood, so P is the P-th of them from the last."
+Each line was inserted before those that stood, so P is the P-th of them from the last.
+A WORD with dots at its end would be accepted if it were without them, so they are left to the sentence: the mark ends before them."
   (let* ((paragraph (read (current-buffer)))
          (start (read (current-buffer)))
-         (stop (read (current-buffer)))
+         (stop (- (read (current-buffer)) (affedit--dots)))
          (stands (affedit--request-stands request)))
     (unless (vectorp stands)
       (setq stands (setf (affedit--request-stands request) (vconcat stands))))

@@ -71,7 +71,7 @@
     (buffer-string)))
 
 (defun checked (lines)
-  "The marks that `check' prints of LINES, each (LINE START STOP)."
+  "The marks that `check' prints of LINES, each (LINE START STOP), without the dots at their ends."
   (write (concat work "/text") (concat (string-join lines "\n") "\n"))
   (with-temp-buffer
     (let ((status (call-process affedit-program nil t nil "check" (concat pair ".aff") (concat pair ".dic")
@@ -80,8 +80,9 @@
       (unless (memq status '(0 1))
         (error "Check ended with %s: %s" status (buffer-string)))
       (goto-char (point-min))
-      (while (looking-at "\\([0-9]+\\) \\([0-9]+\\) \\([0-9]+\\) ")
+      (while (looking-at "\\([0-9]+\\) \\([0-9]+\\) \\([0-9]+\\) .*?\\(\\.*\\)$")
         (push (mapcar (lambda (group) (string-to-number (match-string group))) '(1 2 3)) marks)
+        (cl-decf (nth 2 (car marks)) (length (match-string 4)))
         (forward-line 1))
       (unless (looking-at (format "%d of [0-9]+$" (length marks)))
         (error "Check printed %s" (buffer-string)))
@@ -537,6 +538,36 @@ Return its number; the launcher, which has started it, goes on."
   (compare "the list is emptied")
   (setq told nil))
 
+(defun add-here (word)
+  "Add the word at WORD to the personal list, as the command proposes it."
+  (goto-char (point-min))
+  (search-forward word)
+  (goto-char (match-beginning 0))
+  (cl-letf (((symbol-function 'read-string) (lambda (_prompt _initial _history proposed) proposed)))
+    (call-interactively #'affedit-add)))
+
+(defun try-dots ()
+  (write (concat work "/dots.aff") "SET UTF-8\nWORDCHARS .\n")
+  (write (concat work "/dots.dic") "2\nder\nusw.\n")
+  (write own "")
+  (setq pair (concat work "/dots"))
+  (affedit-use-dictionary pair)
+  (wait (lambda () (equal affedit--pair pair)))
+  (open "der Hudn. Hudn usw. usw der.\nder Hudn... é.Xé. Hudn")
+  (expect "marks have no dots at their ends" (equal '((1 4 8) (1 10 14) (1 20 23) (2 4 8) (2 12 18) (2 20 24))
+                                                    (compare "dots at ends of words")))
+  (add-here "Hudn.")
+  (expect "a word is known with dots and without" (equal '((1 20 23) (2 12 18)) (compare "a word before a dot is added")))
+  (add-here "é.Xé.")
+  (expect "so is one with a dot inside" (equal '((1 20 23)) (compare "a word with a dot inside is added")))
+  (expect "the words in the file have no dots at their ends" (equal "Hudn\né.Xé\n" (read-file own)) (read-file own))
+  (write own "")
+  (setq pair (concat top "/examples/sample"))
+  (affedit-use-dictionary pair)
+  (wait (lambda () (equal affedit--pair pair)))
+  (affedit-restart)
+  (compare "the sample's dictionary again"))
+
 (defun try-large ()
   (open "")
   (affedit-mode -1)
@@ -572,7 +603,7 @@ Return its number; the launcher, which has started it, goes on."
   (make-directory (concat work "/data/affedit") t)
   (write own "")
   (let ((only (getenv "ONLY"))
-        (tests '(try-bytes try-long-lines try-states try-jumps try-dictionaries try-words try-ends try-large try-help)))
+        (tests '(try-bytes try-long-lines try-states try-jumps try-dictionaries try-words try-dots try-ends try-large try-help)))
     (if only
         (funcall (intern only))
       (edit-at-random 5)
