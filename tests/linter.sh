@@ -15,14 +15,14 @@ work=$(mktemp -d)
 trap 'rm -rf "$work"' EXIT
 failed=0
 
-# linted WHAT [OWN]: what the linter tells of a.aff and a.dic stands on standard input, without its own folder. The status is 1.
+# linted WHAT [OWN]: what the linter tells of a.aff and a.dic stands on standard input, without its own folder. The status is 1, or WANTED.
 linted() {
     local what=$1 status=0
     shift
     (cd "$work/in" && "$top/tools/lint-dictionary" a.aff a.dic "$@") > "$work/out" || status=$?
     sed -i "s|$top/||" "$work/out"
     diff - "$work/out" || { echo "$what: the linter tells otherwise"; failed=1; }
-    [ "$status" = 1 ] || { echo "$what: the linter: status $status, wanted 1"; failed=1; }
+    [ "$status" = "${WANTED-1}" ] || { echo "$what: the linter: status $status, wanted ${WANTED-1}"; failed=1; }
 }
 # copied WHAT SAID AFF DIC [OWN]: the commands that the linter gave do what they promise: `check` of these files then says so.
 copied() {
@@ -140,4 +140,32 @@ own:10001: TooMany
     keep what is above it by:  LC_ALL=C sed -i 10000q own
 SAID
 copied 'many items' '0 of 0' a.aff a.dic own
+# What en_US.aff says of characters.
+made "WORDCHARS 0123456789’\nICONV 1\nICONV ’ '\n" '2\nfoo\nin\n'
+printf '%s\n' 'foo bar' $'\xef\xbb\xbfHudn.' 'baz ' '' '*in side' "rock'n'roll" "dogs'" rock’n 2nd $'tab\t' '*in\/out' '3.14/foo' naïve $'ⓐ \r' > "$work/in/own"
+WANTED=0 linted 'items that no text has' own << 'SAID'
+own:1: no text can match foo bar: a space is no word character
+own:2: no text can match ﻿Hudn.: U+FEFF is no word character
+own:5: no text can match *in side: a space is no word character
+own:7: no text can match dogs': an apostrophe is part of a word only between two word characters
+own:8: no text can match rock’n: ICONV replaces `’` in each text
+own:10: no text can match tab	: a tab is no word character
+own:11: no text can match *in\/out: `/` is no word character
+own:12: no text can match 3.14/foo: a dot is no word character
+a.aff, a.dic, own: read
+SAID
+made 'WORDCHARS .-\n' '1\nfoo\n'
+printf '%s\n' Hudn Hudn. '*Hudn.' "'tis" 'foo.bar' 'foo bar.' > "$work/in/own"
+WANTED=0 linted 'items with dots' own << 'SAID'
+own:6: no text can match foo bar.: a space is no word character
+a.aff, a.dic, own: read
+SAID
+made 'SFX A Y 1\nSFX A + s .\n' '1\nfoo/A\n'
+printf '%s\n' 'bar-/foo' 'bar+/foo' "dogs'/foo" "dogs'" > "$work/in/own"
+WANTED=0 linted 'items with models' own << 'SAID'
+own:1: no text can match bar-/foo: `-` is no word character
+own:4: no text can match dogs': an apostrophe is part of a word only between two word characters
+a.aff, a.dic, own: read
+SAID
+"$top/tests/linter_items.py" 40 || failed=1
 exit "$failed"

@@ -69,10 +69,10 @@ def read(path):
     return data
 
 
-def check(aff, dic, own=None):
-    """What the program says of a dictionary, a personal list and an empty text."""
-    words = [PROGRAM, 'check', aff, dic, '/dev/null', *(['--own', own] if own is not None else [])]
-    done = subprocess.run(words, stdin=subprocess.DEVNULL, stdout=subprocess.PIPE, env=QUIET, check=False)
+def check(aff, dic, own=None, text=b''):
+    """What the program says of a dictionary, a personal list and a text."""
+    words = [PROGRAM, 'check', aff, dic, '/dev/stdin', *(['--own', own] if own is not None else [])]
+    done = subprocess.run(words, input=text, stdout=subprocess.PIPE, env=QUIET, check=False)
     if done.returncode == 125:
         raise Refused('there is no program to check a dictionary')
     return done.stdout.decode(errors='replace').strip()
