@@ -142,7 +142,7 @@ SAID
 copied 'many items' '0 of 0' a.aff a.dic own
 # What en_US.aff says of characters.
 made "WORDCHARS 0123456789’\nICONV 1\nICONV ’ '\n" '2\nfoo\nin\n'
-printf '%s\n' 'foo bar' $'\xef\xbb\xbfHudn.' 'baz ' '' '*in side' "rock'n'roll" "dogs'" rock’n 2nd $'tab\t' '*in\/out' '3.14/foo' naïve $'ⓐ \r' > "$work/in/own"
+printf '%s\n' 'foo bar' $'\xef\xbb\xbfHudn.' 'baz ' '' '*in side' "rock'n'roll" "dogs'" "rock’n" 2nd $'tab\t' '*in\/out' '3.14/foo' naïve $'ⓐ \r' > "$work/in/own"
 WANTED=0 linted 'items that no text has' own << 'SAID'
 own:1: no text can match foo bar: a space is no word character
 own:2: no text can match ﻿Hudn.: U+FEFF is no word character
