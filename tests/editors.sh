@@ -33,6 +33,7 @@ fi
 
 # The two editors run at once.
 if has 'the plugin in Neovim' nvim; then
+    has 'the addresses of Neovim beside those of affedit-check' python3 || true
     mkdir "$work/nvim"
     # shellcheck disable=SC2016
     WORK=$work/nvim timeout --foreground -k 10 "$limit" nvim --headless --clean -i NONE -c 'exe "luafile" fnameescape($TOP . "/tests/editors/nvim.lua")' -c 'cquit 3' \

@@ -366,9 +366,7 @@ local function try_states()
 end
 
 -- Both commands go from mark to mark, in the order of the text, and around its end.
-local function try_jumps()
-    open(lines_of(300))
-    local wanted = compare('before the jumps')
+local function expect_jumps(wanted)
     for _, way in ipairs({ 'next', 'previous' }) do
         api.nvim_win_set_cursor(0, { 1, 0 })
         vim.cmd('Affedit previous')
@@ -393,6 +391,9 @@ local function try_jumps()
         end
         expect('all marks in turn, by ' .. way, vim.deep_equal(starts, visited), #starts .. ' and ' .. #visited)
     end
+end
+
+local function expect_diagnostics(wanted)
     vim.cmd('Affedit diagnostics')
     local there = wait(function()
         return #vim.diagnostic.get(0) == #wanted
@@ -408,6 +409,13 @@ local function try_jumps()
     expect('nothing is told of diagnostics that are all marks', #told == 0, table.concat(told, '\n'))
     vim.cmd('Affedit nodiagnostics')
     expect('the diagnostics are gone', #vim.diagnostic.get(0) == 0)
+end
+
+local function try_jumps()
+    open(lines_of(300))
+    local wanted = compare('before the jumps')
+    expect_jumps(wanted)
+    expect_diagnostics(wanted)
 end
 
 -- How many rows a row is away from the window.
@@ -679,6 +687,110 @@ local function try_dots()
     expect('nothing is told of dots', #told == 0, table.concat(told, '\n'))
 end
 
+-- Lines and their marks that are in prose, as `start stop`, by a dictionary that knows no word but `the`.
+local prose_of = {
+    { 'the xx https://xx.example/xx?xx=xx. xx', '4 6', '36 38' },
+    { '(https://xx.example/xx_(xx)) xx www.xx.example, xx', '29 31', '48 50' },
+    { 'xx.xx@xx.example, xx', '18 20' },
+    { '/xx/xx ./xx ../xx ~/.xx $XX/xx xx/xx.md:12:3 xx/ C:\\xx xx', '55 57' },
+    { 'xx/xx the/xx xx@ @xx', '0 2', '3 5', '10 12', '13 15', '18 20' },
+    { '--xx=xx/xx.xx `/xx/xx`,the', '2 4' },
+    { 'xx', '0 2' },
+    { '/xx/xx' },
+}
+
+-- Compares what is shown of the current buffer with marks that are fewer than those of `check`.
+local function expect_marks(what, wanted)
+    settle(what)
+    compared = compared + 1
+    expect(what, vim.deep_equal(wanted, shown(0)), vim.inspect(shown(0)))
+    local count = marks.count(0).marks
+    expect(what .. ', counted', count == #wanted, count)
+    look(what, api.nvim_get_current_win(), wanted)
+end
+
+-- By default there are no marks in addresses, wherever marks are shown; `all` takes them in, and `prose` is the way back.
+local function try_addresses()
+    write(work .. '/the.aff', 'SET UTF-8\n')
+    write(work .. '/the.dic', '1\nthe\n')
+    use(work .. '/the')
+    local lines, wanted = {}, {}
+    for line, case in ipairs(prose_of) do
+        lines[line] = case[1]
+        for at = 2, #case do
+            wanted[#wanted + 1] = line .. ' ' .. case[at]
+        end
+    end
+    open(lines)
+    expect_marks('marks in prose', wanted)
+    expect('no mark at an address', not marks.at(0, 0, 15) and marks.at(0, 0, 37) ~= nil)
+    expect_jumps(wanted)
+    expect_diagnostics(wanted)
+    vim.cmd('Affedit all')
+    expect('more is marked with `all`', #compare('all marks') > #wanted)
+    vim.cmd('Affedit prose')
+    expect_marks('marks in prose again', wanted)
+    service.options.scope = 'all'
+    expect_marks('a buffer with a scope of its own', wanted)
+    vim.cmd('Affedit off')
+    vim.cmd('Affedit on')
+    compare('all marks by the option')
+    -- From its sign on an address that is typed has no marks, and behind it there are some.
+    service.options.scope = 'prose'
+    open({ '' })
+    for _, case in ipairs({ { 'ixx', '1 0 2' }, { 'A/xx', '1 0 2', '1 3 5' }, { 'A.xx' }, { 'A xx', '1 9 11' } }) do
+        keys(case[1])
+        expect_marks('typed ' .. case[1], vim.list_slice(case, 2))
+    end
+    keys('0f/r ')
+    compare('an address that became prose')
+    use(top .. '/examples/sample')
+end
+
+-- What setup is told of the scope.
+local function try_scopes()
+    local kept = vim.deepcopy(service.options)
+    told = {}
+    for _, scope in ipairs({ 'all', 'prose' }) do
+        affedit.setup({ program = program, dictionary = pair.aff, scope = scope })
+        expect('the scope of setup is ' .. scope, service.options.scope == scope and #told == 0, service.options.scope)
+    end
+    affedit.setup({ program = program, dictionary = pair.aff, scope = 'some' })
+    expect('a scope that is none is told', told[1] and told[1]:find('no scope "some": it is prose or all', 1, true), told[1])
+    expect('and it is prose', service.options.scope == 'prose', service.options.scope)
+    told = {}
+    service.options = kept
+end
+
+-- What the plugin finds in random lines, beside the rule of `affedit-check`.
+local function compare_spans()
+    if vim.fn.executable('python3') == 0 then
+        return
+    end
+    local pieces = {
+        'https', '://', ':', '/', '//', '.', '..', '.py', '.a2', 'a', 'xx', '@', 'www.', '\\', '~', '$HOME', 'C:', '(', ')', '[', ']',
+        '{', '}', '|', ',', ';', '`', '"', "'", '*', '_', '=', '--', '<', '>', ' ', '\t', ':12', '?', '!', '%', 'é', '-', '+', '.abcdefghij',
+    }
+    local lines, found = {}, {}
+    for at = 1, 20000 do
+        local line = {}
+        for number = 1, random(14) do
+            line[number] = pieces[random(#pieces) + 1]
+        end
+        lines[at] = table.concat(line)
+        found[at] = table.concat(require('affedit.addresses').spans(lines[at]), ' ')
+    end
+    write(work .. '/spans', table.concat(lines, '\n') .. '\n')
+    local script = 'import sys; from check_command.prose import spans_of\n'
+        .. 'for line in open(sys.argv[1], "rb"): print(*(place for span in spans_of(line[:-1]) for place in span))'
+    local environment = { 'env', 'PYTHONPATH=' .. top .. '/tools', 'PYTHONDONTWRITEBYTECODE=1' }
+    local wanted = vim.fn.systemlist(vim.list_extend(environment, { 'python3', '-c', script, work .. '/spans' }))
+    expect('the rule of affedit-check was asked', vim.v.shell_error == 0 and #wanted == #lines, wanted[#wanted])
+    for at, line in ipairs(lines) do
+        expect('the spans of `' .. line .. '`', found[at] == wanted[at], found[at] .. '; wanted ' .. (wanted[at] or 'none'))
+    end
+end
+
 -- The screen is marked before the rest of a large buffer is looked at.
 local function try_large()
     local lines = {}
@@ -729,8 +841,8 @@ local function try_edits()
 end
 
 local tests = {
-    try_edits, try_bytes, try_long_lines, try_states, try_jumps, try_many_diagnostics, try_dictionaries, try_words, try_dots, try_ends,
-    try_large, try_help,
+    try_edits, try_bytes, try_long_lines, try_states, try_jumps, try_many_diagnostics, try_dictionaries, try_words, try_dots, try_addresses,
+    try_scopes, compare_spans, try_ends, try_large, try_help,
 }
 
 local function run()

@@ -21,7 +21,7 @@ end
 local is_set = false
 
 -- options: `program`, the path of the launcher; `dictionary`, a name; `own`, the file of the personal list; `filetypes`, a list of
--- those that are checked without a command.
+-- those that are checked without a command; `scope`, `prose` without marks in addresses, or `all`.
 function M.setup(options)
     options = options or {}
     local pair, missing = dictionaries.find(options.dictionary or 'en_US')
@@ -30,7 +30,12 @@ function M.setup(options)
         own = options.own or dictionaries.own_file(),
         pair = pair,
         missing = missing,
+        scope = options.scope or 'prose',
     }
+    if not vim.tbl_contains({ 'prose', 'all' }, service.options.scope) then
+        service.tell(('no scope %s: it is prose or all'):format(vim.inspect(service.options.scope)))
+        service.options.scope = 'prose'
+    end
     if not is_set then
         marks.setup()
         is_set = true
@@ -91,6 +96,12 @@ M.commands = {
         else
             marks.on(current())
         end
+    end,
+    all = function()
+        marks.set_scope(current(), 'all')
+    end,
+    prose = function()
+        marks.set_scope(current(), 'prose')
     end,
     next = function()
         marks.jump(true)

@@ -1,5 +1,6 @@
 -- The buffers that are checked: which of their lines wait, and how their marks are drawn. Rows count from 0 here, and the end of
 -- a range of rows is exclusive.
+local addresses = require('affedit.addresses')
 local memo = require('affedit.memo')
 local service = require('affedit.service')
 local api = vim.api
@@ -18,7 +19,7 @@ local batch_bytes, batch_lines, batch_rows = 16384, 400, 4000
 local most_listed = 5000
 
 -- Of each buffer: `dirty`, the rows changed in this tick; `todo`, the rows that are to be looked at in batches; `told`, whether the
--- user was told of a line that is not checked.
+-- user was told of a line that is not checked; `scope`, what a command chose in place of the option.
 local buffers = {}
 -- Texts that are asked about now, by text, and those that are to be asked next.
 local asked, wanted = {}, {}
@@ -67,6 +68,16 @@ local function redraw(buf, first, last)
     else
         vim.cmd('redraw!')
     end
+end
+
+-- The marks of an answer that are shown: without those in addresses, unless all are wanted.
+local function shown(buf, text, answer)
+    if type(answer) ~= 'table' then
+        return {}
+    end
+    local state = buffers[buf == 0 and api.nvim_get_current_buf() or buf]
+    local scope = state and state.scope or service.options.scope
+    return scope == 'all' and answer or addresses.without(text, answer)
 end
 
 -- Tells once of each buffer that it has a line that is not checked.
@@ -308,10 +319,11 @@ local function draw(buf, row)
             answer[#answer + 1], answer[#answer + 2] = mark[3], mark[4].end_col or mark[3]
         end
     end
-    for at = 1, type(answer) == 'table' and #answer or 0, 2 do
-        if answer[at] < answer[at + 1] and answer[at + 1] <= #text then
-            api.nvim_buf_set_extmark(buf, drawn, row, answer[at], {
-                end_col = answer[at + 1],
+    local found = shown(buf, text, answer)
+    for at = 1, #found, 2 do
+        if found[at] < found[at + 1] and found[at + 1] <= #text then
+            api.nvim_buf_set_extmark(buf, drawn, row, found[at], {
+                end_col = found[at + 1],
                 hl_group = 'AffeditMark',
                 ephemeral = true,
             })
@@ -386,14 +398,27 @@ function M.on(buf)
     M.scan()
 end
 
+local function redraw_visible(buf)
+    each_visible(function(visible, row, lines)
+        if visible == buf then
+            redraw(buf, row, row + #lines)
+        end
+    end)
+end
+
+-- Marks a buffer with the scope `prose` or `all`, until it is switched off.
+function M.set_scope(buf, scope)
+    M.on(buf)
+    if buffers[buf] then
+        buffers[buf].scope = scope
+        redraw_visible(buf)
+    end
+end
+
 -- The buffer's marks are gone; its changes are not heard any more at the next of them.
 function M.off(buf)
     if buffers[buf] then
-        each_visible(function(visible, row, lines)
-            if visible == buf then
-                redraw(buf, row, row + #lines)
-            end
-        end)
+        redraw_visible(buf)
         buffers[buf] = nil
         api.nvim_buf_clear_namespace(buf, pins, 0, -1)
         pinned = {}
@@ -431,12 +456,13 @@ local function each_line(buf, visit)
     end
 end
 
--- The marks that are known of a buffer, `{ row, start, stop }` each, in the order of the text.
+-- The marks that are shown of a buffer, as far as they are known, `{ row, start, stop }` each, in the order of the text.
 function M.list(buf)
     local marks = {}
-    each_line(buf, function(row, _, answer)
-        for at = 1, type(answer) == 'table' and #answer or 0, 2 do
-            marks[#marks + 1] = { row, answer[at], answer[at + 1] }
+    each_line(buf, function(row, text, answer)
+        local found = shown(buf, text, answer)
+        for at = 1, #found, 2 do
+            marks[#marks + 1] = { row, found[at], found[at + 1] }
         end
     end)
     return marks
@@ -445,7 +471,7 @@ end
 -- How many marks and lines a buffer has, how many lines wait, how many are not checked, and the first of these.
 function M.count(buf)
     local count = { marks = 0, lines = 0, waiting = 0, refused = 0 }
-    each_line(buf, function(row, _, answer)
+    each_line(buf, function(row, text, answer)
         count.lines = count.lines + 1
         if answer == nil then
             count.waiting = count.waiting + 1
@@ -453,7 +479,7 @@ function M.count(buf)
             count.refused = count.refused + 1
             count.first_refused = count.first_refused or { row = row, why = answer }
         else
-            count.marks = count.marks + #answer / 2
+            count.marks = count.marks + #shown(buf, text, answer) / 2
         end
     end)
     return count
@@ -465,22 +491,22 @@ function M.at(buf, row, column)
     while text:sub(column + 1, column + 1) == '.' do
         column = column - 1
     end
-    local answer = memo.get(text)
-    for at = 1, type(answer) == 'table' and #answer or 0, 2 do
-        if answer[at] <= column and column < answer[at + 1] then
-            return { answer[at], answer[at + 1] }
+    local found = shown(buf, text, memo.get(text))
+    for at = 1, #found, 2 do
+        if found[at] <= column and column < found[at + 1] then
+            return { found[at], found[at + 1] }
         end
     end
 end
 
 -- The first mark of a line that starts behind `column`, or the last one that starts before it.
-local function in_line(answer, column, forward)
+local function in_line(marks, column, forward)
     local found
-    for at = 1, type(answer) == 'table' and #answer or 0, 2 do
-        if forward and answer[at] > column then
-            return answer[at]
-        elseif not forward and answer[at] < column then
-            found = answer[at]
+    for at = 1, #marks, 2 do
+        if forward and marks[at] > column then
+            return marks[at]
+        elseif not forward and marks[at] < column then
+            found = marks[at]
         end
     end
     return found
@@ -516,7 +542,7 @@ function M.jump(forward)
                 end)
                 return
             end
-            local found = in_line(answer, column, forward)
+            local found = in_line(shown(buf, texts[1], answer), column, forward)
             if found then
                 vim.cmd("normal! m'")
                 api.nvim_win_set_cursor(win, { row + 1, found })
