@@ -3,16 +3,9 @@
 # Python 3, and is skipped without. Prints what differs; the status is 0 where nothing does.
 set -euo pipefail
 top=$(cd "$(dirname "$0")/.." && pwd)
-# shellcheck source=tests/skips.bash
-. "$top/tests/skips.bash"
 # shellcheck source=tests/dictionary_files.bash
 . "$top/tests/dictionary_files.bash"
-needs python3
-# Nothing is built here.
-export AFFEDIT_NO_BUILD=1
-"$top/tests/program" > /dev/null
-work=$(mktemp -d)
-trap 'chmod -R u+w "$work"; rm -rf "$work"' EXIT
+begin
 failed=0
 
 # prepare WHAT STATUS WORDS..: the tool ends so, in the folder `in`. It prints what stands on standard input. Behind it stand the two files

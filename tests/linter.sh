@@ -3,16 +3,9 @@
 # Prints what differs; the status is 0 if nothing does.
 set -euo pipefail
 top=$(cd "$(dirname "$0")/.." && pwd)
-# shellcheck source=tests/skips.bash
-. "$top/tests/skips.bash"
 # shellcheck source=tests/dictionary_files.bash
 . "$top/tests/dictionary_files.bash"
-needs python3
-# Nothing is built here.
-export AFFEDIT_NO_BUILD=1
-"$top/tests/program" > /dev/null
-work=$(mktemp -d)
-trap 'rm -rf "$work"' EXIT
+begin
 failed=0
 
 # linted WHAT [OWN]: what the linter tells of a.aff and a.dic stands on standard input, without its own folder. The status is 1, or WANTED.
