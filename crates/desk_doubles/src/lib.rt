@@ -27,13 +27,13 @@ pub fn opening_of(alloc: Global, texts: &[&str]) -> Option<Board<Numbers>>
     Board::opening(alloc, judge, paragraphs).ok()
 }
 
-/// A paragraph at the end.
+/// An edit that inserts a paragraph at the end; none where memory is wanting.
 pub fn inserted(alloc: Global, text: &str) -> Option<Edit> {
     let text = Text::from_str(alloc, text).ok()?;
     Some(Edit::Insert { before: None, text })
 }
 
-/// A text in place of the first byte of a paragraph.
+/// An edit that puts a text in place of the first byte of a paragraph; none where memory is wanting.
 pub fn replaced(alloc: Global, id: u64, rev: u64, text: &str) -> Option<Edit> {
     let text = Text::from_str(alloc, text).ok()?;
     Some(Edit::Replace {
@@ -45,7 +45,7 @@ pub fn replaced(alloc: Global, id: u64, rev: u64, text: &str) -> Option<Edit> {
     })
 }
 
-/// The part of a text with this place, from 0, between these signs.
+/// The part of a text with this place, from 0, between these signs; empty where there is none.
 pub fn part_at(text: &str, sign: char, place: usize) -> &str {
     text.split(sign).nth(place).unwrap_or("")
 }
