@@ -1,7 +1,8 @@
 #!/usr/bin/env bash
-# What the repository says of itself. docs/ARCHITECTURE.md has the picture of crates.txt (tools/storeys), and no name stands for two things but those of
-# tests/names.txt (tools/names). NOTICE names the crates of the kit that crates.txt names. Then come both tools over a folder of small crates made for this. Last is what bench/gate.sh prints of a stored run,
-# and of a run of a kit made for this, which proves nothing. Prints what went wrong; the status is 0 if nothing did.
+# What the repository says of itself. docs/ARCHITECTURE.md has the picture of crates.txt (tools/storeys), no name stands for two things but those of
+# tests/names.txt (tools/names), and what the documents name is there (tools/documented). NOTICE names the crates of the kit that crates.txt names. Then
+# come these tools over a folder of small crates made for this. Last is what bench/gate.sh prints of a stored run, and of a run of a kit made for this,
+# which proves nothing. Prints what went wrong; the status is 0 if nothing did.
 # shellcheck disable=SC2119,SC2120,SC2317
 set -euo pipefail
 top=$(cd "$(dirname "$0")/.." && pwd)
@@ -46,10 +47,11 @@ mkdir -p "$here"/{bench,tools,docs,tests} "$here"/crates/{low,lower,app,app_test
 cp "$top/tools/storeys" "$top/tools/names" "$here/tools"
 cp "$top/bench/gate.sh" "$here/bench"
 
-if has 'tools/storeys, tools/names' python3; then
+if has 'tools/storeys, tools/names, tools/documented' python3; then
     # ---- this repository
     expect 'the picture of the crates' 0 "$top/tools/storeys" < /dev/null
     expect 'the names' 0 "$top/tools/names" --check < /dev/null
+    expect 'the documents' 0 "$top/tools/documented" < /dev/null
 
     # ---- the picture of small crates
     printf '%s\n' '# Words.' 'lower:' 'low: lower indexmap # with a remark' 'app may_wait=1: low lower' 'app_tests: lower' > "$here/crates.txt"
@@ -113,6 +115,66 @@ SAID
     expect 'a list of all names' 0 names --check < /dev/null
     echo 'Seat' >> "$here/tests/names.txt"
     expect 'a line without a kind' 2 names --check <<< 'tools/names: tests/names.txt has a line that is no kind and name: Seat'
+
+    # ---- documents of small crates: what is there, and of each rule what is not
+    told=$work/told
+    mkdir -p "$told"/{docs,mutants/low} "$told"/crates/{low,high}/{src,specs,must-fail}
+    expect 'no document' 2 "$top/tools/documented" "$told" <<< 'tools/documented: there is no document'
+    printf '%s\n' 'pub struct LowPlace {}' 'impl LowPlace {' '    pub fn go_on() {}' '}' > "$told/crates/low/src/lib.rt"
+    printf '%s\n' '-- in_no_line' 'abbrev pub is_low : ℕ → Bool' 'is_low n = is_used n' > "$told/crates/low/specs/Lows.antt"
+    printf '%s\n' 'pub fn is_high() {}' > "$told/crates/high/src/lib.rt"
+    : > "$told/crates/low/must-fail/left_out.edit"
+    : > "$told/mutants/low/left_over.edit"
+    cat > "$told/docs/TOLD.md" << 'DOCUMENT'
+# Lows (`low`)
+
+`LowPlace::go_on` and `go_on()`, `left_out`, `crates/low/src/lib.rt`, `docs/TOLD.md`, `lib.rt`, `crates/NAME/x`, `de_AT`, `a/b`.
+`LowPlace::go_in`, `GoneType`, `gone_name`,
+`crates/low/src/gone.rt`, `gone.rt`.
+
+    `not_looked_at`
+
+`is_low`, in [crates/low/specs/Lows.antt](../crates/low/specs/Lows.antt). `go_on` in `specs/Lows.antt`.
+
+- **`low`**: `is_low`. And `is_high` of `high`. But `is_high` alone.
+
+| definition | module | meaning |
+|---|---|---|
+| `is_low` | Lows | |
+| `is_used`, `in_no_line` | Lows | |
+| `LowPlace` | Lows (and a type of the code) | |
+| `is_high` | lib (`high`) | |
+| `is_low` | Highs | |
+
+| definition | file under `crates/` |
+|---|---|
+| `is_low` | `low/specs/Lows.antt` |
+| `is_high` | `low/specs/Lows.antt` |
+
+| crate | edit |
+|---|---|
+| `low` | `left_out`, `left_`, `left_over` |
+| | `left_in` |
+| `high` | `left_out` |
+DOCUMENT
+    cp "$told/docs/TOLD.md" "$told/README.md"
+    expect 'small documents' 1 "$top/tools/documented" "$told" < <(for name in README.md docs/TOLD.md; do
+        sed "s|^|$name:|" << 'SAID'
+3: `LowPlace::go_in` stands nowhere in the code
+3: `GoneType` stands nowhere in the code
+3: `gone_name` stands nowhere in the code
+3: `crates/low/src/gone.rt` is no file or folder
+3: `gone.rt` is no file or folder
+9: `go_on` does not stand in specs/Lows.antt
+11: `is_high` does not stand in low
+16: `is_used` is not declared in crates/low/specs/Lows.antt
+16: `in_no_line` is not declared in crates/low/specs/Lows.antt
+19: `Highs` is no module of low
+24: `is_high` is not declared in crates/low/specs/Lows.antt
+29: `left_in` is no edit of low
+30: `left_out` is no edit of high
+SAID
+    done)
 fi
 
 # ---- the table of a run that was made before: of the kinds of processes, of a number that is given twice, and of one process that is too long
