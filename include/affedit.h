@@ -7,6 +7,11 @@
  *    a caller that has nothing to give gives the address of any variable of that type. A length
  *    counts what the pointer leads to, and is below 2^63. Where a parameter is `const`, the memory
  *    is read during the call alone, and no pointer to it is kept.
+ *  - What a function only writes is initialized too: `affedit_fault fault = {0};`, a count with any
+ *    value, and an array of marks by `calloc`.
+ *  - Memory that a function reads is written by no one during the call: by no thread, no signal
+ *    handler and no other process. So a file that is mapped into memory is neither written nor
+ *    made shorter meanwhile; where that cannot be known, its bytes are copied first.
  *  - Memory that a function writes overlaps no other memory of that call, and no one else reads or
  *    writes it during the call. So two handles of one call are two variables.
  *  - A handle is a variable of the caller's that begins as AFFEDIT_CLOSED_HANDLE. From then on the
@@ -19,7 +24,10 @@
  *    each power of two up to 16 that divides its size. They may fail: functions answer
  *    AFFEDIT_NO_MEMORY then, and leave what they were given as it was.
  *  - No function is called from a signal handler, or in the child of a `fork` of a process with
- *    several threads.
+ *    several threads. A handler may run during a call, if it touches nothing that the call has.
+ *  - A call that has begun comes to its end. No `longjmp` and no exception leaves it, out of a
+ *    signal handler or out of `malloc`, and its thread is not cancelled meanwhile: a thread of which
+ *    cancellation is asynchronous, or whose `malloc` may be cancelled, disables it before the call.
  *
  * No function starts a thread, takes a lock, opens a file, prints, or ends the process. The library
  * keeps nothing but what handles have, and frees it as they are closed. A handle has its dictionary,
