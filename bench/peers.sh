@@ -54,7 +54,7 @@ int main(int count, char **names) {
     bool is_text = count == 5;
     names += is_text;
     affedit_dictionary dictionary = AFFEDIT_CLOSED_HANDLE;
-    affedit_fault fault;
+    affedit_fault fault{};
     {
         std::string aff = all(names[1]), dic = all(names[2]);
         if (affedit_open(bytes(aff), aff.size(), bytes(dic), dic.size(), &dictionary, &fault) != AFFEDIT_DONE) return 1;
@@ -62,7 +62,7 @@ int main(int count, char **names) {
     std::ifstream lines(names[3]);
     std::string line;
     size_t refused = 0, marks = 0;
-    affedit_mark first;
+    affedit_mark first{};
     while (std::getline(lines, line))
         if (!is_text)
             refused += affedit_word(&dictionary, bytes(line), line.size()) != AFFEDIT_KNOWN;

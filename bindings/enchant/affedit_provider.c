@@ -148,7 +148,7 @@ static EnchantDict *request_dict(EnchantProvider *provider, const char *tag) {
     if (aff_bytes) dic_bytes = read_file(provider, dic, &dic_length);
     if (dic_bytes) {
         affedit_dictionary dictionary = AFFEDIT_CLOSED_HANDLE;
-        affedit_fault fault;
+        affedit_fault fault = {0};
         switch (affedit_open((uint8_t *)aff_bytes, aff_length, (uint8_t *)dic_bytes, dic_length, &dictionary, &fault)) {
         case AFFEDIT_DONE:
             dict = g_new0(EnchantDict, 1);

@@ -148,7 +148,7 @@ static void check(affedit_dictionary *dictionary, text all, FILE *out) {
     text line;
     while (next_line(all, &at, &line)) {
         size_t count = 0, room = line.length + 1;
-        affedit_mark *marks = malloc(room * sizeof *marks);
+        affedit_mark *marks = calloc(room, sizeof *marks);
         number++;
         WANT(affedit_marks(dictionary, line.bytes, line.length, marks, room, &count), AFFEDIT_DONE);
         for (size_t i = 0; i < count; i++) {
@@ -289,7 +289,7 @@ static int ask_any_bytes(char **names) {
     affedit_close(&dictionary);
     text aff = read_file(names[0]), dic = read_file(names[1]);
     for (int i = 0; i < 2000; i++) {
-        affedit_fault fault;
+        affedit_fault fault = {0};
         text *spoiled = some(2) ? &aff : &dic;
         uint32_t place = spoiled->length ? some((uint32_t)spoiled->length) : 0;
         uint8_t kept = spoiled->length ? spoiled->bytes[place] : 0;
