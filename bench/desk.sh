@@ -1,11 +1,11 @@
 #!/usr/bin/env bash
-# Measures a desk over 20,000 paragraphs, by the program desk_speed that the gate has built: how many edits are published in a second
+# Measures a desk over 20,000 paragraphs, by the program desk_trials that the gate has built: how many edits are published in a second
 # by 1, 2 and 4 threads; how many looks are had in a second by 1, 2 and 4 threads, without a thread that publishes and beside one, and the
 # nanoseconds that 999 of 1,000 looks took at most; and the most memory that is used after 1,000 events and after EVENTS.
 # `desk.sh SECONDS EVENTS` takes so many seconds for each, 3 without, and so many events, 1,000,000 without.
 set -euo pipefail
 top=$(cd "$(dirname "$0")/.." && pwd)
-program=$top/crates/desk_speed/out/desk_speed
+program=$top/crates/desk_trials/out/desk_trials
 seconds=${1:-3}
 events=${2:-1000000}
 [ -x "$program" ] || { echo "run rt ci first: $program is not built" >&2; exit 2; }

@@ -1,5 +1,5 @@
 #!/usr/bin/env bash
-# Measures workers over a desk, by the program desk_speed that the gate has built, with Debian's American dictionary: how many of 20,000
+# Measures workers over a desk, by the program desk_trials that the gate has built, with Debian's American dictionary: how many of 20,000
 # paragraphs of some 40 bytes each are claimed and finished in a second by 1, 2 and 4 workers, each on a thread of its own, once alone and once
 # beside a session that replaces the first byte of the last paragraph all the while. The words are taken from the dictionary, each as likely
 # as the others. `workers.sh SECONDS` gives each at most so many seconds, 60 without.
@@ -9,7 +9,7 @@
 # another cause, as for a full machine, is counted as waiting too.
 set -euo pipefail
 top=$(cd "$(dirname "$0")/.." && pwd)
-program=$top/crates/desk_speed/out/desk_speed
+program=$top/crates/desk_trials/out/desk_trials
 seconds=${1:-60}
 [ -x "$program" ] || { echo "run rt ci first: $program is not built" >&2; exit 2; }
 work=$(mktemp -d)

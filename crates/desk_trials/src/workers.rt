@@ -1,0 +1,113 @@
+//! Workers over a desk, alone and beside sessions that edit.
+
+ghost use Rattle.std.specs.Prelude.{◌<◌, ◌≤◌, IfOk};
+ghost use Rattle.board_share.specs.edit_core.Seen.{IsOpening};
+
+mod measuring;
+mod rates;
+mod seats;
+mod turns;
+
+use crate::opening::{opening_of, speller_of};
+use crate::{USAGE, eyes_of};
+use anyhow::Context;
+use board_share::Blank;
+use board_share::edit_core::Board;
+use mark_types::Judge;
+use measuring::measured;
+use outside::RealFiles;
+use outside::lists::NoMemory;
+use rates::{WorkerRates, print};
+use seats::{Run, WorkersWork, text_of};
+use std::alloc::{AllocError, Global};
+use std::marker::Brand;
+use std::rt::Files;
+use std::sync::Wait;
+use std::thread::Threads;
+use std::time::Clock;
+use word_verdict::Speller;
+
+/// The files of the words, and what these ask for.
+#[derive(Clone, Copy)]
+pub(crate) struct Asked<'a> {
+    aff: &'a str,
+    dic: &'a str,
+    text: &'a str,
+    work: WorkersWork,
+}
+
+/// What is measured without words.
+pub(crate) const SMALL: Asked<'static> = Asked {
+    aff: "small.aff",
+    dic: "small.dic",
+    text: "small.txt",
+    work: WorkersWork {
+        workers: 2,
+        sessions: 0,
+        seconds: 0,
+    },
+};
+
+/// What the words ask for.
+fn asked_of<'a>(words: &'a [String]) -> Option<Asked<'a>> {
+    let [aff, dic, text, workers, sessions, seconds] = words else {
+        return None;
+    };
+    Some(Asked {
+        aff: aff.as_str(),
+        dic: dic.as_str(),
+        text: text.as_str(),
+        work: WorkersWork {
+            workers: workers.parse::<u32>().ok()?,
+            sessions: sessions.parse::<u32>().ok()?,
+            seconds: seconds.parse::<u64>().ok()?,
+        },
+    })
+}
+
+/// The board that opens with the text, by the dictionary.
+fn opened<R: Files>(rt: &R, alloc: Global, asked: Asked<'_>) -> anyhow::Result<Board<Speller>>
+    ensures { IfOk result IsOpening }
+{
+    let mut files = RealFiles::new(rt);
+    let judge = speller_of(alloc, &mut files, asked.aff, asked.dic)?;
+    let text = text_of(alloc, &mut files, asked.text)?;
+    opening_of(alloc, judge, &text)
+}
+
+/// Does the work over a desk of its own.
+fn measured_alone<J: Judge + Drop + Send + Sync, R: Threads + Wait + Clock + Sync>(
+    rt: &R,
+    alloc: Global,
+    opening: Board<J>,
+    work: WorkersWork,
+    eyes: u32,
+) -> Result<WorkerRates, NoMemory>
+    requires eyes { (0 < eyes) × (eyes ≤ 64) }
+    requires opens { IsOpening opening }
+{
+    let run = Run::new(work, opening.versions().paragraphs);
+    measured::<_, Brand, _>(rt, alloc, opening, &run, eyes, Blank::new(eyes))
+}
+
+/// Does the work, and prints how fast it was done.
+pub(crate) fn measure<R: Threads + Wait + Clock + Print + Files + Sync>(
+    rt: &R,
+    alloc: Global,
+    asked: Asked<'_>,
+) -> anyhow::Result<()> {
+    let eyes = eyes_of(asked.work.workers, asked.work.sessions).context("from 1 to 64 threads")?;
+    let opening = opened(rt, alloc, asked)?;
+    let rates = measured_alone(rt, alloc, opening, asked.work, eyes).map_err(|_| AllocError)?;
+    print(rt, asked.work, &rates)?;
+    Ok(())
+}
+
+/// The same for the work that six words ask for.
+pub(crate) fn measure_by<R: Threads + Wait + Clock + Print + Files + Sync>(
+    rt: &R,
+    alloc: Global,
+    words: &[String],
+) -> anyhow::Result<()> {
+    measure(rt, alloc, asked_of(words).context(USAGE)?)
+}
