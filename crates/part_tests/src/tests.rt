@@ -5,6 +5,7 @@ mod cut_words;
 mod derivations;
 mod dictionaries;
 mod joints;
+mod loaded;
 mod loads;
 mod making;
 mod pattern_tables;
