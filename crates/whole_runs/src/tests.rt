@@ -1,5 +1,6 @@
 //! The tests: the rows of each topic, and beside them what no row can say.
 
+mod at_once;
 mod early_ends;
 mod made_inputs;
 mod memory;
