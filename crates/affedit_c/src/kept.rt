@@ -113,7 +113,10 @@ impl KeptDictionary {
     {
         let affixes = &self.base.stems().lexicon().affixes;
         let has_item = self.own.add(alloc, affixes, line)?;
-        self.asker = None;
+        // A blank line changes nothing of what is asked.
+        if has_item {
+            self.asker = None;
+        }
         Ok(has_item)
     }
 
