@@ -10,6 +10,7 @@
 ;;; Code:
 
 (require 'affedit-program)
+(require 'affedit-scope)
 
 (require (quote subr-x))
 (declare-function flymake-make-diagnostic "flymake")
@@ -130,6 +131,15 @@ Without another value it is that of the checkout or of the installation that thi
 The buffer keeps characters as UTF-8, so its own bytes count as those of the text."
   (byte-to-position (+ (position-bytes line) byte)))
 
+(defun affedit--shown (answer)
+  "What of ANSWER, to the line at point, is in the scope of the buffer."
+  (if (or (not (consp answer)) (eq affedit-scope 'all))
+      answer
+    (let ((marks (affedit--prose-marks (affedit--text) answer)) (line (line-beginning-position)))
+      (if (not affedit--predicate)
+          marks
+        (cl-remove-if-not (lambda (mark) (affedit--verified-p (affedit--place line (cdr mark)))) marks)))))
+
 (defun affedit--overlays-here ()
   "The marks that begin in the line at point, by their places."
   (let ((end (line-end-position)))
@@ -149,10 +159,10 @@ The buffer keeps characters as UTF-8, so its own bytes count as those of the tex
     (overlay-put overlay 'face 'affedit-mark)))
 
 (defun affedit--paint (answer)
-  "Have overlays at the marks ANSWER of the line at point, and nowhere else in it.
+  "Have overlays at the marks ANSWER of the line at point that are in scope, and nowhere else in it.
 Those that are right already are left alone, since Emacs draws the whole window anew for each change of one."
   (let ((line (line-beginning-position)) (there (affedit--overlays-here)) spare missing)
-    (dolist (mark (and (listp answer) answer))
+    (dolist (mark (and (listp answer) (affedit--shown answer)))
       (let ((beg (affedit--place line (car mark))) (end (affedit--place line (cdr mark))))
         (while (and there (< (overlay-start (car there)) beg))
           (push (pop there) spare))
@@ -472,7 +482,9 @@ What is not known is asked about, and keeps the marks that it has until the answ
     (add-hook 'after-change-functions #'affedit--after-change nil t)
     (add-hook 'post-command-hook #'affedit--after-command nil t)
     (add-hook 'change-major-mode-hook #'affedit--leave nil t)
-    (jit-lock-register #'affedit--fontify)
+    (setq affedit--predicate (affedit--find-predicate))
+    ;; What is a comment or a string may change with a line before.
+    (jit-lock-register #'affedit--fontify (and affedit--predicate t))
     (affedit--look-at-all)
     (affedit--send)
     (affedit--scan)))
@@ -484,12 +496,12 @@ What is not known is asked about, and keeps the marks that it has until the answ
 ;; What is known of a buffer.
 
 (defun affedit--each-line (function)
-  "Call FUNCTION with the number, the first position and the answer of each line."
+  "Call FUNCTION with the number, the first position and what is shown of the answer of each line."
   (affedit--widened
     (goto-char (point-min))
     (let ((number 1) (go t))
       (while go
-        (funcall function number (point) (affedit--known (affedit--text)))
+        (funcall function number (point) (affedit--shown (affedit--known (affedit--text))))
         (setq number (1+ number)
               go (and (= 0 (forward-line 1)) (bolp)))))))
 
@@ -518,7 +530,7 @@ What is not known is asked about, and keeps the marks that it has until the answ
     (list :marks marks :lines lines :waiting waiting :refused refused :first-refused first)))
 
 (defun affedit--answer-here ()
-  "The answer to the line at point, waited for where it is not known."
+  "The marks of the line at point, waited for where they are not known."
   (let* ((text (affedit--text)) (answer (affedit--known text)))
     (when (eq answer 'unknown)
       (let ((texts (list text)) (lines 0) (until (+ (float-time) 10)) (done nil))
@@ -534,7 +546,7 @@ What is not known is asked about, and keeps the marks that it has until the answ
         (setq answer (affedit--known text))
         (when (eq answer 'unknown)
           (user-error "The line is not checked: %s" (or affedit--failed "the program does not answer")))))
-    (if (listp answer) answer nil)))
+    (if (listp answer) (affedit--shown answer) nil)))
 
 (defun affedit--bounds-here ()
   "The bounds of the mark at point, or nil."
@@ -605,6 +617,17 @@ What is not known is asked about, and keeps the marks that it has until the answ
   "Take the dictionary NAME for all buffers."
   (interactive (list (completing-read "Dictionary: " (affedit--dictionary-names))))
   (affedit--exchange (affedit--find-dictionary name)))
+
+(defun affedit-change-scope (scope)
+  "Show the marks of SCOPE, `prose' or `all', in this buffer."
+  (interactive (list (intern (completing-read "Scope: " '("prose" "all") nil t))))
+  (unless (memq scope '(prose all))
+    (user-error "There is no scope %s: it is prose or all" scope))
+  (setq-local affedit-scope scope)
+  (when affedit-mode
+    (affedit--look-at-all)
+    (affedit--send)
+    (affedit--scan)))
 
 (defun affedit-restart ()
   "Start the program anew."

@@ -14,7 +14,7 @@
 (require 'rect)
 (require 'sort)
 (require 'flymake)
-(setq affedit-program (getenv "PROGRAM") affedit-dictionary (concat top "/examples/sample"))
+(setq affedit-program (getenv "PROGRAM") affedit-dictionary (concat top "/examples/sample") affedit-scope 'all)
 
 (defvar failures nil)
 (defvar compared 0)
