@@ -87,7 +87,7 @@ if [[ $editors == *emacs* ]]; then
     export COMPILED=$work/compiled
     mkdir "$COMPILED"
     cp "$top"/editors/emacs/*.el "$COMPILED"
-    (cd "$COMPILED" && emacs -Q --batch -L . -f batch-byte-compile affedit-program.el affedit-scope.el affedit.el > /dev/null 2>&1)
+    (cd "$COMPILED" && emacs -Q --batch -L . -f batch-byte-compile ./*.el > /dev/null 2>&1)
 fi
 for lines in 5000 100000; do
     for sparse in 20 1; do

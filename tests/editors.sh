@@ -46,7 +46,7 @@ if has 'the mode in Emacs' emacs script stty; then
     mkdir "$work/emacs" "$work/compiled"
     cp "$top"/editors/emacs/*.el "$work/compiled"
     status=0
-    (cd "$work/compiled" && emacs -Q --batch -L . -f batch-byte-compile affedit-program.el affedit-scope.el affedit.el) > "$work/emacs-said" 2>&1 || status=$?
+    (cd "$work/compiled" && emacs -Q --batch -L . -f batch-byte-compile ./*.el) > "$work/emacs-said" 2>&1 || status=$?
     # Where Emacs compiles by itself, as it may, it shows each warning to the user.
     if [ "$status" != 0 ] || grep -q Warning "$work/emacs-said"; then
         echo "Emacs compiles the mode with warnings or faults: status $status"

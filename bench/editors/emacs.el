@@ -60,7 +60,6 @@
       (when (overlay-get overlay 'affedit)
         (push (cons (overlay-start overlay) (overlay-end overlay)) bounds)))
     (affedit-mode -1)
-    (affedit--quit)
     (dolist (pair bounds)
       (let ((overlay (make-overlay (car pair) (cdr pair))))
         (overlay-put overlay 'evaporate t)

@@ -2,17 +2,16 @@
 
 ;;; Commentary:
 
-;; One process `affedit edit AFF DIC --own OWN' for all buffers, and what it said of each line (docs/CONSOLE.md).
+;; One process `affedit edit AFF DIC --own OWN' for each dictionary in use, and what it said of each line (docs/CONSOLE.md).
 ;; Between requests its text has no paragraphs: a request inserts its lines, has them checked and shown, and deletes them.
 ;; An answer to a line is a list of marks (START . STOP), in bytes of the line, or a string that says why it is not checked.
 
 ;;; Code:
 
 (require 'cl-lib)
+(require 'affedit-files)
 
 (defvar affedit-program)
-(defvar affedit--pair nil "The stem of the two files of the dictionary.")
-(defvar affedit--own nil "The file of the personal list.")
 
 (defconst affedit--paragraph-bytes 65536 "A paragraph has at most so many bytes.")
 (defvar affedit--most-sent 4000000000
@@ -23,39 +22,59 @@
 (defvar affedit--silence 60
   "A process that owes an answer and writes nothing for so many seconds is killed.")
 
-(defvar affedit--process nil)
-(defvar affedit--failed nil "Why there are no marks, where something has to be mended first.")
-(defvar affedit--ends nil "When processes ended.")
-(defvar affedit--pending nil "Personal words that are not answered yet.")
-(defvar affedit--changed-function #'ignore "Called when all that was known is void.")
+(defvar affedit--changed-function #'ignore "Called with a speller when all that it knew is void.")
+(defvar affedit--most 200000 "A speller knows at least so many texts that were asked about last.")
+
+(cl-defstruct affedit--speller
+  "A dictionary with its personal list, and the process that checks by them."
+  pair          ; the stem of the two files of the dictionary
+  own           ; the file of the personal list
+  process
+  failed        ; why there are no marks, where something has to be mended first
+  ends          ; when processes ended
+  pending       ; personal words that are not answered yet
+  (trials 0)    ; how many commands wait to see whether the dictionary is read
+  buffers       ; those that are checked by it
+  (asked (make-hash-table :test #'equal)) ; the texts that are asked about now, or next
+  wanted        ; those that are to be asked next
+  asking        ; whether lines that changed, or are visible, are asked about
+  scanning      ; whether a batch is asked about, or is to be
+  (young (make-hash-table :test #'equal)) ; what is known of a text
+  (old (make-hash-table :test #'equal)))
+
+(defvar affedit--spellers nil "Those in use.")
+
+(defun affedit--speller-for (pair)
+  "The speller of the dictionary PAIR and its personal list."
+  (let ((own (affedit--own-file pair)))
+    (or (cl-find-if (lambda (speller)
+                      (and (equal pair (affedit--speller-pair speller)) (equal own (affedit--speller-own speller))))
+                    affedit--spellers)
+        (car (push (make-affedit--speller :pair pair :own own) affedit--spellers)))))
 
 ;; What is known of a text. A mark depends on nothing but the text of its line and the dictionary, so this stays right
 ;; whatever is inserted, sorted or undone. Where the young half is full it becomes the old one, and what was in that is forgotten.
 
-(defvar affedit--most 200000)
-(defvar affedit--young (make-hash-table :test #'equal))
-(defvar affedit--old (make-hash-table :test #'equal))
+(defun affedit--remember (speller text answer)
+  "Keep ANSWER of SPELLER to TEXT."
+  (when (>= (hash-table-count (affedit--speller-young speller)) affedit--most)
+    (setf (affedit--speller-old speller) (affedit--speller-young speller)
+          (affedit--speller-young speller) (make-hash-table :test #'equal)))
+  (puthash text answer (affedit--speller-young speller)))
 
-(defun affedit--remember (text answer)
-  "Keep ANSWER to TEXT."
-  (when (>= (hash-table-count affedit--young) affedit--most)
-    (setq affedit--old affedit--young
-          affedit--young (make-hash-table :test #'equal)))
-  (puthash text answer affedit--young))
-
-(defun affedit--known (text)
-  "The answer to TEXT, or `unknown'."
-  (let ((answer (gethash text affedit--young 'unknown)))
+(defun affedit--recall (speller text)
+  "The answer of SPELLER to TEXT, or `unknown'."
+  (let ((answer (gethash text (affedit--speller-young speller) 'unknown)))
     (when (eq answer 'unknown)
-      (setq answer (gethash text affedit--old 'unknown))
+      (setq answer (gethash text (affedit--speller-old speller) 'unknown))
       (unless (eq answer 'unknown)
-        (affedit--remember text answer)))
+        (affedit--remember speller text answer)))
     answer))
 
-(defun affedit--forget ()
-  "A new dictionary: nothing is known any more."
-  (setq affedit--young (make-hash-table :test #'equal)
-        affedit--old (make-hash-table :test #'equal)))
+(defun affedit--forget-answers (speller)
+  "Another list: of SPELLER nothing is known any more."
+  (setf (affedit--speller-young speller) (make-hash-table :test #'equal)
+        (affedit--speller-old speller) (make-hash-table :test #'equal)))
 
 ;; Requests.
 
@@ -88,9 +107,9 @@ Nil where it cannot be cut."
           (push at starts))))
     (and whole (nreverse starts))))
 
-(defun affedit--enqueue (request message)
-  "Send MESSAGE, and have REQUEST answered in its turn."
-  (let ((process affedit--process))
+(defun affedit--enqueue (speller request message)
+  "Send MESSAGE to the process of SPELLER, and have REQUEST answered in its turn."
+  (let ((process (affedit--speller-process speller)))
     (unless (process-get process 'last)
       (affedit--start-watch process))
     (process-put process 'last (nconc (process-get process 'last) (list request)))
@@ -102,12 +121,12 @@ Nil where it cannot be cut."
                (process-put process 'told "it was not asked, as Emacs cannot write to it")
                (kill-process process))))))
 
-(defun affedit--command (line done)
-  "Send one command LINE that has one line of answer, which DONE gets."
-  (affedit--enqueue (make-affedit--request :done done) (concat line "\n")))
+(defun affedit--command (speller line done)
+  "Send to SPELLER one command LINE that has one line of answer, which DONE gets."
+  (affedit--enqueue speller (make-affedit--request :done done) (concat line "\n")))
 
-(defun affedit--send-texts (texts done)
-  "Have TEXTS checked: DONE gets a vector of answers, or nil where the process ended."
+(defun affedit--send-texts (speller texts done)
+  "Have TEXTS checked by SPELLER: DONE gets a vector of answers, or nil where the process ended."
   (let ((answers (make-vector (length texts) nil))
         (index 0) owners offsets parts)
     (dolist (text texts)
@@ -129,6 +148,7 @@ Nil where it cannot be cut."
       (dolist (part parts)
         (setq lines (cons "ins 1 " (cons part (cons "\n" lines)))))
       (affedit--enqueue
+       speller
        (make-affedit--request :done done :answers answers :left count :skip count
                               :owners (vconcat (nreverse owners)) :offsets (vconcat (nreverse offsets)))
        (apply #'concat lines)))))
@@ -234,11 +254,14 @@ Returns a request and its result, where it is complete."
         (with-demoted-errors "affedit: %S"
           (funcall (affedit--request-done (car result)) (cdr result)))))))
 
-(defun affedit--cause (last)
-  "What LAST, the line that a process ended with, says of a file."
+(defun affedit--cause (speller last)
+  "What LAST, the line that a process of SPELLER ended with, says of a file."
   (if (and last (string-match "\\`\\(aff\\|dic\\|own\\) \\([0-9]+\\) \\([A-Za-z]+\\)\\'" last))
       (let ((file (match-string 1 last)) (line (match-string 2 last)) (why (match-string 3 last)))
-        (format "%s:%s: %s%s" (if (equal file "own") affedit--own (concat affedit--pair "." file)) line why
+        (format "%s:%s: %s%s" (if (equal file "own")
+                                     (affedit--speller-own speller)
+                                   (concat (affedit--speller-pair speller) "." file))
+                line why
                 (if (equal why "OtherEncoding")
                     "; affedit-prepare-dictionary (in a checkout tools/prepare-dictionary) makes one that is read"
                   "")))
@@ -253,21 +276,25 @@ Returns a request and its result, where it is complete."
       (unless (affedit--request-complete request)
         (funcall (affedit--request-done request) nil)))))
 
-(defun affedit--tell-of-end (process)
-  "Tell of the end of PROCESS, and set `affedit--failed' where another one would end too."
-  (push (float-time) affedit--ends)
+(defun affedit--tell-of-end (speller process)
+  "Tell of the end of PROCESS, and note that SPELLER failed where another one would end too."
+  (push (float-time) (affedit--speller-ends speller))
   (let* ((code (process-exit-status process))
          (killed (eq (process-status process) 'signal))
-         (cause (affedit--cause (process-get process 'told)))
-         (how (format "the program ended %s %d%s" (if killed "by signal" "with status") code
-                      (if cause (concat ": " cause) "")))
-         (earlier (nth (1- affedit--most-ends) affedit--ends)))
-    (if (or (and earlier (< (- (car affedit--ends) earlier) affedit--ends-seconds))
+         (cause (affedit--cause speller (process-get process 'told)))
+         (how (format "the program of %s ended %s %d%s" (file-name-nondirectory (affedit--speller-pair speller))
+                      (if killed "by signal" "with status") code (if cause (concat ": " cause) "")))
+         (ends (affedit--speller-ends speller))
+         (earlier (nth (1- affedit--most-ends) ends))
+         (trial (affedit--tried-p speller)))
+    (if (or trial
+            (and earlier (< (- (car ends) earlier) affedit--ends-seconds))
             (and (= 0 (process-get process 'answered)) (not killed)))
         (progn
-          (setq affedit--failed
+          (setf (affedit--speller-failed speller)
                 (concat how (if (= code 125) "; run the launcher `affedit' once in a shell, which builds it" "")))
-          (affedit--tell "%s; there are no marks until M-x affedit-restart" affedit--failed))
+          (unless trial
+            (affedit--tell "%s; there are no marks until M-x affedit-restart" (affedit--speller-failed speller))))
       (affedit--tell "%s; it is started again" how))))
 
 (defun affedit--sentinel (process _event)
@@ -275,15 +302,22 @@ Returns a request and its result, where it is complete."
   (unless (process-live-p process)
     (when (buffer-live-p (process-buffer process))
       (kill-buffer (process-buffer process)))
-    (let ((is-current (eq process affedit--process)))
+    (let* ((speller (process-get process 'speller))
+           (is-current (eq process (affedit--speller-process speller))))
       (when is-current
-        (setq affedit--process nil)
-        (affedit--tell-of-end process)
+        (setf (affedit--speller-process speller) nil)
+        (affedit--tell-of-end speller process)
         ;; The personal list may have been changed beside it.
-        (affedit--forget))
+        (affedit--forget-answers speller))
       (affedit--fail process)
       (when is-current
-        (funcall affedit--changed-function)))))
+        (affedit--changed speller)))))
+
+(defun affedit--changed (speller)
+  "All that SPELLER knew is void; words that wait to be kept are sent again."
+  (funcall affedit--changed-function speller)
+  (when (affedit--speller-pending speller)
+    (affedit--running speller)))
 
 (defun affedit--start-watch (process)
   "From here on PROCESS owes an answer."
@@ -313,123 +347,147 @@ Time in which Emacs itself stood still does not count, nor does what waits to be
       (affedit--stop-watch process)
       (kill-process process))))
 
-(defun affedit--start ()
-  "Start the process, or set `affedit--failed'."
+(defun affedit--make-process (speller)
+  "Make the process of SPELLER, which has asked about nothing."
+  (let* ((process-connection-type nil)
+         (process-adaptive-read-buffering nil)
+         (default-directory "/")
+         (process-environment (append '("AFFEDIT_NO_BUILD=1" "AFFEDIT_QUIET=1") process-environment))
+         (pair (affedit--speller-pair speller))
+         (buffer (generate-new-buffer " *affedit*")))
+    (with-current-buffer buffer
+      (set-buffer-multibyte nil)
+      (buffer-disable-undo))
+    (let ((process (make-process :name "affedit" :buffer buffer :noquery t :coding '(binary . utf-8-emacs-unix)
+                                 :filter #'affedit--filter :sentinel #'affedit--sentinel
+                                 :command (list affedit-program "edit" (concat pair ".aff") (concat pair ".dic")
+                                                "--own" (affedit--speller-own speller)))))
+      (process-put process 'speller speller)
+      (process-put process 'sent 0)
+      (process-put process 'answered 0)
+      process)))
+
+(defun affedit--start (speller)
+  "Start the process of SPELLER, or note why not."
   (condition-case fault
-      (let* ((process-connection-type nil)
-             (process-adaptive-read-buffering nil)
-             (default-directory "/")
-             (process-environment (append '("AFFEDIT_NO_BUILD=1" "AFFEDIT_QUIET=1") process-environment))
-             buffer)
-        (unless affedit--pair
-          (error "No dictionary is chosen"))
+      (progn
         (unless (executable-find affedit-program)
           (error "No program %s" affedit-program))
-        (make-directory (file-name-directory affedit--own) t)
-        (unless (file-exists-p affedit--own)
-          (write-region "" nil affedit--own nil 'silent))
-        (with-current-buffer (setq buffer (generate-new-buffer " *affedit*"))
-          (set-buffer-multibyte nil)
-          (buffer-disable-undo))
-        (setq affedit--process
-              (make-process :name "affedit" :buffer buffer :noquery t :coding '(binary . utf-8-emacs-unix)
-                            :filter #'affedit--filter :sentinel #'affedit--sentinel
-                            :command (list affedit-program "edit" (concat affedit--pair ".aff")
-                                           (concat affedit--pair ".dic") "--own" affedit--own)))
-        (process-put affedit--process 'sent 0)
-        (process-put affedit--process 'answered 0)
-        (mapc #'affedit--send-own affedit--pending))
+        (affedit--begin-list (affedit--speller-own speller))
+        (setf (affedit--speller-process speller) (affedit--make-process speller))
+        (dolist (item (affedit--speller-pending speller))
+          (affedit--send-own speller item)))
     (error
-     (setq affedit--failed (error-message-string fault))
-     (affedit--tell "%s" affedit--failed))))
+     (setf (affedit--speller-failed speller) (error-message-string fault))
+     (unless (affedit--tried-p speller)
+       (affedit--tell "%s" (affedit--speller-failed speller))))))
 
-(defun affedit--running ()
-  "The process, or nil where there is none and none is to be started."
-  (when (and affedit--process
-             (> (process-get affedit--process 'sent) affedit--most-sent)
-             (null (process-get affedit--process 'last)))
-    (affedit--quit))
-  (unless (or affedit--process affedit--failed)
-    (affedit--start))
-  affedit--process)
+(defun affedit--running (speller)
+  "The process of SPELLER, or nil where there is none and none is to be started."
+  (let ((process (affedit--speller-process speller)))
+    (when (and process
+               (> (process-get process 'sent) affedit--most-sent)
+               (null (process-get process 'last)))
+      (affedit--end speller)))
+  (unless (or (affedit--speller-process speller) (affedit--speller-failed speller))
+    (affedit--start speller))
+  (affedit--speller-process speller))
 
-(defun affedit--quit ()
-  "Have the process end, which owes no answer."
-  (let ((process affedit--process))
-    (setq affedit--process nil)
-    (ignore-errors (process-send-string process "quit\n"))))
+(defun affedit--end (speller &optional now)
+  "Have the process of SPELLER end; what it owes does not count.
+One that owes something, or is to end NOW, may hang, so it is not asked to quit."
+  (let ((process (affedit--speller-process speller)))
+    (when process
+      (setf (affedit--speller-process speller) nil)
+      (cond
+       ((or now (process-get process 'last))
+        (affedit--put-down process)
+        (affedit--fail process))
+       (t
+        (ignore-errors (process-send-string process "quit\n"))
+        (run-with-timer affedit--silence nil #'affedit--put-down process))))))
 
-(defun affedit--ask (texts done)
-  "Have TEXTS checked, and DONE called with the answers, or with nil."
-  (if (affedit--running)
-      (affedit--send-texts texts done)
+(defun affedit--put-down (process)
+  "Kill PROCESS where it lives."
+  (when (process-live-p process)
+    (kill-process process)))
+
+(defun affedit--release (speller)
+  "End the process of SPELLER where no buffer uses it, and no word waits to be kept."
+  (unless (or (affedit--speller-buffers speller) (affedit--speller-pending speller) (affedit--tried-p speller))
+    (setq affedit--spellers (delq speller affedit--spellers))
+    (affedit--end speller)))
+
+(defun affedit--ask (speller texts done)
+  "Have TEXTS checked by SPELLER, and DONE called with the answers, or with nil."
+  (if (affedit--running speller)
+      (affedit--send-texts speller texts done)
     (funcall done nil)))
 
-;; Words and dictionaries.
+(defun affedit--tried-p (speller)
+  "Whether it is tried if the dictionary of SPELLER is read."
+  (> (affedit--speller-trials speller) 0))
 
-(defun affedit--append-own (line)
-  "Append LINE to the personal list."
-  (let ((coding-system-for-write 'utf-8-unix)
-        (unended (and (file-exists-p affedit--own)
-                      (> (file-attribute-size (file-attributes affedit--own)) 0)
-                      (with-temp-buffer
-                        (let ((size (file-attribute-size (file-attributes affedit--own))))
-                          (insert-file-contents-literally affedit--own nil (1- size) size))
-                        (not (equal (buffer-string) "\n"))))))
-    (write-region (concat (if unended "\n" "") line "\n") nil affedit--own t 'silent)))
+(defun affedit--try (speller done)
+  "Have the dictionary of SPELLER read.
+Call DONE with nil then, or with the reason why it is not."
+  (if (and (affedit--speller-buffers speller) (not (affedit--speller-failed speller)))
+      (funcall done nil)
+    (setf (affedit--speller-failed speller) nil)
+    (cl-incf (affedit--speller-trials speller))
+    (let ((tried (lambda (answer)
+                   (let ((fault (and (not answer) (or (affedit--speller-failed speller) "the program ended"))))
+                     (cl-decf (affedit--speller-trials speller))
+                     (funcall done fault)
+                     (affedit--release speller)))))
+      (if (affedit--running speller)
+          (affedit--command speller "settle" tried)
+        (funcall tried nil)))))
 
-(defun affedit--send-own (item)
-  "Have the program take the personal word of ITEM, a list of one line, and keep it in the file."
+;; Words.
+
+(defun affedit--others (speller)
+  "The other spellers that have the personal list of SPELLER."
+  (cl-loop for other in affedit--spellers
+           when (and (not (eq other speller)) (equal (affedit--speller-own speller) (affedit--speller-own other)))
+           collect other))
+
+(defun affedit--keep (speller word)
+  "Keep WORD, which SPELLER has taken, in the personal list."
+  (condition-case fault
+      (progn (affedit--append-item (affedit--speller-own speller) word)
+             (mapc #'affedit--restart (affedit--others speller)))
+    (error (affedit--tell "the word is known until Emacs ends, but not kept: %s" (error-message-string fault))))
+  (affedit--forget-answers speller)
+  (affedit--changed speller))
+
+(defun affedit--send-own (speller item)
+  "Have SPELLER take the personal word of ITEM, a list of one line, and keep it in the file."
   (affedit--command
+   speller
    (concat "own " (car item))
    (lambda (answer)
      (when answer
-       (setq affedit--pending (delq item affedit--pending))
-       (if (not (string-prefix-p "dict " answer))
-           (affedit--tell "`%s' is not taken: %s" (car item) answer)
-         (condition-case fault
-             (affedit--append-own (car item))
-           (error (affedit--tell "the word is known until Emacs ends, but not kept: %s" (error-message-string fault))))
-         (affedit--forget)
-         (funcall affedit--changed-function))))))
+       (setf (affedit--speller-pending speller) (delq item (affedit--speller-pending speller)))
+       (if (string-prefix-p "dict " answer)
+           (affedit--keep speller (car item))
+         (affedit--tell "`%s' is not taken: %s" (car item) answer))
+       (affedit--release speller)))))
 
-(defun affedit--add (line)
-  "Add LINE to the personal list."
+(defun affedit--add (speller line)
+  "Add LINE to the personal list of SPELLER."
   (let ((item (list (replace-regexp-in-string "[\r\n]" " " line))))
-    (if (not (affedit--running))
-        (affedit--tell "the word is not taken, since there is no program: %s" affedit--failed)
-      (setq affedit--pending (append affedit--pending (list item)))
-      (affedit--send-own item))))
+    (if (not (affedit--running speller))
+        (affedit--tell "the word is not taken, since there is no program: %s" (affedit--speller-failed speller))
+      (setf (affedit--speller-pending speller) (append (affedit--speller-pending speller) (list item)))
+      (affedit--send-own speller item))))
 
-(defun affedit--restart ()
-  "End the process, and forget what failed."
-  (let ((process affedit--process))
-    (setq affedit--failed nil affedit--ends nil affedit--process nil)
-    (affedit--forget)
-    (when process
-      ;; It may hang, so it is not asked to quit; what it answers from here on does not count.
-      (when (process-live-p process)
-        (kill-process process))
-      (affedit--fail process)))
-  (funcall affedit--changed-function))
-
-(defun affedit--exchange (stem)
-  "Take the dictionary STEM for all buffers.
-A name with a space cannot be said to a running process, so that one is ended."
-  (if (or (not affedit--process) (string-match-p "[[:space:]]" stem))
-      (progn (setq affedit--pair stem) (affedit--restart))
-    (affedit--command
-     (format "load %s.aff %s.dic" stem stem)
-     (lambda (answer)
-       (cond
-        ((not answer)
-         (affedit--tell "the dictionary is not exchanged, since the program ended"))
-        ((string-prefix-p "dict " answer)
-         (setq affedit--pair stem)
-         (affedit--forget)
-         (funcall affedit--changed-function))
-        (t
-         (affedit--tell "%s is not read: %s; %s stays" stem (substring answer 3) affedit--pair)))))))
+(defun affedit--restart (speller)
+  "End the process of SPELLER, and forget what failed."
+  (setf (affedit--speller-failed speller) nil (affedit--speller-ends speller) nil)
+  (affedit--forget-answers speller)
+  (affedit--end speller 'now)
+  (affedit--changed speller))
 
 (provide 'affedit-program)
 

@@ -19,6 +19,8 @@ With `all' all marks are shown."
   :group 'affedit
   :type '(choice (const prose) (const all)))
 ;;;###autoload
+(put 'affedit-scope 'permanent-local t)
+;;;###autoload
 (put 'affedit-scope 'safe-local-variable (lambda (scope) (memq scope '(prose all))))
 
 (defvar-local affedit--predicate nil "Whether a word that ends at point is to be marked, by the major mode; nil if all are.")

@@ -9,6 +9,8 @@
 
 ;;; Code:
 
+(require 'affedit-files)
+(require 'affedit-marks)
 (require 'affedit-program)
 (require 'affedit-scope)
 
@@ -33,16 +35,20 @@ Without another value it is that of the checkout or of the installation that thi
 
 (defcustom affedit-dictionary "en_US"
   "The name of the dictionary, or a path of one of its two files.
-`affedit-use-dictionary' takes another one."
+A buffer may have its own, also by a local variable of its file.
+`affedit-change-dictionary' chooses one for a buffer, `affedit-use-dictionary' for all others."
   :type 'string)
+;;;###autoload
+(put 'affedit-dictionary 'permanent-local t)
+;; A path would have any file read.
+;;;###autoload
+(put 'affedit-dictionary 'safe-local-variable
+     (lambda (name) (and (stringp name) (string-match-p "\\`[[:alnum:]][[:alnum:]_.@+-]*\\'" name))))
 
 (defcustom affedit-own nil
-  "The file of the personal list, or nil for `affedit/words' in the user's data folder."
+  "The file of one personal list for all dictionaries, or nil for a list for each.
+That of the dictionary NAME is `affedit/words.NAME' in the user's data folder."
   :type '(choice (const nil) file))
-
-(defface affedit-mark '((((supports :underline (:style wave))) :underline (:style wave :color "red"))
-                        (t :underline t :foreground "red"))
-  "A word that the dictionary does not generate.")
 
 (defconst affedit--most-direct 8000
   "A change of at most so many characters is asked about at once.")
@@ -52,194 +58,24 @@ Without another value it is that of the checkout or of the installation that thi
   "So many seconds are waited for the marks behind a command, so that Emacs draws the line once.")
 (defconst affedit--batch-bytes 8192 "A batch asks about at most so many bytes.")
 (defconst affedit--batch-lines 1000 "A batch looks at at most so many lines.")
-(defconst affedit--most-searched 20000 "A window with more characters is looked at line by line.")
-(defconst affedit--most-overlays 3000
-  "With more overlays than these those that are not visible are deleted, since they make Emacs slow.")
 (defvar affedit--most-diagnostics 5000 "Flymake is told of at most so many marks.")
 
-(defvar affedit--buffers nil "The buffers that are checked.")
-(defvar affedit--asked (make-hash-table :test #'equal) "The texts that are asked about now, or next.")
-(defvar affedit--wanted nil "Those that are to be asked next.")
-(defvar affedit--asking nil "Whether lines that changed, or are visible, are asked about.")
-(defvar affedit--scanning nil "Whether a batch is asked about, or is to be.")
 (defvar affedit--timer nil "What asks about changes that no command made.")
 
 (defvar-local affedit--dirty nil "The changed places (BEG . END).")
 (defvar-local affedit--todo nil "The places (BEG . END) that are to be looked at in batches.")
 (defvar-local affedit--end nil "A marker at the end of the buffer: where it is not there, Emacs has not moved what stands behind a change.")
-(defvar-local affedit--made 0 "How many overlays were made since some were deleted.")
 (defvar-local affedit--told nil "Whether the user was told of a line that is not checked.")
 (defvar-local affedit--report nil "The function that flymake waits for.")
-
-;; Dictionaries by name, and the personal list.
-
-(defun affedit--data-folder ()
-  "The folder of prepared dictionaries and of the personal list."
-  (let ((base (getenv "XDG_DATA_HOME")))
-    (expand-file-name "affedit" (if (and base (not (equal base ""))) base "~/.local/share"))))
-
-(defun affedit--folders ()
-  "The folders in which a name is looked for, in this order."
-  (append (list (affedit--data-folder))
-          (split-string (or (getenv "DICPATH") "") ":" t)
-          '("/usr/share/hunspell" "/usr/share/myspell/dicts")))
-
-(defun affedit--find-dictionary (name)
-  "The path of the dictionary NAME, without `.aff'.  An error where there is none."
-  (let* ((stem (replace-regexp-in-string "\\.\\(aff\\|dic\\)\\'" "" name))
-         (stems (if (string-match-p "/" stem)
-                    (list (expand-file-name stem))
-                  (mapcar (lambda (folder) (expand-file-name stem folder)) (affedit--folders)))))
-    (or (cl-find-if (lambda (path)
-                      (and (file-readable-p (concat path ".aff")) (file-readable-p (concat path ".dic"))))
-                    stems)
-        (user-error "No dictionary %s in %s" name (string-join (affedit--folders) ", ")))))
-
-(defun affedit--dictionary-names ()
-  "All names that are found."
-  (let (names)
-    (dolist (folder (affedit--folders))
-      (when (file-directory-p folder)
-        (dolist (file (directory-files folder nil "\\.aff\\'"))
-          (let ((name (file-name-sans-extension file)))
-            (when (file-readable-p (expand-file-name (concat name ".dic") folder))
-              (cl-pushnew name names :test #'equal))))))
-    (sort names #'string<)))
-
-(defun affedit--configure ()
-  "Take the dictionary and the list that the user chose, where none is taken yet."
-  (setq affedit--own (expand-file-name (or affedit-own (expand-file-name "words" (affedit--data-folder)))))
-  (unless affedit--pair
-    (setq affedit--pair (affedit--find-dictionary affedit-dictionary))))
-
-;; Lines and their marks.
-
-(defmacro affedit--widened (&rest body)
-  "Do BODY in the whole buffer, with point and match data kept."
-  (declare (indent 0))
-  `(save-excursion
-     (save-restriction
-       (widen)
-       (save-match-data ,@body))))
-
-(defun affedit--text ()
-  "The text of the line at point."
-  (buffer-substring-no-properties (line-beginning-position) (line-end-position)))
-
-(defun affedit--place (line byte)
-  "The position of BYTE of the line that begins at LINE.
-The buffer keeps characters as UTF-8, so its own bytes count as those of the text."
-  (byte-to-position (+ (position-bytes line) byte)))
-
-(defun affedit--shown (answer)
-  "What of ANSWER, to the line at point, is in the scope of the buffer."
-  (if (or (not (consp answer)) (eq affedit-scope 'all))
-      answer
-    (let ((marks (affedit--prose-marks (affedit--text) answer)) (line (line-beginning-position)))
-      (if (not affedit--predicate)
-          marks
-        (cl-remove-if-not (lambda (mark) (affedit--verified-p (affedit--place line (cdr mark)))) marks)))))
-
-(defun affedit--overlays-here ()
-  "The marks that begin in the line at point, by their places."
-  (let ((end (line-end-position)))
-    (sort (cl-remove-if-not (lambda (overlay)
-                              (and (overlay-get overlay 'affedit) (<= (overlay-start overlay) end)))
-                            (overlays-in (line-beginning-position) (1+ end)))
-          (lambda (one two) (< (overlay-start one) (overlay-start two))))))
-
-(defun affedit--put-overlay (overlay beg end)
-  "Have OVERLAY, or a new one, at BEG to END."
-  (if overlay
-      (move-overlay overlay beg end)
-    (setq overlay (make-overlay beg end)
-          affedit--made (1+ affedit--made))
-    (overlay-put overlay 'affedit t)
-    (overlay-put overlay 'evaporate t)
-    (overlay-put overlay 'face 'affedit-mark)))
-
-(defun affedit--paint (answer)
-  "Have overlays at the marks ANSWER of the line at point that are in scope, and nowhere else in it.
-Those that are right already are left alone, since Emacs draws the whole window anew for each change of one."
-  (let ((line (line-beginning-position)) (there (affedit--overlays-here)) spare missing)
-    (dolist (mark (and (listp answer) (affedit--shown answer)))
-      (let ((beg (affedit--place line (car mark))) (end (affedit--place line (cdr mark))))
-        (while (and there (< (overlay-start (car there)) beg))
-          (push (pop there) spare))
-        (if (and there (= beg (overlay-start (car there))) (= end (overlay-end (car there))))
-            (pop there)
-          (push (cons beg end) missing))))
-    (setq spare (nconc there spare))
-    (dolist (bounds missing)
-      (affedit--put-overlay (pop spare) (car bounds) (cdr bounds)))
-    (mapc #'delete-overlay spare)))
-
-(defun affedit--each-visible (function)
-  "Call FUNCTION at each visible line of each window of the buffer.
-Before a window is drawn Emacs does not know where it ends, so that no more lines are taken than a window can have."
-  (affedit--widened
-    (dolist (window (get-buffer-window-list nil nil t))
-      (goto-char (window-start window))
-      (forward-line 0)
-      (let ((end (min (window-end window) (point-max)))
-            (left (1+ (window-total-height window))) (go t))
-        (while (and go (> left 0) (<= (point) end))
-          (unless (invisible-p (point))
-            (setq left (1- left)))
-          (funcall function)
-          (setq go (and (= 0 (forward-line 1)) (bolp))))))))
-
-;; One text is answered behind each key: Emacs's own search finds its lines sooner than a look at all of them.
-(defun affedit--paint-visible (texts answers)
-  "Mark the visible lines of the buffer that are among TEXTS; ANSWERS is a table of what was answered of them."
-  (let* ((windows (get-buffer-window-list nil nil t)) (window (car windows)) (text (car texts)))
-    (when window
-      (if (or (cdr texts) (cdr windows) (equal text "")
-              (> (- (window-end window) (window-start window)) affedit--most-searched))
-          (affedit--each-visible
-           (lambda ()
-             (let ((answer (gethash (affedit--text) answers 'unknown)))
-               (unless (eq answer 'unknown)
-                 (affedit--paint answer)))))
-        (affedit--widened
-          (goto-char (min (window-end window) (point-max)))
-          (let ((case-fold-search nil) (last (line-end-position)))
-            (goto-char (window-start window))
-            (forward-line 0)
-            ;; Before a window is drawn its end may be before its start.
-            (while (and (< (point) last) (search-forward text last t))
-              (when (equal text (affedit--text))
-                (affedit--paint (gethash text answers))))))))))
-
-(defun affedit--delete-overlays (beg end)
-  "Delete the marks between BEG and END."
-  (dolist (overlay (overlays-in beg end))
-    (when (overlay-get overlay 'affedit)
-      (delete-overlay overlay))))
-
-(defun affedit--purge ()
-  "Delete the overlays outside what is visible, where there are many; what comes into view is marked again."
-  (when (> affedit--made affedit--most-overlays)
-    (setq affedit--made 0)
-    (affedit--widened
-      (let (ranges (from (point-min)))
-        (dolist (window (get-buffer-window-list nil nil t))
-          (push (cons (window-start window) (max (window-start window) (window-end window))) ranges))
-        (dolist (range (append (sort ranges #'car-less-than-car) (list (cons (point-max) nil))))
-          (when (< from (car range))
-            (affedit--delete-overlays from (car range))
-            (jit-lock-refontify from (car range)))
-          (setq from (max from (or (cdr range) from))))
-        (setq affedit--made (cl-count-if (lambda (overlay) (overlay-get overlay 'affedit))
-                                         (overlays-in (point-min) (point-max))))))))
 
 ;; Asking.
 
 (defun affedit--want (text)
   "Have TEXT asked about, if it is not already."
-  (unless (or affedit--failed (gethash text affedit--asked))
-    (puthash text t affedit--asked)
-    (push text affedit--wanted)))
+  (let ((speller affedit--speller))
+    (unless (or (affedit--speller-failed speller) (gethash text (affedit--speller-asked speller)))
+      (puthash text t (affedit--speller-asked speller))
+      (push text (affedit--speller-wanted speller)))))
 
 (defun affedit--want-line ()
   "Have the line at point asked about where it is not known."
@@ -248,62 +84,70 @@ Before a window is drawn Emacs does not know where it ends, so that no more line
       (affedit--want text))))
 
 (defun affedit--tell-of-refused ()
-  "Tell once of each buffer that it has a line that is not checked."
-  (dolist (buffer affedit--buffers)
-    (with-current-buffer buffer
-      (unless affedit--told
-        (let ((refused (plist-get (affedit--count) :first-refused)))
-          (when refused
-            (setq affedit--told t)
-            (affedit--tell "line %d of %s is not checked: %s" (car refused) (buffer-name)
-                           (if (equal (cdr refused) "Command") "it is not UTF-8"
-                             "it has no space in 65,536 bytes"))))))))
+  "Tell once that this buffer has a line that is not checked."
+  (unless affedit--told
+    (let ((refused (plist-get (affedit--count) :first-refused)))
+      (when refused
+        (setq affedit--told t)
+        (affedit--tell "line %d of %s is not checked: %s" (car refused) (buffer-name)
+                       (if (equal (cdr refused) "Command") "it is not UTF-8"
+                         "it has no space in 65,536 bytes"))))))
 
-(defun affedit--receive (texts answers)
-  "Keep ANSWERS to TEXTS, and mark what is visible of them; nil where the process ended."
+(defun affedit--each-buffer (speller function)
+  "Call FUNCTION in each buffer that is checked by SPELLER."
+  (dolist (buffer (affedit--speller-buffers speller))
+    (when (buffer-live-p buffer)
+      (with-current-buffer buffer
+        (funcall function)))))
+
+(defun affedit--receive (speller texts answers)
+  "Keep ANSWERS of SPELLER to TEXTS, and mark what is visible of them; nil where the process ended."
   (let ((index 0) (refused nil) (now (make-hash-table :test #'equal)))
     (dolist (text texts)
-      (remhash text affedit--asked)
+      (remhash text (affedit--speller-asked speller))
       (when answers
         (let ((answer (aref answers index)))
-          (affedit--remember text answer)
+          (affedit--remember speller text answer)
           (puthash text answer now)
           (when (stringp answer)
             (setq refused t)))
         (setq index (1+ index))))
     (when answers
-      (dolist (buffer affedit--buffers)
-        (when (buffer-live-p buffer)
-          (with-current-buffer buffer
-            (affedit--paint-visible texts now)
-            (affedit--purge))))
+      (affedit--each-buffer speller (lambda ()
+                                      (affedit--paint-visible texts now)
+                                      (affedit--purge)))
       (when refused
-        (affedit--tell-of-refused)))))
+        (affedit--each-buffer speller #'affedit--tell-of-refused)))))
 
-(defun affedit--send ()
-  "Ask about what is wanted, when the last such request is answered."
-  (unless (or affedit--asking (null affedit--wanted) affedit--failed)
-    (let* ((wanted (nreverse affedit--wanted))
+(defun affedit--send (speller)
+  "Ask SPELLER about what is wanted, when the last such request is answered."
+  (unless (or (affedit--speller-asking speller) (null (affedit--speller-wanted speller)) (affedit--speller-failed speller))
+    (let* ((wanted (nreverse (affedit--speller-wanted speller)))
            (texts (cl-subseq wanted 0 (min affedit--most-asked (length wanted)))))
-      (setq affedit--wanted (nreverse (nthcdr affedit--most-asked wanted)) affedit--asking t)
-      (affedit--ask texts
+      (setf (affedit--speller-wanted speller) (nreverse (nthcdr affedit--most-asked wanted))
+            (affedit--speller-asking speller) t)
+      (affedit--ask speller texts
                     (lambda (answers)
-                      (setq affedit--asking nil)
-                      (affedit--receive texts answers)
-                      (affedit--send)
-                      (affedit--scan))))))
+                      (setf (affedit--speller-asking speller) nil)
+                      (affedit--receive speller texts answers)
+                      (affedit--go-on speller))))))
+
+(defun affedit--go-on (speller)
+  "Ask SPELLER about what is wanted, and about the next batch."
+  (affedit--send speller)
+  (affedit--scan speller))
 
 (defun affedit--batch (buffer)
   "The texts of the next batch of BUFFER."
   (with-current-buffer buffer
     (affedit--widened
-      (let ((bytes 0) (lines 0) texts)
+      (let ((bytes 0) (lines 0) (asked (affedit--speller-asked affedit--speller)) texts)
         (goto-char (min (car affedit--todo) (point-max)))
         (forward-line 0)
         (while (and affedit--todo (< bytes affedit--batch-bytes) (< lines affedit--batch-lines))
           (let ((text (affedit--text)))
-            (when (and (eq (affedit--known text) 'unknown) (not (gethash text affedit--asked)))
-              (puthash text t affedit--asked)
+            (when (and (eq (affedit--known text) 'unknown) (not (gethash text asked)))
+              (puthash text t asked)
               (push text texts)
               (setq bytes (+ bytes (string-bytes text))))
             (setq lines (1+ lines))
@@ -312,31 +156,36 @@ Before a window is drawn Emacs does not know where it ends, so that no more line
               (setq affedit--todo nil))))
         (nreverse texts)))))
 
-(defun affedit--scan ()
-  "Look at the lines that wait, a batch at a time."
-  (setq affedit--buffers (cl-delete-if-not #'buffer-live-p affedit--buffers))
-  (unless (or affedit--scanning affedit--failed)
-    (let ((buffer (cl-find-if (lambda (buffer) (buffer-local-value 'affedit--todo buffer))
-                              (if (memq (current-buffer) affedit--buffers)
-                                  (cons (current-buffer) affedit--buffers)
-                                affedit--buffers))))
-      (if (not buffer)
-          (when (affedit--idle-p)
-            (affedit--report-all))
-        (let ((texts (affedit--batch buffer)))
-          (setq affedit--scanning t)
-          (if texts
-              (affedit--ask texts
-                            (lambda (answers)
-                              (affedit--receive texts answers)
-                              (affedit--scan-on)))
-            (affedit--scan-on)))))))
+(defun affedit--waiting-buffer (speller)
+  "A buffer of SPELLER with lines that are to be looked at, the current one first."
+  (let ((buffers (affedit--speller-buffers speller)))
+    (cl-find-if (lambda (buffer) (buffer-local-value 'affedit--todo buffer))
+                (if (memq (current-buffer) buffers)
+                    (cons (current-buffer) buffers)
+                  buffers))))
 
-(defun affedit--scan-on ()
-  "Go on with the next batch, when what was typed has had its turn."
+(defun affedit--scan (speller)
+  "Have SPELLER look at the lines that wait, a batch at a time."
+  (setf (affedit--speller-buffers speller) (cl-delete-if-not #'buffer-live-p (affedit--speller-buffers speller)))
+  (unless (or (affedit--speller-scanning speller) (affedit--speller-failed speller))
+    (let ((buffer (affedit--waiting-buffer speller)))
+      (if (not buffer)
+          (when (affedit--rests-p speller)
+            (affedit--each-buffer speller #'affedit--report-marks))
+        (let ((texts (affedit--batch buffer)))
+          (setf (affedit--speller-scanning speller) t)
+          (if texts
+              (affedit--ask speller texts
+                            (lambda (answers)
+                              (affedit--receive speller texts answers)
+                              (affedit--scan-on speller)))
+            (affedit--scan-on speller)))))))
+
+(defun affedit--scan-on (speller)
+  "Have SPELLER go on with the next batch, when what was typed has had its turn."
   (run-with-timer 0 nil (lambda ()
-                          (setq affedit--scanning nil)
-                          (affedit--scan))))
+                          (setf (affedit--speller-scanning speller) nil)
+                          (affedit--scan speller))))
 
 ;; Changes.
 
@@ -391,23 +240,21 @@ Before a window is drawn Emacs does not know where it ends, so that no more line
           (affedit--want-line)
           (while (and (= 0 (forward-line 1)) (bolp) (<= (point) end))
             (affedit--want-line))))
-      (affedit--send)
-      (affedit--scan))))
+      (affedit--go-on affedit--speller))))
 
 (defun affedit--after-command ()
   "Ask about what the command changed, and wait a moment for the marks."
   (when affedit--dirty
     (affedit--flush)
-    (when (and affedit--asking affedit--process (not (input-pending-p)))
-      (accept-process-output affedit--process affedit--patience nil 0))))
+    (let ((process (affedit--speller-process affedit--speller)))
+      (when (and process (affedit--speller-asking affedit--speller) (not (input-pending-p)))
+        (accept-process-output process affedit--patience nil 0)))))
 
 (defun affedit--flush-all ()
   "Ask about what changed in all buffers."
   (setq affedit--timer nil)
-  (dolist (buffer affedit--buffers)
-    (when (buffer-live-p buffer)
-      (with-current-buffer buffer
-        (affedit--flush)))))
+  (dolist (speller affedit--spellers)
+    (affedit--each-buffer speller #'affedit--flush)))
 
 (defun affedit--fontify (beg end)
   "Mark the lines from BEG to END, which come into view.
@@ -422,7 +269,7 @@ What is not known is asked about, and keeps the marks that it has until the answ
               (affedit--want (affedit--text))
             (affedit--paint answer)))
         (setq go (and (= 0 (forward-line 1)) (bolp))))))
-  (affedit--send))
+  (affedit--send affedit--speller))
 
 (defun affedit--look-at-all ()
   "Have the whole buffer looked at, what is visible first."
@@ -433,61 +280,119 @@ What is not known is asked about, and keeps the marks that it has until the answ
     (widen)
     (jit-lock-refontify)))
 
-(defun affedit--all-void ()
-  "All that was known is void: another dictionary, another word, another process."
-  (clrhash affedit--asked)
-  (setq affedit--wanted nil)
-  (dolist (buffer affedit--buffers)
-    (when (buffer-live-p buffer)
-      (with-current-buffer buffer
-        (affedit--look-at-all))))
-  (affedit--send)
-  (affedit--scan))
+(defun affedit--all-void (speller)
+  "All that SPELLER knew is void: another word, another process."
+  (clrhash (affedit--speller-asked speller))
+  (setf (affedit--speller-wanted speller) nil)
+  (affedit--each-buffer speller #'affedit--look-at-all)
+  (affedit--go-on speller))
 
 (setq affedit--changed-function #'affedit--all-void)
 
-(defun affedit--idle-p ()
-  "Whether nothing waits, so that all marks are those of the text as it is."
-  (not (or affedit--asking affedit--scanning affedit--wanted affedit--pending
+(defun affedit--rests-p (speller)
+  "Whether nothing waits for SPELLER, so that all its marks are those of the text as it is."
+  (not (or (affedit--speller-asking speller) (affedit--speller-scanning speller) (affedit--speller-wanted speller)
+           (affedit--speller-pending speller) (affedit--tried-p speller)
            (cl-some (lambda (buffer)
                       (and (buffer-live-p buffer)
                            (or (buffer-local-value 'affedit--dirty buffer)
                                (buffer-local-value 'affedit--todo buffer))))
-                    affedit--buffers))))
+                    (affedit--speller-buffers speller)))))
+
+(defun affedit--idle-p ()
+  "Whether nothing waits for any speller."
+  (cl-every #'affedit--rests-p affedit--spellers))
+
+;; Buffers and their dictionaries.
+
+(defun affedit--join (speller)
+  "Have this buffer checked by SPELLER."
+  (unless (eq speller affedit--speller)
+    (affedit--part)
+    (setq affedit--speller speller affedit--told nil)
+    (push (current-buffer) (affedit--speller-buffers speller))
+    (affedit--look-at-all)
+    (affedit--go-on speller)))
+
+(defun affedit--part ()
+  "Have this buffer checked no more.
+The process of a dictionary that no buffer uses ends behind the command, since a buffer that is read anew joins again."
+  (when affedit--speller
+    (let ((speller affedit--speller))
+      (setq affedit--speller nil)
+      (setf (affedit--speller-buffers speller) (delq (current-buffer) (affedit--speller-buffers speller)))
+      (run-with-timer 0 nil #'affedit--release speller))))
+
+(defun affedit--buffers ()
+  "All buffers that are checked."
+  (cl-loop for speller in affedit--spellers append (cl-remove-if-not #'buffer-live-p (affedit--speller-buffers speller))))
+
+(defun affedit--lasting-name (name pair)
+  "NAME, or PAIR where it is a path: other buffers have other folders."
+  (if (string-match-p "/" name) pair name))
+
+(defun affedit--chosen-speller ()
+  "The speller of the dictionary and of the list that are chosen for this buffer."
+  (affedit--speller-for (affedit--find-dictionary affedit-dictionary)))
+
+(defun affedit--follow ()
+  "Have this buffer checked by what is chosen for it, also by a local variable of its file.
+Without that dictionary it is not checked: another one would mark nearly all words."
+  (condition-case fault
+      (affedit--join (affedit--chosen-speller))
+    (error
+     (affedit--tell "%s" (error-message-string fault))
+     (affedit-mode -1))))
+
+(defun affedit--switch-on ()
+  "Have this buffer checked."
+  (setq affedit--end (copy-marker (1+ (buffer-size)) t)
+        affedit--predicate (affedit--find-predicate))
+  (add-hook 'after-change-functions #'affedit--after-change nil t)
+  (add-hook 'post-command-hook #'affedit--after-command nil t)
+  (add-hook 'change-major-mode-hook #'affedit--leave nil t)
+  (add-hook 'kill-buffer-hook #'affedit--part nil t)
+  (add-hook 'hack-local-variables-hook #'affedit--follow nil t)
+  ;; What is a comment or a string may change with a line before.
+  (jit-lock-register #'affedit--fontify (and affedit--predicate t)))
+
+(defun affedit--switch-off ()
+  "Have this buffer checked no more, and delete its marks."
+  (affedit--part)
+  (remove-hook 'after-change-functions #'affedit--after-change t)
+  (remove-hook 'post-command-hook #'affedit--after-command t)
+  (remove-hook 'change-major-mode-hook #'affedit--leave t)
+  (remove-hook 'kill-buffer-hook #'affedit--part t)
+  (remove-hook 'hack-local-variables-hook #'affedit--follow t)
+  (jit-lock-unregister #'affedit--fontify)
+  (setq affedit--dirty nil affedit--todo nil)
+  (when affedit--end
+    (set-marker affedit--end nil))
+  (save-restriction
+    (widen)
+    (affedit--delete-overlays (point-min) (point-max))))
+
+(defun affedit--lighter ()
+  "What the mode line has of the mode."
+  (if (and affedit--speller (affedit--speller-failed affedit--speller)) " Aff!" " Aff"))
 
 ;;;###autoload
 (define-minor-mode affedit-mode
   "Mark the words that the dictionary does not generate."
-  :lighter (:eval (if affedit--failed " Aff!" " Aff"))
+  :lighter (:eval (affedit--lighter))
   :keymap (make-sparse-keymap)
   (if (not affedit-mode)
-      (progn
-        (setq affedit--buffers (delq (current-buffer) affedit--buffers))
-        (remove-hook 'after-change-functions #'affedit--after-change t)
-        (remove-hook 'post-command-hook #'affedit--after-command t)
-        (remove-hook 'change-major-mode-hook #'affedit--leave t)
-        (jit-lock-unregister #'affedit--fontify)
-        (when affedit--end
-          (set-marker affedit--end nil))
-        (save-restriction
-          (widen)
-          (affedit--delete-overlays (point-min) (point-max))))
+      (affedit--switch-off)
     (condition-case fault
-        (affedit--configure)
+        (let ((speller (affedit--chosen-speller)))
+          (affedit--switch-on)
+          (affedit--join speller))
       (error
        (setq affedit-mode nil)
-       (signal (car fault) (cdr fault))))
-    (cl-pushnew (current-buffer) affedit--buffers)
-    (setq affedit--end (copy-marker (1+ (buffer-size)) t))
-    (add-hook 'after-change-functions #'affedit--after-change nil t)
-    (add-hook 'post-command-hook #'affedit--after-command nil t)
-    (add-hook 'change-major-mode-hook #'affedit--leave nil t)
-    (setq affedit--predicate (affedit--find-predicate))
-    ;; What is a comment or a string may change with a line before.
-    (jit-lock-register #'affedit--fontify (and affedit--predicate t))
-    (affedit--look-at-all)
-    (affedit--send)
-    (affedit--scan)))
+       ;; The choice of a file does not keep the other hooks of its mode from running.
+       (if (local-variable-p 'affedit-dictionary)
+           (affedit--tell "%s" (error-message-string fault))
+         (signal (car fault) (cdr fault)))))))
 
 (defun affedit--leave ()
   "The major mode changes, and forgets the local variables."
@@ -529,23 +434,28 @@ What is not known is asked about, and keeps the marks that it has until the answ
              (t (cl-incf marks (length answer))))))
     (list :marks marks :lines lines :waiting waiting :refused refused :first-refused first)))
 
+(defun affedit--speller-here ()
+  "What this buffer is checked by.  An error where it is not checked."
+  (or affedit--speller (user-error "Affedit-mode is off in this buffer")))
+
 (defun affedit--answer-here ()
   "The marks of the line at point, waited for where they are not known."
-  (let* ((text (affedit--text)) (answer (affedit--known text)))
+  (let* ((speller (affedit--speller-here)) (text (affedit--text)) (answer (affedit--known text)))
     (when (eq answer 'unknown)
       (let ((texts (list text)) (lines 0) (until (+ (float-time) 10)) (done nil))
         (save-excursion
           (while (and (< (cl-incf lines) 100) (= 0 (forward-line 1)) (bolp))
             (when (eq (affedit--known (affedit--text)) 'unknown)
               (push (affedit--text) texts))))
-        (affedit--ask texts (lambda (answers)
-                              (setq done t)
-                              (affedit--receive texts answers)))
+        (affedit--ask speller texts (lambda (answers)
+                                      (setq done t)
+                                      (affedit--receive speller texts answers)))
         (while (and (not done) (< (float-time) until))
-          (accept-process-output affedit--process 0.1))
+          (accept-process-output (affedit--speller-process speller) 0.1))
         (setq answer (affedit--known text))
         (when (eq answer 'unknown)
-          (user-error "The line is not checked: %s" (or affedit--failed "the program does not answer")))))
+          (user-error "The line is not checked: %s"
+                      (or (affedit--speller-failed speller) "the program does not answer")))))
     (if (listp answer) (affedit--shown answer) nil)))
 
 (defun affedit--bounds-here ()
@@ -587,8 +497,7 @@ What is not known is asked about, and keeps the marks that it has until the answ
 
 (defun affedit--jump (forward)
   "Move to the next mark, or the one before."
-  (unless affedit-mode
-    (user-error "Affedit-mode is off in this buffer"))
+  (affedit--speller-here)
   (let ((found (affedit--seek forward)))
     (if (not found)
         (message "No marks")
@@ -611,12 +520,48 @@ What is not known is asked about, and keeps the marks that it has until the answ
    (let* ((bounds (affedit--bounds-here))
           (word (if bounds (buffer-substring-no-properties (car bounds) (cdr bounds)) (thing-at-point 'word t))))
      (list (read-string (format "Add to the personal list (%s): " word) nil nil word))))
-  (affedit--add line))
+  (affedit--add (affedit--speller-here) line))
+
+(defun affedit--read-dictionary (prompt)
+  "Ask for a dictionary with PROMPT."
+  (list (completing-read prompt (affedit--dictionary-names))))
+
+(defun affedit--exchange (pair buffers choose)
+  "Have BUFFERS checked by the dictionary PAIR, and CHOOSE called, when it is read.
+Where it is refused, all stays as it is."
+  (let ((speller (affedit--speller-for pair)))
+    (affedit--try
+     speller
+     (lambda (fault)
+       (if fault
+           (affedit--tell "%s is not read: %s; nothing changes" pair fault)
+         (funcall choose)
+         (dolist (buffer buffers)
+           (when (buffer-live-p buffer)
+             (with-current-buffer buffer
+               (when affedit--speller
+                 (affedit--join speller))))))))))
+
+(defun affedit-change-dictionary (name)
+  "Take the dictionary NAME for this buffer; with an empty NAME, that of all buffers without one of their own."
+  (interactive (affedit--read-dictionary "Dictionary of this buffer (empty: that of all): "))
+  (let* ((buffer (current-buffer)) (none (equal name ""))
+         (pair (affedit--find-dictionary (if none (default-value 'affedit-dictionary) name))))
+    (affedit--exchange pair (list buffer)
+                       (lambda ()
+                         (when (buffer-live-p buffer)
+                           (with-current-buffer buffer
+                             (if none
+                                 (kill-local-variable 'affedit-dictionary)
+                               (setq-local affedit-dictionary (affedit--lasting-name name pair)))))))))
 
 (defun affedit-use-dictionary (name)
-  "Take the dictionary NAME for all buffers."
-  (interactive (list (completing-read "Dictionary: " (affedit--dictionary-names))))
-  (affedit--exchange (affedit--find-dictionary name)))
+  "Take the dictionary NAME for all buffers without one of their own."
+  (interactive (affedit--read-dictionary "Dictionary: "))
+  (let ((pair (affedit--find-dictionary name)))
+    (affedit--exchange pair
+                       (cl-remove-if (lambda (buffer) (local-variable-p 'affedit-dictionary buffer)) (affedit--buffers))
+                       (lambda () (set-default 'affedit-dictionary (affedit--lasting-name name pair))))))
 
 (defun affedit-change-scope (scope)
   "Show the marks of SCOPE, `prose' or `all', in this buffer."
@@ -624,37 +569,41 @@ What is not known is asked about, and keeps the marks that it has until the answ
   (unless (memq scope '(prose all))
     (user-error "There is no scope %s: it is prose or all" scope))
   (setq-local affedit-scope scope)
-  (when affedit-mode
+  (when affedit--speller
     (affedit--look-at-all)
-    (affedit--send)
-    (affedit--scan)))
+    (affedit--go-on affedit--speller)))
 
 (defun affedit-restart ()
-  "Start the program anew."
+  "Start the programs anew, each with the dictionary and the list that are chosen for its buffers."
   (interactive)
-  (affedit--configure)
-  (affedit--restart))
+  (mapc #'affedit--restart (copy-sequence affedit--spellers))
+  (dolist (buffer (affedit--buffers))
+    (with-current-buffer buffer
+      (affedit--follow))))
 
 (defun affedit-status ()
   "Tell what is known of the buffer."
   (interactive)
-  (let ((count (affedit--count)))
-    (message "Dictionary %s, %s; %d marks in %d lines; %d lines wait, %d are not checked%s"
-             affedit--pair (if affedit--process (format "process %d" (process-id affedit--process)) "no process")
+  (let* ((speller (affedit--speller-here)) (process (affedit--speller-process speller))
+         (failed (affedit--speller-failed speller)) (count (affedit--count)))
+    (message "Dictionary %s, list %s, %s; %d marks in %d lines; %d lines wait, %d are not checked%s"
+             (affedit--speller-pair speller) (affedit--speller-own speller)
+             (if process (format "process %d" (process-id process)) "no process")
              (plist-get count :marks) (plist-get count :lines) (plist-get count :waiting) (plist-get count :refused)
-             (if affedit--failed (concat "; " affedit--failed) ""))))
+             (if failed (concat "; " failed) ""))))
 
 (defun affedit--suggestions (word)
   "What hunspell suggests for WORD."
   (unless (executable-find "hunspell")
     (user-error "There is no hunspell, so there are no suggestions"))
-  (with-temp-buffer
-    (insert "^" word "\n")
-    (let ((coding-system-for-read 'utf-8) (coding-system-for-write 'utf-8))
-      (call-process-region (point-min) (point-max) "hunspell" t t nil "-a" "-i" "utf-8" "-d" affedit--pair))
-    (goto-char (point-min))
-    (when (re-search-forward "^& .* [0-9]+ [0-9]+: \\(.*\\)$" nil t)
-      (split-string (match-string 1) ", "))))
+  (let ((pair (affedit--speller-pair (affedit--speller-here))))
+    (with-temp-buffer
+      (insert "^" word "\n")
+      (let ((coding-system-for-read 'utf-8) (coding-system-for-write 'utf-8))
+        (call-process-region (point-min) (point-max) "hunspell" t t nil "-a" "-i" "utf-8" "-d" pair))
+      (goto-char (point-min))
+      (when (re-search-forward "^& .* [0-9]+ [0-9]+: \\(.*\\)$" nil t)
+        (split-string (match-string 1) ", ")))))
 
 (defun affedit-suggest ()
   "Replace the marked word at point by a suggestion of hunspell's; Affedit itself suggests nothing."
@@ -687,14 +636,12 @@ What is not known is asked about, and keeps the marks that it has until the answ
       (affedit--tell "flymake is told of the first %d marks" affedit--most-diagnostics))
     (nreverse found)))
 
-(defun affedit--report-all ()
+(defun affedit--report-marks ()
   "Answer flymake where it waits; nothing else waits."
-  (dolist (buffer affedit--buffers)
-    (with-current-buffer buffer
-      (when affedit--report
-        (let ((report affedit--report))
-          (setq affedit--report nil)
-          (funcall report (save-restriction (widen) (affedit--diagnostics))))))))
+  (when affedit--report
+    (let ((report affedit--report))
+      (setq affedit--report nil)
+      (funcall report (save-restriction (widen) (affedit--diagnostics))))))
 
 (defun affedit-flymake (report &rest _)
   "A backend of flymake: REPORT gets the marks when nothing waits."
@@ -702,7 +649,7 @@ What is not known is asked about, and keeps the marks that it has until the answ
       (funcall report nil)
     (setq affedit--report report)
     (affedit--flush-all)
-    (affedit--scan)))
+    (affedit--scan affedit--speller)))
 
 ;;;###autoload
 (defun affedit-flymake-setup ()

@@ -207,9 +207,138 @@
   (when (executable-find "python3")
     (compare-addresses)))
 
+;; Dictionaries and personal lists.
+
+(defun list-of (name)
+  "The personal list of the dictionary NAME."
+  (concat work "/data/affedit/words." name))
+
+(defun processes ()
+  "The processes of the mode, those that end not counted."
+  (cl-count-if #'affedit--speller-process affedit--spellers))
+
+(defun program-processes ()
+  "The processes that Emacs has of the program."
+  (cl-count-if (lambda (process) (string-prefix-p "affedit" (process-name process))) (process-list)))
+
+(defmacro with-buffers (names &rest body)
+  "Do BODY with buffers NAMES, in text mode and not yet checked, and kill them."
+  (declare (indent 1))
+  `(let ,(mapcar (lambda (name) `(,name (generate-new-buffer ,(symbol-name name)))) names)
+     ,@(mapcar (lambda (name) `(with-current-buffer ,name (text-mode))) names)
+     ,@body
+     ,@(mapcar (lambda (name) `(when (buffer-live-p ,name) (with-current-buffer ,name (set-buffer-modified-p nil)) (kill-buffer ,name)))
+               names)
+     (expect "no process is left" (wait (lambda () (= 0 (program-processes)))) (process-list))))
+
+(defun make-dictionaries ()
+  "Make the dictionaries `one' with cat and both, and `two' with dog and both."
+  (dolist (words '(("one" . "cat\nboth\n") ("two" . "dog\nboth\n")))
+    (write (concat work "/data/affedit/" (car words) ".aff") "SET UTF-8\n")
+    (write (concat work "/data/affedit/" (car words) ".dic") (concat "2\n" (cdr words))))
+  (write (concat work "/data/affedit/bad.aff") "SET ISO8859-1\n")
+  (write (concat work "/data/affedit/bad.dic") "1\ncat\n")
+  (setq-default affedit-dictionary "one"))
+
+(defun try-processes ()
+  "Each dictionary in use has one process, which ends with the last buffer that uses it."
+  (make-dictionaries)
+  (with-buffers (first second third)
+    (dolist (buffer (list first second third))
+      (with-current-buffer buffer
+        (insert "cat dog both")
+        (when (eq buffer third)
+          (setq-local affedit-dictionary "two"))
+        (affedit-mode 1)))
+    (with-current-buffer first (marked "the dictionary of all" '("dog")))
+    (with-current-buffer second (marked "that of another buffer" '("dog")))
+    (with-current-buffer third (marked "that of one buffer" '("cat")))
+    (expect "two dictionaries have two processes" (= 2 (processes) (program-processes)))
+    (let ((process (affedit--speller-process (buffer-local-value 'affedit--speller first))))
+      (kill-buffer first)
+      (accept-process-output nil 0.1)
+      (expect "a process stays while a buffer uses it" (and (process-live-p process) (= 2 (processes))))
+      (with-current-buffer second (affedit-mode -1))
+      (expect "it ends with the last one" (wait (lambda () (not (process-live-p process)))))
+      (expect "the other one stays" (wait (lambda () (= 1 (processes) (program-processes))))))
+    (let ((process (affedit--speller-process (buffer-local-value 'affedit--speller third))))
+      (with-current-buffer third
+        (text-mode)
+        (affedit-mode 1)
+        (accept-process-output nil 0.1)
+        (expect "a buffer whose mode is set anew keeps its process"
+                (eq process (affedit--speller-process affedit--speller)))
+        (marked "and its dictionary" '("cat"))))))
+
+(defun try-changes ()
+  "The commands that choose a dictionary for a buffer, and for all."
+  (make-dictionaries)
+  (with-buffers (first second)
+    (dolist (buffer (list first second))
+      (with-current-buffer buffer
+        (insert "cat dog both")
+        (affedit-mode 1)))
+    (with-current-buffer first
+      (affedit-change-dictionary "two")
+      (marked "a dictionary for this buffer" '("cat"))
+      (expect-marks "and drawn" '((1 0 3))))
+    (with-current-buffer second (marked "the other buffer keeps its own" '("dog")))
+    (with-current-buffer second
+      (setq told nil)
+      (affedit-change-dictionary "bad")
+      (marked "a dictionary that is not read" '("dog"))
+      (expect "it is told" (and told (string-match-p "/bad is not read: .*bad.aff:1: OtherEncoding.*; nothing changes" (car told))) told)
+      (expect "once" (= 1 (length told)) told)
+      (expect "a dictionary that is not there is refused"
+              (condition-case nil (progn (affedit-change-dictionary "none") nil) (user-error t)))
+      (expect "both have no process" (= 2 (processes)) affedit--spellers))
+    (with-current-buffer second
+      (affedit-use-dictionary "two")
+      (marked "a dictionary for all" '("cat"))
+      (expect "the first one has no process any more" (wait (lambda () (= 1 (program-processes))))))
+    (with-current-buffer first
+      (affedit-use-dictionary "one")
+      (marked "a buffer with one of its own keeps it" '("cat"))
+      (with-current-buffer second (marked "one for all others" '("dog")))
+      (affedit-change-dictionary "")
+      (marked "an empty name is that of all" '("dog"))
+      (expect "and no choice of the buffer" (not (local-variable-p 'affedit-dictionary))))))
+
+(defun write-choice (&rest lines)
+  "Make the file `file.txt', whose local variables LINES are."
+  (write (concat work "/file.txt")
+         (concat "cat dog both\n\nLocal " "Variables:\n" (string-join lines "\n") "\nEnd:\n")))
+
+(defun try-files ()
+  "A file may choose its dictionary by name, and its scope; a path is not safe."
+  (make-dictionaries)
+  (write-choice "affedit-dictionary: \"two\"" "affedit-scope: all")
+  (let ((text-mode-hook (list #'affedit-mode)))
+    (with-current-buffer (find-file-noselect (concat work "/file.txt"))
+      (wait #'affedit--idle-p)
+      (expect "the dictionary of a file" (equal "two" (file-name-nondirectory (affedit--speller-pair affedit--speller))))
+      (expect "the scope of a file" (and (eq affedit-scope 'all) (member '(1 0 3) (affedit--list)) (not (member '(1 4 7) (affedit--list)))))
+      (write-choice "affedit-dictionary: \"one\"")
+      (revert-buffer t t)
+      (wait #'affedit--idle-p)
+      (expect "another one when the file is read anew" (and (member '(1 4 7) (affedit--list)) (not (member '(1 0 3) (affedit--list)))))
+      (kill-buffer))
+    (write-choice "affedit-dictionary: \"none\"")
+    (setq told nil)
+    (let* ((hooked nil) (text-mode-hook (list #'affedit-mode (lambda () (setq hooked t)))))
+      (with-current-buffer (find-file-noselect (concat work "/file.txt"))
+        (expect "a dictionary that is not there is told, and the mode is off"
+                (and told (string-match-p "No dictionary none" (car told)) (not affedit-mode) hooked) told)
+        (kill-buffer))))
+  (dolist (name '("de_DE_frami" "en_GB-ize" "sr@latin"))
+    (expect "a name is safe" (safe-local-variable-p 'affedit-dictionary name) name))
+  (dolist (name '("/tmp/x" "../x" "~root" "a b" "" 5 "x\ny" "host:x"))
+    (expect "anything else is not" (not (safe-local-variable-p 'affedit-dictionary name)) name))
+  (expect "scopes are safe, and nothing else is" (and (safe-local-variable-p 'affedit-scope 'all) (not (safe-local-variable-p 'affedit-scope "all")))))
+
 (defun run ()
   "Run all tests, or that which ONLY of the environment names."
-  (mapc #'funcall (if (getenv "ONLY") (list (intern (getenv "ONLY"))) '(try-scopes))))
+  (mapc #'funcall (if (getenv "ONLY") (list (intern (getenv "ONLY"))) '(try-scopes try-processes try-changes try-files))))
 
 (condition-case fault
     (run)
