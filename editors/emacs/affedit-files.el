@@ -86,6 +86,76 @@ That of a dictionary begins with the words of the list that served all."
                         (not (equal (buffer-string) "\n"))))))
     (write-region (concat (if unended "\n" "") item "\n") nil own t 'silent)))
 
+(defun affedit--items (own)
+  "The items of the list OWN, in its order."
+  (and (file-exists-p own)
+       (with-temp-buffer
+         (let ((coding-system-for-read 'utf-8-unix))
+           (insert-file-contents own))
+         (delete-dups (split-string (buffer-string) "[\r\n]+" t "[ \t]+")))))
+
+(defun affedit--remove-item (own item)
+  "Remove all lines of the list OWN that are ITEM, and return whether there were any.
+All other bytes stay, and the file is the old one or the new one at any time."
+  (let* ((file (file-truename own)) (kept (make-temp-file (concat file ".")))
+         (line (concat "^[ \t]*" (regexp-quote (encode-coding-string item 'utf-8)) "[ \t]*\r?\\(?:\n\\|\\'\\)"))
+         (case-fold-search nil) (coding-system-for-write 'binary) (found nil) (size nil))
+    (unwind-protect
+        (with-temp-buffer
+          (set-buffer-multibyte nil)
+          ;; What another program appends meanwhile stays too.
+          (while (not (eql size (file-attribute-size (file-attributes file))))
+            (copy-file file kept t nil t)
+            (erase-buffer)
+            (setq size (cadr (insert-file-contents-literally kept)) found nil)
+            (goto-char (point-min))
+            (while (and (not (eobp)) (re-search-forward line nil t))
+              (setq found t)
+              (replace-match "" t t))
+            (when found
+              (write-region (point-min) (point-max) kept nil 'silent)))
+          (when found
+            (set-file-modes kept (file-modes file))
+            (rename-file kept file t)))
+      (when (file-exists-p kept)
+        (delete-file kept)))
+    found))
+
+(defun affedit--item-word (item)
+  "The word of ITEM, without the sign that prohibits it and without its model."
+  (let* ((word (string-remove-prefix "*" item))
+         (model (string-match "[^\\]\\(/\\)" word)))
+    (replace-regexp-in-string "\\\\/" "/" (if model (substring word 0 (match-beginning 1)) word) t t)))
+
+(defun affedit--item-here (items)
+  "The longest of ITEMS whose word stands at point, or nil."
+  (let ((exact (make-hash-table :test #'equal)) (folded (make-hash-table :test #'equal)) (longest 0) (best 0) found)
+    (dolist (item items)
+      (let ((word (affedit--item-word item)))
+        (puthash word item exact)
+        (puthash (downcase word) item folded)
+        (setq longest (max longest (length word)))))
+    ;; Longer words are left to completion.
+    (setq longest (min longest 80))
+    (cl-loop
+     for start from (max (line-beginning-position) (- (point) longest)) to (point)
+     unless (affedit--inside-word-p start)
+     do (cl-loop
+         for end from (max (point) (+ start best 1)) to (min (line-end-position) (+ start longest))
+         do (let* ((word (buffer-substring-no-properties start end))
+                   (item (and (not (affedit--inside-word-p end))
+                              (or (gethash word exact) (gethash (downcase word) folded)))))
+              (when item
+                (setq found item best (- end start))))))
+    found))
+
+(defun affedit--inside-word-p (position)
+  "Whether letters or digits stand on both sides of POSITION."
+  (save-excursion
+    (goto-char position)
+    (and (not (bolp)) (looking-at-p "[[:alnum:]]")
+         (progn (forward-char -1) (looking-at-p "[[:alnum:]]")))))
+
 (provide 'affedit-files)
 
 ;; Local Variables:

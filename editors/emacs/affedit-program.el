@@ -489,6 +489,18 @@ Call DONE with nil then, or with the reason why it is not."
   (affedit--end speller 'now)
   (affedit--changed speller))
 
+(defun affedit--take-back (speller item)
+  "Remove ITEM from the personal list of SPELLER.
+The program cannot forget a word, so that each process with the list is started again."
+  (let ((own (affedit--speller-own speller)) (all (cons speller (affedit--others speller))) waited)
+    (dolist (one all)
+      (let ((pending (affedit--speller-pending one)))
+        (setf (affedit--speller-pending one) (cl-remove item pending :key #'car :test #'equal))
+        (setq waited (or waited (not (equal pending (affedit--speller-pending one)))))))
+    (unless (or (affedit--remove-item own item) waited)
+      (user-error "`%s' is not in %s" item own))
+    (mapc #'affedit--restart all)))
+
 (provide 'affedit-program)
 
 ;; Local Variables:

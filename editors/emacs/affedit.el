@@ -522,6 +522,16 @@ Without that dictionary it is not checked: another one would mark nearly all wor
      (list (read-string (format "Add to the personal list (%s): " word) nil nil word))))
   (affedit--add (affedit--speller-here) line))
 
+(defun affedit-forget (item)
+  "Take ITEM, a line of the personal list, out of it: that of the word at point if nothing else is chosen."
+  (interactive
+   (let* ((items (affedit--items (affedit--speller-own (affedit--speller-here)))) (here (affedit--item-here items)))
+     (list (completing-read (format "Take out of the personal list%s: " (if here (format " (%s)" here) ""))
+                            items nil t nil nil here))))
+  (when (string-blank-p item)
+    (user-error "No word is chosen"))
+  (affedit--take-back (affedit--speller-here) item))
+
 (defun affedit--read-dictionary (prompt)
   "Ask for a dictionary with PROMPT."
   (list (completing-read prompt (affedit--dictionary-names))))

@@ -336,9 +336,127 @@
     (expect "anything else is not" (not (safe-local-variable-p 'affedit-dictionary name)) name))
   (expect "scopes are safe, and nothing else is" (and (safe-local-variable-p 'affedit-scope 'all) (not (safe-local-variable-p 'affedit-scope "all")))))
 
+(defun add (word)
+  "Add WORD, and wait until it is known."
+  (affedit-add word)
+  (expect "the word is taken" (wait #'affedit--idle-p) word))
+
+(defun forget-here (word)
+  "Take the item back that is proposed at WORD, and return it."
+  (goto-char (point-min))
+  (search-forward word)
+  (goto-char (1+ (match-beginning 0)))
+  (let (proposed)
+    (cl-letf (((symbol-function 'completing-read)
+               (lambda (_prompt items &rest rest) (setq proposed (nth 4 rest)) (and (member proposed items) proposed))))
+      (call-interactively #'affedit-forget))
+    proposed))
+
+(defun try-lists ()
+  "Each dictionary has its list, and a word that is taken back is marked again."
+  (make-dictionaries)
+  (with-buffers (first second)
+    (dolist (buffer (list first second))
+      (with-current-buffer buffer
+        (insert "cat dog both bird don't é/x")
+        (affedit-mode 1)))
+    (with-current-buffer second (affedit-change-dictionary "two") (wait #'affedit--idle-p))
+    (with-current-buffer first
+      (add "bird")
+      (marked "a word of the first list" '("dog" "don't" "é" "x")))
+    (with-current-buffer second
+      (marked "is not one of the second" '("cat" "bird" "don't" "é" "x"))
+      (add "cat")
+      (marked "a word of the second list" '("bird" "don't" "é" "x")))
+    (expect "the lists" (equal '("bird\n" "cat\n") (mapcar #'read-file (list (list-of "one") (list-of "two")))))
+    (with-current-buffer first
+      (add "dog")
+      (add "é")
+      (add "*both")
+      (marked "a list of four" '("both" "don't" "x"))
+      (expect "the word at point" (equal "é" (forget-here "é")))
+      (marked "is marked again" '("both" "don't" "é" "x"))
+      (expect-marks "and drawn" '((1 8 12) (1 18 23) (1 24 26) (1 27 28)))
+      (expect "a word that is prohibited, at point" (equal "*both" (forget-here "both")))
+      (marked "is not marked any more" '("don't" "é" "x"))
+      (expect "a word that is not in the list is refused"
+              (condition-case nil (progn (affedit-forget "cat") nil) (user-error t)))
+      (expect "as is none" (condition-case nil (progn (affedit-forget "") nil) (user-error t)))
+      (expect "no item is proposed at another word" (condition-case nil (progn (forget-here "don't") nil) (error t)))
+      (expect "the list has the others" (equal "bird\ndog\n" (read-file (list-of "one"))) (read-file (list-of "one"))))
+    (with-current-buffer second
+      (marked "the second list stays" '("bird" "don't" "é" "x")))
+    ;; A word that waits is taken back before it is kept.
+    (with-current-buffer first
+      (affedit-add "don")
+      (affedit-forget "don")
+      (marked "a word that was not yet kept" '("don't" "é" "x"))
+      (expect "is in no file" (equal "bird\ndog\n" (read-file (list-of "one"))))
+      (affedit-add "don")
+      (kill-buffer))
+    (expect "a word that is added as its buffer goes is kept"
+            (wait (lambda () (equal "bird\ndog\ndon\n" (read-file (list-of "one"))))) (read-file (list-of "one")))
+    (expect "and the process ends then" (wait (lambda () (= 1 (program-processes)))))))
+
+(defun try-shared-lists ()
+  "A list for all dictionaries: that of before, which each list begins with, and that of `affedit-own'."
+  (make-dictionaries)
+  (let ((shared (concat work "/data/affedit/words")))
+    (mapc (lambda (name) (when (file-exists-p (list-of name)) (delete-file (list-of name)))) '("one" "two"))
+    (write shared "bird\nfish")
+    (with-buffers (first)
+      (with-current-buffer first
+        (insert "cat bird fish fly")
+        (affedit-mode 1)
+        (marked "the words of before are known" '("fly"))
+        (add "fly")
+        (affedit-forget "bird")
+        (marked "and may be taken back" '("bird"))
+        (affedit-change-dictionary "two")
+        (marked "each dictionary begins with them" '("cat" "fly"))))
+    (expect "the list of before stays as it is" (equal "bird\nfish" (read-file shared)))
+    (expect "the list of one" (equal "fish\nfly\n" (read-file (list-of "one"))) (read-file (list-of "one")))
+    (expect "the list of the other" (equal "bird\nfish" (read-file (list-of "two"))))
+    (expect "no other file is left"
+            (equal '("words" "words.one" "words.two") (directory-files (concat work "/data/affedit") nil "words\\($\\|\\.one\\|\\.two\\)"))))
+  (let ((affedit-own (concat work "/all")))
+    (with-buffers (first second)
+      (with-current-buffer first (insert "cat bird") (affedit-mode 1))
+      (with-current-buffer second (insert "dog bird") (setq-local affedit-dictionary "two") (affedit-mode 1))
+      (with-current-buffer first (add "bird") (marked "a list for all" nil))
+      (with-current-buffer second (marked "in another dictionary" nil) (affedit-forget "bird") (marked "taken back" '("bird")))
+      (with-current-buffer first (marked "taken back in the first" '("bird"))))
+    (expect "the list for all is empty" (equal "" (read-file affedit-own)))))
+
+(defun try-items ()
+  "Lines of a list, and which of them stands at point."
+  (let ((list (concat work "/items")))
+    (write list "cat\r\n  dog \n\nca\ncat/dog\ncat\n*fox/x\na\\/b\nwithout end")
+    (expect "the items" (equal '("cat" "dog" "ca" "cat/dog" "*fox/x" "a\\/b" "without end") (affedit--items list)) (affedit--items list))
+    (expect "their words" (equal '("cat" "dog" "ca" "cat" "fox" "a/b" "without end") (mapcar #'affedit--item-word (affedit--items list))))
+    (expect "a word that is not there" (not (affedit--remove-item list "CAT")))
+    (expect "it is removed" (affedit--remove-item list "cat"))
+    (expect "everywhere, and nothing else" (equal "  dog \n\nca\ncat/dog\n*fox/x\na\\/b\nwithout end" (read-file list)) (read-file list))
+    (expect "in the middle" (affedit--remove-item list "dog"))
+    (expect "at the end" (affedit--remove-item list "without end"))
+    (expect "signs of a pattern" (and (affedit--remove-item list "*fox/x") (affedit--remove-item list "a\\/b")))
+    (expect "the others stay" (equal "\nca\ncat/dog\n" (read-file list)) (read-file list))
+    (make-symbolic-link list (concat work "/link") t)
+    (set-file-modes list #o640)
+    (expect "by a link" (affedit--remove-item (concat work "/link") "ca"))
+    (expect "the link and the modes stay" (and (file-symlink-p (concat work "/link")) (= #o640 (file-modes list))
+                                               (equal "\ncat/dog\n" (read-file list)))))
+  (with-temp-buffer
+    (insert "catalog x-ray don't Fox U.S.A. usw.")
+    (dolist (case '((2 ("cat" "catalog") "catalog") (2 ("cat") nil) (10 ("ray" "x-ray") "x-ray") (17 ("don't" "don") "don't")
+                    (20 ("don't") "don't") (21 ("fox") "fox") (22 ("fox" "*Fox/x") "*Fox/x") (28 ("U.S.A") "U.S.A") (34 ("usw") "usw")
+                    (36 ("usw.") "usw.") (21 ("bird") nil) (2 nil nil)))
+      (goto-char (car case))
+      (expect "the item at point" (equal (nth 2 case) (affedit--item-here (nth 1 case))) (list case (affedit--item-here (nth 1 case)))))))
+
 (defun run ()
   "Run all tests, or that which ONLY of the environment names."
-  (mapc #'funcall (if (getenv "ONLY") (list (intern (getenv "ONLY"))) '(try-scopes try-processes try-changes try-files))))
+  (mapc #'funcall (if (getenv "ONLY") (list (intern (getenv "ONLY"))) '(try-scopes try-processes try-changes try-files try-lists try-shared-lists try-items))))
 
 (condition-case fault
     (run)
