@@ -62,7 +62,20 @@ has_enchant_headers() {
     pkg-config --exists enchant-2 glib-2.0 gmodule-2.0 2> /dev/null
 }
 
+# The package of each of Debian's dictionaries that tests use.
+declare -A package_of_dictionary=([de_DE_frami]=hunspell-de-de-frami [en_US]=hunspell-en-us [hu_HU]=hunspell-hu)
+
+# is_installed NAME: whether this dictionary of Debian's is there.
+is_installed() {
+    [ -e "/usr/share/hunspell/$1.aff" ] && [ -e "/usr/share/hunspell/$1.dic" ]
+}
+
+# has_dictionary WHAT NAME: whether this dictionary is there. If not, it reports that WHAT is left out.
+has_dictionary() {
+    is_installed "$2" || { skip "$1" "the package ${package_of_dictionary[$2]}"; return 1; }
+}
+
 # has_english: whether Debian's English dictionary is there, by which README.md checks a line.
 has_english() {
-    [ -e /usr/share/hunspell/en_US.aff ] && [ -e /usr/share/hunspell/en_US.dic ]
+    is_installed en_US
 }

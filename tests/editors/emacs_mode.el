@@ -1,7 +1,8 @@
 ;;; emacs_mode.el --- What the mode for Emacs marks, by scope, dictionary and personal list  -*- lexical-binding: t -*-
 
-;; Runs in batch mode.  The environment has TOP, WORK (a folder), COMPILED (the folder of the mode) and PROGRAM.  Each failure is printed,
-;; and then how much was compared.
+;; Runs in batch mode.  The environment has TOP, WORK (a folder), COMPILED (the folder of the mode), PROGRAM, and DICTIONARIES, the names of
+;; real ones, which are prepared in WORK/data/affedit.  EDITS random edits are drawn from SEED.  Each failure is printed, and then how much
+;; was compared.
 
 (setq gc-cons-threshold 50000000 inhibit-message t make-backup-files nil auto-save-default nil create-lockfiles nil
       enable-local-variables :safe)
@@ -454,9 +455,129 @@
       (goto-char (car case))
       (expect "the item at point" (equal (nth 2 case) (affedit--item-here (nth 1 case))) (list case (affedit--item-here (nth 1 case)))))))
 
+;; Random edits beside `check', by real dictionaries.
+
+(defvar vocabulary
+  '(("en_US" "the" "house" "isn't" "reader's" "running" "cities" "wrold" "citys" "2nd" "11st" "don’t" "Paris" "naïve" "x" "teh")
+    ("de_DE_frami" "das" "Haus" "Häuser" "Straße" "Donaudampfschifffahrt" "schön" "z.B." "usw." "Hudn" "läuft" "Tischplate" "GROẞ" "x-mal")
+    ("hu_HU" "ház" "házak" "kutyáinkkal" "szép" "gyönyörű" "hzá" "legszebb" "megmagyarázhatatlan" "nem" "autóbusszz" "ötvenkettő" "-e"))
+  "Words of each dictionary, right ones and wrong ones.")
+
+(defun some-words (count)
+  "COUNT words of the buffer's dictionary, and some signs."
+  (let ((words (cdr (assoc affedit-dictionary vocabulary))))
+    (mapconcat (lambda (_) (if (= 0 (random 12))
+                               (nth (random 6) '("слово" "“x”" "\t" "…" "xx-yy/zz" "東京"))
+                             (nth (random (length words)) words)))
+               (number-sequence 1 count) " ")))
+
+(defun some-lines (count)
+  "COUNT lines of the buffer's dictionary."
+  (mapconcat (lambda (_) (some-words (random 8))) (number-sequence 1 count) "\n"))
+
+(defun somewhere ()
+  "Go to any place of the buffer."
+  (goto-char (+ (point-min) (random (1+ (buffer-size))))))
+
+(defun add-some-mark ()
+  "Add a marked word, at random prohibit a word or add one by a model."
+  (let* ((marks (affedit--list)) (mark (nth (random (max 1 (length marks))) marks))
+         (words (cdr (assoc affedit-dictionary vocabulary))) (word (nth (random (length words)) words)))
+    (when mark
+      (goto-char (point-min))
+      (forward-line (1- (car mark)))
+      (let ((marked (buffer-substring-no-properties (affedit--place (point) (nth 1 mark)) (affedit--place (point) (nth 2 mark)))))
+        (affedit-add (pcase (random 4)
+                       (0 (concat "*" word))
+                       (1 (concat marked "/" word))
+                       (_ marked)))))))
+
+(defun take-some-back ()
+  "Take any item of the list back."
+  (let ((items (affedit--items (affedit--speller-own affedit--speller))))
+    (when items
+      (affedit-forget (nth (random (length items)) items)))))
+
+(defvar edits
+  '((lambda () (somewhere) (insert (some-words 2)))
+    (lambda () (somewhere) (insert "x"))
+    (lambda () (somewhere) (delete-char 1))
+    (lambda () (somewhere) (kill-word 1))
+    (lambda () (somewhere) (kill-line 1))
+    (lambda () (somewhere) (yank))
+    (lambda () (somewhere) (newline))
+    (lambda () (somewhere) (insert "\n" (some-lines 6) "\n"))
+    (lambda () (somewhere) (transpose-words 1))
+    (lambda () (somewhere) (transpose-lines 1))
+    (lambda () (somewhere) (upcase-word 2))
+    (lambda () (somewhere) (delete-region (point) (min (point-max) (+ (point) (random 200)))))
+    (lambda () (undo-boundary) (setq last-command nil) (undo (1+ (random 3))))
+    (lambda () (somewhere) (fill-paragraph))
+    add-some-mark add-some-mark add-some-mark take-some-back take-some-back)
+  "What is done to a buffer, each as likely as any other.")
+
+(defun checked ()
+  "The marks that `check' has of the buffer saved, each (LINE START STOP), without the dots at their ends."
+  (write (concat work "/text") (concat (buffer-string) "\n"))
+  (let* ((speller affedit--speller) (pair (affedit--speller-pair speller)) (own (affedit--speller-own speller)) marks)
+    (with-temp-buffer
+      (let ((status (call-process affedit-program nil t nil "check" (concat pair ".aff") (concat pair ".dic") (concat work "/text")
+                                  "--own" own)))
+        (expect "check looks at the text" (memq status '(0 1)) (buffer-string)))
+      (goto-char (point-min))
+      (while (looking-at "\\([0-9]+\\) \\([0-9]+\\) \\([0-9]+\\) .*?\\(\\.*\\)$")
+        (push (mapcar (lambda (group) (string-to-number (match-string group))) '(1 2 3)) marks)
+        (cl-decf (nth 2 (car marks)) (length (match-string 4)))
+        (forward-line 1))
+      (expect "check ends with its sum" (looking-at (format "%d of [0-9]+$" (length marks))) (buffer-string)))
+    (nreverse marks)))
+
+(defun try-edits ()
+  "After each pause in many edits the marks of a buffer are those of `check'."
+  (let* ((names (split-string (getenv "DICTIONARIES"))) (left (string-to-number (getenv "EDITS"))) (done 0) (added 0) (back 0)
+         (count (lambda (&rest _) (setq added (1+ added)))) (uncount (lambda (&rest _) (setq back (1+ back))))
+         (buffers (mapcar (lambda (name) (generate-new-buffer name)) names)))
+    (random (concat "edits" (getenv "SEED")))
+    (setq-default affedit-scope 'all)
+    (advice-add 'affedit--append-item :after count)
+    (advice-add 'affedit--take-back :after uncount)
+    (dolist (buffer buffers)
+      (with-current-buffer buffer
+        (setq-local affedit-dictionary (buffer-name))
+        (buffer-enable-undo)
+        (insert (some-lines 30))
+        (affedit-mode 1)))
+    (while (and buffers (> left 0))
+      (with-current-buffer (nth (random (length buffers)) buffers)
+        (dotimes (_ (min left (1+ (random 6))))
+          (undo-boundary)
+          (let ((edit (nth (random (length edits)) edits)))
+            ;; A command of Emacs may find nothing to do; those of the mode do not fail.
+            (if (symbolp edit)
+                (funcall edit)
+              (ignore-errors (funcall edit))))
+          (setq left (1- left) done (1+ done)))
+        (when (< (buffer-size) 200)
+          (insert (some-lines 20)))
+        (wait #'affedit--idle-p)
+        (expect-marks (format "%s after %d edits, seed %s" (buffer-name) done (getenv "SEED")) (checked))))
+    (dolist (buffer buffers)
+      (with-current-buffer buffer
+        (expect-marks (format "%s after all edits" (buffer-name)) (checked))
+        (expect "some words are marked" (affedit--list))
+        (set-buffer-modified-p nil)
+        (kill-buffer)))
+    (advice-remove 'affedit--append-item count)
+    (advice-remove 'affedit--take-back uncount)
+    (setq-default affedit-scope 'prose)
+    (expect "words were added, and taken back" (or (null buffers) (and (> added 10) (> back 5))) (list added back))
+    (expect "no process is left" (wait (lambda () (= 0 (program-processes)))) (process-list))))
+
 (defun run ()
   "Run all tests, or that which ONLY of the environment names."
-  (mapc #'funcall (if (getenv "ONLY") (list (intern (getenv "ONLY"))) '(try-scopes try-processes try-changes try-files try-lists try-shared-lists try-items))))
+  (mapc #'funcall (if (getenv "ONLY")
+                      (list (intern (getenv "ONLY")))
+                    '(try-scopes try-processes try-changes try-files try-lists try-shared-lists try-items try-edits))))
 
 (condition-case fault
     (run)
