@@ -571,6 +571,37 @@ Return its number; the launcher, which has started it, goes on."
   (affedit-restart)
   (compare "the sample's dictionary again"))
 
+(defun drawn ()
+  "The words that have overlays."
+  (mapcar (lambda (overlay) (buffer-substring-no-properties (overlay-start overlay) (overlay-end overlay)))
+          (sort (cl-remove-if-not (lambda (overlay) (overlay-get overlay 'affedit)) (overlays-in (point-min) (point-max)))
+                (lambda (one two) (< (overlay-start one) (overlay-start two))))))
+
+(defun try-comments ()
+  (open "/* foxx */\nint wrold;\n/* citys */\n")
+  (c-mode)
+  ;; Nothing but the mode has what follows a change drawn anew.
+  (font-lock-mode -1)
+  (mapc #'kill-local-variable '(jit-lock-contextually jit-lock-context-unfontify-pos))
+  (setq-local affedit-scope 'prose)
+  (affedit-mode 1)
+  (settle "code")
+  (expect "comments are marked alone" (equal (drawn) '("foxx" "citys")) (drawn))
+  (goto-char (point-min))
+  (end-of-line)
+  (delete-char -2)
+  (settle "a comment goes on")
+  ;; This is called where Emacs is idle for half a second.
+  (jit-lock-context-fontify)
+  (settle "what follows is drawn anew")
+  (expect "what became a comment is marked" (equal (drawn) '("foxx" "int" "wrold" "citys")) (drawn))
+  (insert "*/")
+  (settle "it ends again")
+  (jit-lock-context-fontify)
+  (settle "what follows is drawn anew again")
+  (expect "what became code is not marked" (equal (drawn) '("foxx" "citys")) (drawn))
+  (kill-local-variable 'affedit-scope))
+
 (defun try-large ()
   (open "")
   (affedit-mode -1)
@@ -606,7 +637,7 @@ Return its number; the launcher, which has started it, goes on."
   (make-directory (concat work "/data/affedit") t)
   (write (own) "")
   (let ((only (getenv "ONLY"))
-        (tests '(try-bytes try-long-lines try-states try-jumps try-dictionaries try-words try-dots try-ends try-large try-help)))
+        (tests '(try-bytes try-long-lines try-states try-jumps try-dictionaries try-words try-dots try-comments try-ends try-large try-help)))
     (if only
         (funcall (intern only))
       (edit-at-random 5)

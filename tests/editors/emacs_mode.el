@@ -424,6 +424,9 @@
     (with-buffers (first second)
       (with-current-buffer first (insert "cat bird") (affedit-mode 1))
       (with-current-buffer second (insert "dog bird") (setq-local affedit-dictionary "two") (affedit-mode 1))
+      ;; Both processes have read the list.
+      (dolist (buffer (list first second))
+        (with-current-buffer buffer (marked "an empty list for all" '("bird"))))
       (with-current-buffer first (add "bird") (marked "a list for all" nil))
       (with-current-buffer second (marked "in another dictionary" nil) (affedit-forget "bird") (marked "taken back" '("bird")))
       (with-current-buffer first (marked "taken back in the first" '("bird"))))
