@@ -344,26 +344,30 @@ Without that dictionary it is not checked: another one would mark nearly all wor
      (affedit--tell "%s" (error-message-string fault))
      (affedit-mode -1))))
 
+(defconst affedit--hooks
+  '((after-change-functions . affedit--after-change)
+    (post-command-hook . affedit--after-command)
+    (change-major-mode-hook . affedit--leave)
+    (kill-buffer-hook . affedit--leave)
+    (clone-buffer-hook . affedit--begin-clone)
+    (clone-indirect-buffer-hook . affedit--begin-clone)
+    (hack-local-variables-hook . affedit--follow))
+  "What a buffer that is checked calls, each (HOOK . FUNCTION).")
+
 (defun affedit--switch-on ()
   "Have this buffer checked."
   (setq affedit--end (copy-marker (1+ (buffer-size)) t)
         affedit--predicate (affedit--find-predicate))
-  (add-hook 'after-change-functions #'affedit--after-change nil t)
-  (add-hook 'post-command-hook #'affedit--after-command nil t)
-  (add-hook 'change-major-mode-hook #'affedit--leave nil t)
-  (add-hook 'kill-buffer-hook #'affedit--part nil t)
-  (add-hook 'hack-local-variables-hook #'affedit--follow nil t)
+  (dolist (hook affedit--hooks)
+    (add-hook (car hook) (cdr hook) nil t))
   ;; What is a comment or a string may change with a line before.
   (jit-lock-register #'affedit--fontify (and affedit--predicate t)))
 
 (defun affedit--switch-off ()
   "Have this buffer checked no more, and delete its marks."
   (affedit--part)
-  (remove-hook 'after-change-functions #'affedit--after-change t)
-  (remove-hook 'post-command-hook #'affedit--after-command t)
-  (remove-hook 'change-major-mode-hook #'affedit--leave t)
-  (remove-hook 'kill-buffer-hook #'affedit--part t)
-  (remove-hook 'hack-local-variables-hook #'affedit--follow t)
+  (dolist (hook affedit--hooks)
+    (remove-hook (car hook) (cdr hook) t))
   (jit-lock-unregister #'affedit--fontify)
   (setq affedit--dirty nil affedit--todo nil)
   (when affedit--end
@@ -395,8 +399,13 @@ Without that dictionary it is not checked: another one would mark nearly all wor
          (signal (car fault) (cdr fault)))))))
 
 (defun affedit--leave ()
-  "The major mode changes, and forgets the local variables."
+  "The buffer goes, or its major mode changes and forgets the local variables."
   (affedit-mode -1))
+
+(defun affedit--begin-clone ()
+  "The buffer is a clone, with a copy of all local variables: it is checked by itself."
+  (setq affedit--speller nil)
+  (affedit-mode 1))
 
 ;; What is known of a buffer.
 

@@ -271,6 +271,25 @@
                 (eq process (affedit--speller-process affedit--speller)))
         (marked "and its dictionary" '("cat"))))))
 
+(defun try-clones ()
+  "A clone of a buffer is checked by itself, and holds the process."
+  (make-dictionaries)
+  (with-buffers (first)
+    (with-current-buffer first
+      (insert "cat dog both")
+      (affedit-mode 1)
+      (wait #'affedit--idle-p))
+    (dolist (clone (with-current-buffer first (list (clone-indirect-buffer "indirect" nil) (clone-buffer "clone"))))
+      (with-current-buffer clone
+        (goto-char (point-max))
+        (insert " bird")
+        (marked "a clone" '("dog" "bird"))))
+    (with-current-buffer first (affedit-mode -1))
+    (accept-process-output nil 0.1)
+    (expect "a clone holds the process" (= 1 (processes) (program-processes)))
+    (mapc #'kill-buffer '("indirect" "clone"))
+    (expect "until it goes" (wait (lambda () (= 0 (program-processes)))))))
+
 (defun try-changes ()
   "The commands that choose a dictionary for a buffer, and for all."
   (make-dictionaries)
@@ -386,12 +405,20 @@
       (expect "no item is proposed at another word" (condition-case nil (progn (forget-here "don't") nil) (error t)))
       (expect "the list has the others" (equal "bird\ndog\n" (read-file (list-of "one"))) (read-file (list-of "one"))))
     (with-current-buffer second
-      (marked "the second list stays" '("bird" "don't" "é" "x")))
-    ;; A word that waits is taken back before it is kept.
+      (marked "the second list stays" '("bird" "don't" "é" "x")))))
+
+(defun try-waiting-words ()
+  "A word that waits to be kept may be taken back, and is kept though its buffer goes."
+  (make-dictionaries)
+  (write (list-of "one") "bird\ndog\n")
+  (with-buffers (first second)
+    (with-current-buffer second (setq-local affedit-dictionary "two") (affedit-mode 1))
     (with-current-buffer first
+      (insert "don dog bird")
+      (affedit-mode 1)
       (affedit-add "don")
       (affedit-forget "don")
-      (marked "a word that was not yet kept" '("don't" "é" "x"))
+      (marked "a word that was not yet kept" '("don"))
       (expect "is in no file" (equal "bird\ndog\n" (read-file (list-of "one"))))
       (affedit-add "don")
       (kill-buffer))
@@ -580,7 +607,7 @@
   "Run all tests, or that which ONLY of the environment names."
   (mapc #'funcall (if (getenv "ONLY")
                       (list (intern (getenv "ONLY")))
-                    '(try-scopes try-processes try-changes try-files try-lists try-shared-lists try-items try-edits))))
+                    '(try-scopes try-processes try-clones try-changes try-files try-lists try-waiting-words try-shared-lists try-items try-edits))))
 
 (condition-case fault
     (run)
