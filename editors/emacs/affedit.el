@@ -477,7 +477,7 @@ Without that dictionary it is not checked: another one would mark nearly all wor
                when (<= beg position (1- end)) return (cons beg end)))))
 
 (defun affedit--seek (forward)
-  "The position of the next mark, or of the one before; around the end of what is accessible.  Nil where there is none."
+  "The position of the next mark if FORWARD, or else of the one before; around the end of what is accessible.  Nil where there is none."
   (let ((from (point)) (low (point-min)) (high (point-max)) (turns 0) found done)
     (affedit--widened
       (while (not (or found done))
@@ -505,7 +505,7 @@ Without that dictionary it is not checked: another one would mark nearly all wor
 ;; Commands.
 
 (defun affedit--jump (forward)
-  "Move to the next mark, or the one before."
+  "Move to the next mark if FORWARD, or else to the one before."
   (affedit--speller-here)
   (let ((found (affedit--seek forward)))
     (if (not found)
