@@ -82,7 +82,7 @@
    (if (eq kind 'marks)
        (run-with-timer 0.3 nil #'mark-alone)
      (advice-add 'affedit--receive :after
-                 (lambda (texts _)
+                 (lambda (_speller texts _answers)
                    (when (member (buffer-substring-no-properties (line-beginning-position) (line-end-position)) texts)
                      (shown))))))
   ('flyspell
