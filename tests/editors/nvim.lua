@@ -56,8 +56,13 @@ local function expect_told(what, pattern)
     told = {}
 end
 
+-- That of the current buffer.
+local function the_service()
+    return marks.service_of(0)
+end
+
 local function settle(what)
-    expect(what .. ': the marks are in', wait(marks.is_idle), service.failed)
+    expect(what .. ': the marks are in', wait(marks.is_idle), the_service().failed)
 end
 
 local function read(path)
@@ -74,7 +79,10 @@ local function write(path, text)
 end
 
 local pair = { aff = top .. '/examples/sample.aff', dic = top .. '/examples/sample.dic' }
-local own = work .. '/data/affedit/words'
+local function own_of(stem)
+    return work .. '/data/affedit/words.' .. vim.fn.fnamemodify(stem, ':t')
+end
+local own = own_of('sample')
 
 -- The marks that `check` prints of lines, as `line start stop`, without the dots at a word's end. A line that it refuses has none.
 local checked
@@ -171,10 +179,11 @@ local function random(below)
     seed = (seed * 16807) % 2147483647
     return seed % below
 end
-local vocabulary = {
+local sample_words = {
     'the', 'citys', 'city', 'fox', 'foxs', 'rereads', 'wrold', '2nd', '11st', "who's", 'naïve', 'straße', 'слово', '東京', 'In',
     'THE', 'read-order', 'e\204\129t', '', '\t', '“fox”', 'x', 'in', 'was', 'orders.', 'a.b.', "'the'", '\240\159\153\130',
 }
+local vocabulary = sample_words
 local function words(count)
     local list = {}
     for _ = 1, count do
@@ -193,6 +202,7 @@ end
 local function open(lines)
     vim.cmd('silent only | enew!')
     api.nvim_buf_set_lines(0, 0, -1, true, lines)
+    vim.b.affedit_dictionary = pair.aff
     vim.cmd('Affedit on')
 end
 
@@ -459,55 +469,30 @@ end
 -- Exchanges the dictionary, and waits until that is done.
 local function use(stem)
     vim.cmd('Affedit dictionary ' .. stem)
-    wait(function() return service.options.pair.stem == stem end)
+    wait(function() return the_service().pair.stem == stem end)
     pair = { aff = stem .. '.aff', dic = stem .. '.dic' }
-end
-
-local function try_dictionaries()
-    write(work .. '/other.aff', 'SET UTF-8\n')
-    write(work .. '/other.dic', '2\ncitys\nwrold\n')
-    write(work .. '/bad.aff', 'SET ISO8859-1\n')
-    write(work .. '/bad.dic', '1\ncitys\n')
-    vim.fn.mkdir(work .. '/a folder', 'p')
-    write(work .. '/a folder/third.aff', 'SET UTF-8\n')
-    write(work .. '/a folder/third.dic', '1\nfox\n')
-    open(lines_of(400))
-    compare('before another dictionary')
-    told = {}
-    vim.cmd('Affedit dictionary ' .. work .. '/none')
-    expect_told('a dictionary that is not there is told', 'no dictionary')
-    vim.cmd('Affedit dictionary ' .. work .. '/bad')
-    wait(function() return #told > 0 end)
-    compare('a dictionary that is refused')
-    expect_told('it is told', 'bad is not read: aff 1 OtherEncoding; sample stays')
-    use(work .. '/other')
-    compare('another dictionary')
-    use(work .. '/a folder/third')
-    compare('a dictionary with a space in its path')
-    use(top .. '/examples/sample')
-    compare('the first dictionary again')
-    expect('nothing more was told', #told == 0, table.concat(told, '\n'))
+    own = own_of(stem)
 end
 
 -- Kills the program, and waits until its end is seen; `before` is called in between.
 local function kill_program(before)
-    local ending = service.process()
+    local ending = the_service().process
     vim.loop.kill(ending.pid, 9)
     if before then
         before()
     end
-    expect('the end of the program is seen', wait(function() return service.process() ~= ending end))
+    expect('the end of the program is seen', wait(function() return the_service().process ~= ending end))
 end
 
 -- The program, which the launcher has started.
 local function program_pid()
-    local pid = service.process().pid
+    local pid = the_service().process.pid
     return api.nvim_get_proc_children(pid)[1] or pid
 end
 
 -- Stops the program when it owes nothing, so that it is silent from the next request on.
 local function stop_program()
-    wait(function() return not service.process():is_waiting() end)
+    wait(function() return not the_service().process:is_waiting() end)
     local pid = program_pid()
     vim.loop.kill(pid, 'sigstop')
     return pid
@@ -544,8 +529,8 @@ local function try_ends()
     local kept = read(own)
     write(own, kept .. '*\n')
     affedit.run('restart')
-    expect('the end is seen', wait(function() return service.failed ~= nil end))
-    expect_told('a fault of the list is told with its line', 'words:%d+: EmptyWord; there are no marks until :Affedit restart')
+    expect('the end is seen', wait(function() return the_service().failed ~= nil end))
+    expect_told('a fault of the list is told with its line', 'words%.sample:%d+: EmptyWord; there are no marks until :Affedit restart')
     write(own, kept)
     affedit.run('restart')
     compare('the list is mended')
@@ -579,112 +564,41 @@ local function try_ends()
     compare('some of many changes')
     -- A program that does not answer is ended by the plugin, and one that is silent for a short while is not.
     expect('nothing is told of a short silence', #told == 0, table.concat(told, '\n'))
-    local launcher = service.process().pid
+    local launcher = the_service().process.pid
     stopped = stop_program()
     dialogue.silence = 2000
     keys('ofoxx wroldx')
     compare('a program that is stopped')
     expect_told('its silence is told', 'by signal 9: no answer for 2 seconds; it is started again')
     expect('it is gone', wait(function() return is_gone(stopped) and is_gone(launcher) end))
-    launcher = service.process().pid
+    launcher = the_service().process.pid
     stopped = stop_program()
     keys('ofoxx wroldy')
     affedit.run('restart')
     compare('a program that is stopped, and restarted')
     expect('it is gone too', wait(function() return is_gone(stopped) and is_gone(launcher) end))
     -- Before its input is too large another process takes its place.
-    local pid, most = service.process().pid, service.most_sent
-    service.most_sent = service.process().sent + 1000
+    local pid, most = the_service().process.pid, service.most_sent
+    service.most_sent = the_service().process.sent + 1000
     for at = 1, 40 do
         keys('ofoxx wrold' .. at .. words(30))
         settle('a process is renewed')
-        wait(function() return not service.process():is_waiting() end)
+        wait(function() return not the_service().process:is_waiting() end)
     end
     compare('a process is renewed')
-    expect('another process runs', service.process().pid ~= pid)
+    expect('another process runs', the_service().process.pid ~= pid)
     service.most_sent = most
     expect('nothing is told of that', #told == 0, table.concat(told, '\n'))
     service.ends_seconds = 1000000
     for _ = 1, 3 do
         kill_program()
-        wait(function() return service.failed or marks.is_idle() and service.process().answered > 0 end)
+        wait(function() return the_service().failed or marks.is_idle() and the_service().process.answered > 0 end)
     end
     service.ends_seconds = 10
-    expect('three ends in a row are no reason to start a fourth process', service.failed ~= nil)
+    expect('three ends in a row are no reason to start a fourth process', the_service().failed ~= nil)
     affedit.run('restart')
     compare('restarted after three ends')
     told = {}
-end
-
-local function try_words()
-    open({ 'the citys wrold citys', 'wrold Citys' })
-    compare('before a word is added')
-    api.nvim_win_set_cursor(0, { 1, 5 })
-    vim.cmd('Affedit add')
-    settle('a word is added')
-    expect('the word is in the file', read(own):find('citys\n', 1, true), read(own))
-    local left = compare('a word is added')
-    expect('its marks are gone', vim.deep_equal(left, { '1 10 15', '2 0 5' }), vim.inspect(left))
-    told = {}
-    local before = read(own)
-    vim.cmd('Affedit add *')
-    expect_told('a word that is refused is told', '`%*` is not taken: no own EmptyWord')
-    expect('and is not in the file', read(own) == before)
-    vim.cmd('Affedit add *the')
-    compare('a word is prohibited')
-    write(own, 'citys')
-    affedit.run('restart')
-    compare('a list without a last line feed')
-    vim.cmd('Affedit add wrold/fox')
-    kill_program()
-    compare('a word is added while the program ends')
-    expect('the word is in the file once', read(own) == 'citys\nwrold/fox\n', read(own))
-    write(own, '')
-    affedit.run('restart')
-    compare('the list is emptied')
-    told = {}
-end
-
--- A chosen suggestion leaves the dot behind the mark, and doubles none.
-local function suggest_with_dots()
-    local suggest, select = require('affedit.suggest'), vim.ui.select
-    local of, choice = suggest.of, nil
-    suggest.of = function() return { choice } end
-    vim.ui.select = function(list, _, done) done(list[1]) end
-    for _, case in ipairs({ { 'fxo.', 'fox', 'fox.' }, { 'ect.', 'etc.', 'etc.' }, { 'ect', 'etc.', 'etc.' } }) do
-        choice = case[2]
-        open({ case[1] })
-        settle('before a suggestion')
-        vim.cmd('Affedit suggest')
-        local line = api.nvim_get_current_line()
-        expect(('`%s` becomes `%s`'):format(case[1], case[3]), line == case[3], line)
-    end
-    suggest.of, vim.ui.select = of, select
-end
-
--- With a dot in WORDCHARS a mark is the word without the dots at its end, and so is what is added.
-local function try_dots()
-    write(work .. '/dots.aff', 'SET UTF-8\nWORDCHARS .\n')
-    write(work .. '/dots.dic', '1\nthe\n')
-    use(work .. '/dots')
-    open({ 'the Hudn. the. Hudn... z.B. z.B', '... Hudn' })
-    local function expect_marks(what, wanted)
-        local found = compare(what)
-        expect(what, vim.deep_equal(found, wanted), vim.inspect(found))
-    end
-    expect_marks('words with dots', { '1 4 8', '1 15 19', '1 23 26', '1 28 31', '2 4 8' })
-    -- At the dot behind the word.
-    api.nvim_win_set_cursor(0, { 1, 8 })
-    vim.cmd('Affedit add')
-    expect_marks('a word is known with dots and without', { '1 23 26', '1 28 31' })
-    vim.cmd('Affedit add z.B.')
-    expect_marks('an abbreviation is known with its dot', { '1 28 31' })
-    expect('the file has the words', read(own) == 'Hudn\nz.B.\n', read(own))
-    suggest_with_dots()
-    write(own, '')
-    use(top .. '/examples/sample')
-    affedit.run('restart')
-    expect('nothing is told of dots', #told == 0, table.concat(told, '\n'))
 end
 
 -- Lines and their marks that are in prose, as `start stop`, by a dictionary that knows no word but `the`.
@@ -830,7 +744,7 @@ local function try_help()
     expect('and no fault', not listed:find('ERROR', 1, true), listed)
     expect('names are completed', vim.tbl_contains(affedit.complete('ne', 'Affedit ne'), 'next'))
     if vim.fn.executable('hunspell') == 1 then
-        local list = require('affedit.suggest').of('citys')
+        local list = require('affedit.suggest').of('citys', top .. '/examples/sample')
         expect('hunspell suggests', list and vim.tbl_contains(list, 'city'), vim.inspect(list))
     end
 end
@@ -841,9 +755,24 @@ local function try_edits()
 end
 
 local tests = {
-    try_edits, try_bytes, try_long_lines, try_states, try_jumps, try_many_diagnostics, try_dictionaries, try_words, try_dots, try_addresses,
-    try_scopes, compare_spans, try_ends, try_large, try_help,
+    try_edits, try_bytes, try_long_lines, try_states, try_jumps, try_many_diagnostics, try_addresses, try_scopes, compare_spans, try_ends,
+    try_large, try_help,
 }
+
+-- What the tests of other files use.
+package.loaded.nvim_tools = {
+    work = work, top = top, program = program, told = function() return told end, forget_told = function() told = {} end,
+    expect = expect, expect_told = expect_told, wait = wait, settle = settle, read = read, write = write, own_of = own_of, own = function() return own end,
+    shown = shown, compare = compare, lines_of = lines_of, open = open, keys = keys, use = use, kill_program = kill_program, is_gone = is_gone,
+    the_service = the_service, random = random, edits = edits, edit_names = names,
+    -- From here on `compare` asks for the current buffer by this dictionary, and random words are these.
+    turn_to = function(stem, some_words)
+        pair, own, vocabulary = { aff = stem .. '.aff', dic = stem .. '.dic' }, own_of(stem), some_words or sample_words
+    end,
+}
+for _, name in ipairs({ 'nvim_words' }) do
+    vim.list_extend(tests, dofile(top .. '/tests/editors/' .. name .. '.lua'))
+end
 
 local function run()
     -- With ONLY, the number of one of the tests.

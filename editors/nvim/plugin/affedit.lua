@@ -13,7 +13,7 @@ end, {
         return require('affedit').complete(lead, line)
     end,
 })
-for _, name in ipairs({ 'next', 'previous', 'toggle', 'suggest', 'add' }) do
+for _, name in ipairs({ 'next', 'previous', 'toggle', 'suggest', 'add', 'forget' }) do
     vim.keymap.set('n', '<Plug>(affedit-' .. name .. ')', function()
         require('affedit').run(name)
     end)

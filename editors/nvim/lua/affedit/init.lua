@@ -1,7 +1,11 @@
 -- Marks of misspelled words as they are typed, by Affedit. README.md tells how it is set up and what it does.
+local buffers = require('affedit.buffers')
+local diagnostics = require('affedit.diagnostics')
 local dictionaries = require('affedit.dictionaries')
+local jumps = require('affedit.jumps')
 local marks = require('affedit.marks')
 local service = require('affedit.service')
+local words = require('affedit.words')
 local M = {}
 
 -- The launcher of the checkout or of the installation that this file belongs to; without one, what is found by the name `affedit`.
@@ -20,16 +24,15 @@ end
 
 local is_set = false
 
--- options: `program`, the path of the launcher; `dictionary`, a name; `own`, the file of the personal list; `filetypes`, a list of
--- those that are checked without a command; `scope`, `prose` without marks in addresses, or `all`.
+-- options: `program`, the path of the launcher; `dictionary`, a name, or a function that gets a buffer and returns one; `own`, the file of
+-- one personal list for all dictionaries; `filetypes`, a list of those that are checked without a command; `scope`, `prose` without marks
+-- in addresses, or `all`.
 function M.setup(options)
     options = options or {}
-    local pair, missing = dictionaries.find(options.dictionary or 'en_US')
     service.options = {
         program = options.program or default_program(),
-        own = options.own or dictionaries.own_file(),
-        pair = pair,
-        missing = missing,
+        own = options.own,
+        dictionary = options.dictionary or 'en_US',
         scope = options.scope or 'prose',
     }
     if not vim.tbl_contains({ 'prose', 'all' }, service.options.scope) then
@@ -41,14 +44,23 @@ function M.setup(options)
         is_set = true
     end
     local group = vim.api.nvim_create_augroup('affedit', {})
-    for _, filetype in ipairs(options.filetypes or {}) do
+    -- What else is set for a filetype, as `b:affedit_dictionary`, is set before a buffer is marked.
+    local function on_filetype(pattern, is_wanted)
         vim.api.nvim_create_autocmd('FileType', {
             group = group,
-            pattern = filetype,
-            callback = function(event)
-                marks.on(event.buf)
-            end,
+            pattern = pattern,
+            callback = vim.schedule_wrap(function(event)
+                if is_wanted(event.buf) then
+                    marks.on(event.buf)
+                end
+            end),
         })
+    end
+    on_filetype('*', marks.is_on)
+    for _, filetype in ipairs(options.filetypes or {}) do
+        on_filetype(filetype, function()
+            return true
+        end)
     end
 end
 
@@ -58,29 +70,34 @@ local function ensure_set()
     end
 end
 
-local function word_here()
-    local buf, cursor = vim.api.nvim_get_current_buf(), vim.api.nvim_win_get_cursor(0)
-    local mark = marks.at(buf, cursor[1] - 1, cursor[2])
-    if not mark then
-        return vim.fn.expand('<cword>')
-    end
-    local text = vim.api.nvim_buf_get_lines(buf, cursor[1] - 1, cursor[1], false)[1]
-    return text:sub(mark[1] + 1, mark[2])
+local function current()
+    return vim.api.nvim_get_current_buf()
 end
 
 local function status()
-    local count = marks.count(vim.api.nvim_get_current_buf())
-    local process, pair = service.process(), service.options.pair
+    local count, state = marks.count(current()), buffers.state(current())
+    local used = state and state.service
+    local pair, reason = used and used.pair, nil
+    if not used then
+        pair, reason = service.pair_of(current())
+    end
+    local process = used and used.process and 'process ' .. used.process.pid or 'no process'
     local lines = {
-        ('dictionary %s, %s'):format(pair and pair.stem or 'none', process and 'process ' .. process.pid or 'no process'),
+        ('dictionary %s, %s'):format(pair and pair.stem or 'none', process),
         ('%d marks in %d lines; %d lines wait, %d are not checked'):format(count.marks, count.lines, count.waiting, count.refused),
-        service.failed,
+        used and used.failed or reason,
     }
     service.tell(table.concat(lines, '\n'), vim.log.levels.INFO)
 end
 
-local function current()
-    return vim.api.nvim_get_current_buf()
+-- Calls `call` with the service of the current buffer, checked or not.
+local function with_service(call)
+    local chosen, reason = marks.service_of(current())
+    if chosen then
+        call(chosen)
+    else
+        service.tell(reason)
+    end
 end
 
 M.commands = {
@@ -104,27 +121,29 @@ M.commands = {
         marks.set_scope(current(), 'prose')
     end,
     next = function()
-        marks.jump(true)
+        jumps.jump(true)
     end,
     previous = function()
-        marks.jump(false)
+        jumps.jump(false)
     end,
     add = function(line)
-        service.add(line ~= '' and line or word_here())
+        with_service(function(chosen)
+            chosen:add(line ~= '' and line or words.here())
+        end)
+    end,
+    forget = function(line)
+        with_service(function(chosen)
+            chosen:forget(line ~= '' and words.named(line) or words.listed_here)
+        end)
     end,
     dictionary = function(name)
-        local pair, reason = dictionaries.find(name)
-        if pair then
-            service.exchange(pair)
-        else
-            service.tell(reason)
-        end
+        marks.set_dictionary(current(), name)
     end,
     diagnostics = function()
-        marks.diagnostics(current())
+        diagnostics.show(current())
     end,
     nodiagnostics = function()
-        marks.reset_diagnostics(current())
+        diagnostics.reset(current())
     end,
     suggest = function()
         require('affedit.suggest').choose()
@@ -134,9 +153,9 @@ M.commands = {
 }
 
 -- `:Affedit NAME REST`; without words, `toggle`.
-function M.run(words)
+function M.run(call)
     ensure_set()
-    local name, rest = words:match('^%s*(%S*)%s*(.-)%s*$')
+    local name, rest = call:match('^%s*(%S*)%s*(.-)%s*$')
     local command = M.commands[name == '' and 'toggle' or name]
     if command then
         command(rest)

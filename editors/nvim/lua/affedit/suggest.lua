@@ -3,12 +3,12 @@ local marks = require('affedit.marks')
 local service = require('affedit.service')
 local M = {}
 
--- The suggestions of hunspell for a word, or nil and a reason.
-function M.of(word)
+-- The suggestions of hunspell for a word by the dictionary of a path, or nil and a reason.
+function M.of(word, stem)
     if vim.fn.executable('hunspell') == 0 then
         return nil, 'there is no hunspell, so there are no suggestions'
     end
-    local output = vim.fn.systemlist({ 'hunspell', '-a', '-i', 'utf-8', '-d', service.options.pair.stem }, '^' .. word .. '\n')
+    local output = vim.fn.systemlist({ 'hunspell', '-a', '-i', 'utf-8', '-d', stem }, '^' .. word .. '\n')
     for _, line in ipairs(output) do
         local list = line:match('^& .- %d+ %d+: (.*)$')
         if list then
@@ -31,7 +31,7 @@ function M.choose()
     local start, stop = unpack(mark)
     local text = vim.api.nvim_buf_get_lines(buf, row, row + 1, false)[1]
     local word = text:sub(start + 1, stop)
-    local list, reason = M.of(word)
+    local list, reason = M.of(word, marks.service_of(buf).pair.stem)
     if not list then
         service.tell(reason)
         return
