@@ -31,8 +31,25 @@ if [ "$status" != 1 ]; then
     exit 1
 fi
 
+# prepare NAME: makes a dictionary that the program reads of one of Debian's, and adds its path without `.aff` to DICTIONARIES.
+prepare() {
+    local what="the plugin in Neovim by the dictionary $1" stem=$work/dictionaries/$1
+    if has_dictionary "$what" "$1" && has "$what" python3; then
+        "$top/tools/prepare-dictionary" --lossy "$1" "$stem" > "$work/prepared" 2>&1 || {
+            tail -n 5 "$work/prepared"
+            failed=1
+        }
+        DICTIONARIES+=:$stem
+    fi
+}
+
 # The two editors run at once.
 if has 'the plugin in Neovim' nvim; then
+    mkdir "$work/dictionaries"
+    export DICTIONARIES=''
+    for name in en_US de_DE_frami hu_HU; do
+        prepare "$name"
+    done
     has 'the addresses of Neovim beside those of affedit-check' python3 || true
     mkdir "$work/nvim"
     # shellcheck disable=SC2016

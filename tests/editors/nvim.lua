@@ -770,7 +770,7 @@ package.loaded.nvim_tools = {
         pair, own, vocabulary = { aff = stem .. '.aff', dic = stem .. '.dic' }, own_of(stem), some_words or sample_words
     end,
 }
-for _, name in ipairs({ 'nvim_words' }) do
+for _, name in ipairs({ 'nvim_words', 'nvim_real' }) do
     vim.list_extend(tests, dofile(top .. '/tests/editors/' .. name .. '.lua'))
 end
 

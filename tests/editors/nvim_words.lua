@@ -135,6 +135,11 @@ local function dictionary(name, words)
     return stem
 end
 
+-- Whether there is a service of a dictionary.
+local function is_used(stem)
+    return #vim.tbl_filter(function(one) return one.pair.stem == stem end, service.all()) > 0
+end
+
 -- Each buffer is marked by its own dictionary and by the list of that, with one process for each dictionary that is in use.
 local function try_two_dictionaries()
     local one, two = dictionary('one', { 'fox' }), dictionary('two', { 'city' })
@@ -176,9 +181,7 @@ local function try_two_dictionaries()
     expect_shown('another dictionary in the first buffer', first, { '1 0 3' })
     expect('the choice is kept', vim.b.affedit_dictionary == two, vim.b.affedit_dictionary)
     vim.cmd('bwipeout! ' .. first)
-    expect('no service is left of these', wait(function()
-        return #vim.tbl_filter(function(one) return one.pair.stem == two or one.pair.stem == one end, service.all()) == 0
-    end))
+    expect('no service is left of these', wait(function() return not is_used(one) and not is_used(two) end))
     expect('nothing is told of two dictionaries', #told() == 0, table.concat(told(), '\n'))
 end
 
@@ -289,7 +292,7 @@ local function try_single_list()
     expect_items('the list has them', tools.own_of(three), { 'ciys', 'city' })
     expect('the single list stays', read(common) == 'wrold\nciys', read(common))
     vim.cmd('bwipeout!')
-    expect('its process ends', wait(function() return #service.all() == 0 end))
+    expect('its process ends', wait(function() return not is_used(three) end))
     service.options.own = common
     local _, second = open_by(three, { 'wrold fox citys city' })
     local _, third = open_by(four, { 'wrold fox citys city' })
