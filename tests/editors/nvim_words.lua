@@ -140,33 +140,16 @@ local function is_used(stem)
     return #vim.tbl_filter(function(one) return one.pair.stem == stem end, service.all()) > 0
 end
 
--- Each buffer is marked by its own dictionary and by the list of that, with one process for each dictionary that is in use.
-local function try_two_dictionaries()
-    local one, two = dictionary('one', { 'fox' }), dictionary('two', { 'city' })
-    tools.forget_told()
-    vim.cmd('silent only | enew!')
-    local text = { 'fox city wrold' }
-    local first_window, first = open_by(one, text)
-    local second_window, second = open_by(two, text)
-    local third_window, third = open_by(two, text)
-    settle('three buffers')
-    local function expect_shown(what, buf, wanted)
-        settle(what)
-        expect(what, vim.deep_equal(shown(buf), wanted), vim.inspect(shown(buf)))
-    end
-    expect_shown('the first buffer', first, { '1 4 8', '1 9 14' })
-    expect_shown('the second buffer', second, { '1 0 3', '1 9 14' })
-    expect_shown('the third buffer', third, { '1 0 3', '1 9 14' })
+local function expect_shown(what, buf, wanted)
+    settle(what)
+    expect(what, vim.deep_equal(shown(buf), wanted), vim.inspect(shown(buf)))
+end
+
+-- The process ends with the last buffer of its dictionary, switched off, exchanged or wiped out, and no earlier.
+local function end_one_by_one(one, two, first_window, second_window, third_window)
+    local first, second = api.nvim_win_get_buf(first_window), api.nvim_win_get_buf(second_window)
     local of_one, of_two = marks.service_of(first).process.pid, marks.service_of(second).process.pid
-    expect('two dictionaries have two processes', of_one ~= of_two and marks.service_of(third).process.pid == of_two)
-    vim.cmd('Affedit add wrold')
-    expect_shown('a word of the second dictionary', second, { '1 0 3' })
-    expect_shown('a word of the second dictionary, elsewhere', third, { '1 0 3' })
-    expect_shown('is none of the first', first, { '1 4 8', '1 9 14' })
-    expect_items('the list of the second', tools.own_of(two), { 'wrold' })
-    expect_items('the list of the first', tools.own_of(one), {})
-    api.nvim_win_close(third_window, true)
-    vim.cmd('bwipeout! ' .. third)
+    vim.cmd('bwipeout! ' .. api.nvim_win_get_buf(third_window))
     settle('one buffer of two is gone')
     vim.wait(50, function() return false end, 1)
     expect('the process stays for the other', not tools.is_gone(of_two) and marks.service_of(second).process.pid == of_two)
@@ -182,6 +165,29 @@ local function try_two_dictionaries()
     expect('the choice is kept', vim.b.affedit_dictionary == two, vim.b.affedit_dictionary)
     vim.cmd('bwipeout! ' .. first)
     expect('no service is left of these', wait(function() return not is_used(one) and not is_used(two) end))
+end
+
+-- Each buffer is marked by its own dictionary and by the list of that, with one process for each dictionary that is in use.
+local function try_two_dictionaries()
+    local one, two = dictionary('one', { 'fox' }), dictionary('two', { 'city' })
+    tools.forget_told()
+    vim.cmd('silent only | enew!')
+    local text = { 'fox city wrold' }
+    local first_window, first = open_by(one, text)
+    local second_window, second = open_by(two, text)
+    local third_window, third = open_by(two, text)
+    expect_shown('the first buffer', first, { '1 4 8', '1 9 14' })
+    expect_shown('the second buffer', second, { '1 0 3', '1 9 14' })
+    expect_shown('the third buffer', third, { '1 0 3', '1 9 14' })
+    local of_two = marks.service_of(second).process
+    expect('two dictionaries have two processes', marks.service_of(first).process ~= of_two and marks.service_of(third).process == of_two)
+    vim.cmd('Affedit add wrold')
+    expect_shown('a word of the second dictionary', second, { '1 0 3' })
+    expect_shown('a word of the second dictionary, elsewhere', third, { '1 0 3' })
+    expect_shown('is none of the first', first, { '1 4 8', '1 9 14' })
+    expect_items('the list of the second', tools.own_of(two), { 'wrold' })
+    expect_items('the list of the first', tools.own_of(one), {})
+    end_one_by_one(one, two, first_window, second_window, third_window)
     expect('nothing is told of two dictionaries', #told() == 0, table.concat(told(), '\n'))
 end
 
@@ -257,6 +263,10 @@ local function try_forget()
     forget(1, 0, 'wrold', { 'wr', 'citys' })
     forget(1, 0, 'citys', { 'wr' })
     forget(2, 2, '', {})
+    vim.cmd('Affedit add rold')
+    forget(1, 6, '', { 'rold' })
+    expect_told('a part of a word is not the word', 'no word of the personal list is at the cursor')
+    forget(1, 6, 'rold', {})
     expect('all marks are back', vim.deep_equal(tools.compare('all are taken back'), before))
     expect('nothing more is told', #told() == 0, table.concat(told(), '\n'))
     write(own(), '')
