@@ -764,13 +764,13 @@ package.loaded.nvim_tools = {
     work = work, top = top, program = program, told = function() return told end, forget_told = function() told = {} end,
     expect = expect, expect_told = expect_told, wait = wait, settle = settle, read = read, write = write, own_of = own_of, own = function() return own end,
     shown = shown, compare = compare, lines_of = lines_of, open = open, keys = keys, use = use, kill_program = kill_program, is_gone = is_gone,
-    the_service = the_service, random = random, edits = edits, edit_names = names,
+    expect_jumps = expect_jumps, expect_diagnostics = expect_diagnostics, the_service = the_service, random = random, edits = edits, edit_names = names,
     -- From here on `compare` asks for the current buffer by this dictionary, and random words are these.
     turn_to = function(stem, some_words)
         pair, own, vocabulary = { aff = stem .. '.aff', dic = stem .. '.dic' }, own_of(stem), some_words or sample_words
     end,
 }
-for _, name in ipairs({ 'nvim_words', 'nvim_real' }) do
+for _, name in ipairs({ 'nvim_words', 'nvim_real', 'nvim_code' }) do
     vim.list_extend(tests, dofile(top .. '/tests/editors/' .. name .. '.lua'))
 end
 

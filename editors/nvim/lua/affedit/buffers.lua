@@ -4,12 +4,19 @@ local M = {}
 
 -- By number, of each buffer: `service`, that of its dictionary; `trial`, the one that is to take its place; `before`, what the last one knew;
 -- `dirty`, the rows changed in this tick; `todo`, the rows that are to be looked at in batches; `told`, whether the user was told of a line
--- that is not checked; `scope`, what a command chose in place of the option.
+-- that is not checked; `scope`, what a command chose in place of the option; `source`, what knows the buffer's code, nil where all is prose;
+-- `seen`, of rows that were on the screen the answer, its marks that are not in code, and the change of the buffer after which the editor was
+-- asked; `guesses`, such marks by answer alone; `unseen`, rows of which the editor is to be asked, with the marks that were drawn.
 M.states = {}
 
--- The state of a buffer, nil where it is not checked. The current buffer is 0 too.
+-- The number of a buffer; the current one is 0 too.
+function M.number(buf)
+    return buf == 0 and api.nvim_get_current_buf() or buf
+end
+
+-- The state of a buffer, nil where it is not checked.
 function M.state(buf)
-    return M.states[buf == 0 and api.nvim_get_current_buf() or buf]
+    return M.states[M.number(buf)]
 end
 
 -- Calls `visit(first row, texts, window)` for the visible lines of each window of a buffer.

@@ -2,6 +2,7 @@
 local marks = require('affedit.marks')
 local reading = require('affedit.reading')
 local services = require('affedit.service')
+local turns = require('affedit.turns')
 local api = vim.api
 local M = {}
 
@@ -62,6 +63,36 @@ local function grouped(number)
     return (tostring(number):reverse():gsub('%d%d%d', '%0,'):reverse():gsub('^,', ''))
 end
 
+local function set(buf, all)
+    local shown = nearest(all, rows_on_screen(buf))
+    vim.diagnostic.set(listed, buf, vim.tbl_map(function(mark)
+        return diagnostic(buf, unpack(mark))
+    end, shown))
+    if #shown < #all then
+        local text = '%s of %s marks are diagnostics: those nearest to the screen'
+        services.tell(text:format(grouped(#shown), grouped(#all)), vim.log.levels.INFO)
+    end
+end
+
+-- Lists the marks of a buffer, from the start again if it changes meanwhile.
+local list
+list = function(buf)
+    if not marks.is_on(buf) then
+        return
+    end
+    turns.start(buf, function(pause)
+        return marks.list(buf, pause)
+    end, function(all)
+        if all then
+            set(buf, all)
+        else
+            reading.when_settled(buf, function()
+                list(buf)
+            end)
+        end
+    end)
+end
+
 -- Shows the marks of a buffer as diagnostics, when nothing of it waits. If there are too many, it tells how many are shown. A buffer that is
 -- not marked is marked first.
 function M.show(buf)
@@ -75,18 +106,7 @@ function M.show(buf)
     end
     marks.look_at_all(buf)
     reading.when_settled(buf, function()
-        if not api.nvim_buf_is_loaded(buf) then
-            return
-        end
-        local all = marks.list(buf)
-        local shown = nearest(all, rows_on_screen(buf))
-        vim.diagnostic.set(listed, buf, vim.tbl_map(function(mark)
-            return diagnostic(buf, unpack(mark))
-        end, shown))
-        if #shown < #all then
-            local text = '%s of %s marks are diagnostics: those nearest to the screen'
-            services.tell(text:format(grouped(#shown), grouped(#all)), vim.log.levels.INFO)
-        end
+        list(buf)
     end)
 end
 

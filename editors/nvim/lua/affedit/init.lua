@@ -5,6 +5,7 @@ local dictionaries = require('affedit.dictionaries')
 local jumps = require('affedit.jumps')
 local marks = require('affedit.marks')
 local service = require('affedit.service')
+local turns = require('affedit.turns')
 local words = require('affedit.words')
 local M = {}
 
@@ -74,12 +75,12 @@ local function current()
     return vim.api.nvim_get_current_buf()
 end
 
-local function status()
-    local count, state = marks.count(current()), buffers.state(current())
+local function tell_status(buf, count)
+    local state = buffers.state(buf)
     local used = state and state.service
     local pair, reason = used and used.pair, nil
     if not used then
-        pair, reason = service.pair_of(current())
+        pair, reason = service.pair_of(buf)
     end
     local process = used and used.process and 'process ' .. used.process.pid or 'no process'
     local lines = {
@@ -88,6 +89,19 @@ local function status()
         used and used.failed or reason,
     }
     service.tell(table.concat(lines, '\n'), vim.log.levels.INFO)
+end
+
+local function status()
+    local buf = current()
+    turns.start(buf, function(pause)
+        return marks.count(buf, pause)
+    end, function(count)
+        if count then
+            tell_status(buf, count)
+        else
+            service.tell('the text has changed while its marks were counted', vim.log.levels.INFO)
+        end
+    end)
 end
 
 -- Calls `call` with the service of the current buffer, checked or not.

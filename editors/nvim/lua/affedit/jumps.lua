@@ -3,6 +3,7 @@ local buffers = require('affedit.buffers')
 local marks = require('affedit.marks')
 local reading = require('affedit.reading')
 local services = require('affedit.service')
+local turns = require('affedit.turns')
 local api = vim.api
 local M = {}
 
@@ -35,39 +36,60 @@ local function ask_around(buf, row, forward, done)
     end)
 end
 
+-- Looks at the lines from a place on, until a mark, an unknown line or the end of the search. Returns the line and the byte of the mark.
+local function find(buf, place, forward, pause)
+    local total, is_slow = api.nvim_buf_line_count(buf), marks.has_code(buf)
+    while place.left > 0 do
+        local answer, shown = marks.known(buf, place.row, api.nvim_buf_get_lines(buf, place.row, place.row + 1, false)[1])
+        if answer == nil then
+            return nil
+        end
+        local found = in_line(shown, place.column, forward)
+        if found then
+            return { place.row + 1, found }
+        end
+        place.left = place.left - 1
+        place.row = (place.row + (forward and 1 or -1)) % total
+        place.column = forward and -1 or math.huge
+        if is_slow and type(answer) == 'table' and #answer > 0 then
+            pause()
+        end
+    end
+end
+
 -- Moves the cursor to the next mark, or the one before, around the end of the buffer. Lines that wait are asked about on the way. A buffer
--- that is not marked is marked first.
+-- that is not marked is marked first. Where the text or the cursor has changed meanwhile, nothing is done.
 function M.jump(forward)
     local buf, win = api.nvim_get_current_buf(), api.nvim_get_current_win()
-    local cursor, tick = api.nvim_win_get_cursor(win), api.nvim_buf_get_changedtick(buf)
-    local total = api.nvim_buf_line_count(buf)
-    -- The cursor's line is looked at twice: its one side first, and the other last.
-    local row, column, left = cursor[1] - 1, cursor[2], total + 1
-    local go_on
-    go_on = function()
-        if api.nvim_get_current_buf() ~= buf or api.nvim_buf_get_changedtick(buf) ~= tick or not marks.is_on(buf) then
-            return
-        end
-        while left > 0 do
-            local answer, shown = marks.known(buf, api.nvim_buf_get_lines(buf, row, row + 1, false)[1])
-            if answer == nil then
-                ask_around(buf, row, forward, go_on)
-                return
-            end
-            local found = in_line(shown, column, forward)
-            if found then
-                vim.cmd("normal! m'")
-                api.nvim_win_set_cursor(win, { row + 1, found })
-                return
-            end
-            left = left - 1
-            row = (row + (forward and 1 or -1)) % total
-            column = forward and -1 or math.huge
-        end
-        services.tell('no marks', vim.log.levels.INFO)
-    end
     if not marks.is_on(buf) then
         marks.on(buf)
+    end
+    local cursor, tick = api.nvim_win_get_cursor(win), api.nvim_buf_get_changedtick(buf)
+    -- The cursor's line is looked at twice: its one side first, and the other last.
+    local place = { row = cursor[1] - 1, column = cursor[2], left = api.nvim_buf_line_count(buf) + 1 }
+    local function is_current()
+        return api.nvim_get_current_win() == win and api.nvim_get_current_buf() == buf and marks.is_on(buf)
+            and api.nvim_buf_get_changedtick(buf) == tick and vim.deep_equal(cursor, api.nvim_win_get_cursor(win))
+    end
+    local go_on
+    go_on = function()
+        if not is_current() then
+            return
+        end
+        turns.start(buf, function(pause)
+            return find(buf, place, forward, pause) or {}
+        end, function(found)
+            if not found or not is_current() then
+                return
+            elseif found[1] then
+                vim.cmd("normal! m'")
+                api.nvim_win_set_cursor(win, found)
+            elseif place.left == 0 then
+                services.tell('no marks', vim.log.levels.INFO)
+            else
+                ask_around(buf, place.row, forward, go_on)
+            end
+        end)
     end
     go_on()
 end

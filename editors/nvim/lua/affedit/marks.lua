@@ -1,6 +1,7 @@
 -- The marks of the buffers that are checked, and how they are drawn. Rows count from 0 here, and the end of a range of rows is exclusive.
 local addresses = require('affedit.addresses')
 local buffers = require('affedit.buffers')
+local code = require('affedit.code')
 local dictionaries = require('affedit.dictionaries')
 local reading = require('affedit.reading')
 local services = require('affedit.service')
@@ -31,32 +32,51 @@ local function union(range, first, last)
     return { math.min(range[1], first), math.max(range[2], last) }
 end
 
--- The marks of an answer that are shown: without those in addresses, unless all are wanted.
-local function shown(state, text, answer)
+local function takes_all(state)
+    return (state.scope or services.options.scope) == 'all'
+end
+
+-- The marks of an answer to a row that are shown: without those in addresses and in code, unless all are wanted.
+local function shown(buf, state, row, text, answer)
     if type(answer) ~= 'table' then
         return {}
     end
-    local scope = state.scope or services.options.scope
-    return scope == 'all' and answer or addresses.without(text, answer)
+    return takes_all(state) and answer or code.without(buf, row, addresses.without(text, answer))
 end
 
--- What is known of a line of a buffer, nil where that is nothing: its answer, and the marks of that which are shown.
-function M.known(buf, text)
-    local state = buffers.state(buf)
+-- What is known of a row of a buffer, nil where that is nothing: its answer, and the marks of that which are shown.
+function M.known(buf, row, text)
+    buf = buffers.number(buf)
+    local state = states[buf]
     local answer = state and state.service.memo:get(text)
     if answer ~= nil then
-        return answer, shown(state, text, answer)
+        return answer, shown(buf, state, row, text, answer)
     end
+end
+
+-- The first row of a buffer that its program refused, and why.
+local function first_refused(buf, service)
+    local first, why
+    buffers.each_line(buf, function(row, text)
+        local answer = service.memo:get(text)
+        if type(answer) == 'string' and not first then
+            first, why = row, answer
+        end
+    end)
+    return first, why
 end
 
 -- Tells once of each buffer of a service that it has a line that is not checked.
 local function tell_of_refused(service)
     for buf, state in pairs(states) do
-        local refused = state.service == service and not state.told and M.count(buf).first_refused
-        if refused then
+        local row, answer = nil, nil
+        if state.service == service and not state.told then
+            row, answer = first_refused(buf, service)
+        end
+        if row then
             state.told = true
-            local why = refused.why == 'Command' and 'it is not UTF-8' or 'it has no space in 65,536 bytes'
-            services.tell(('line %d of buffer %d is not checked: %s'):format(refused.row + 1, buf, why))
+            local why = answer == 'Command' and 'it is not UTF-8' or 'it has no space in 65,536 bytes'
+            services.tell(('line %d of buffer %d is not checked: %s'):format(row + 1, buf, why))
         end
     end
 end
@@ -79,9 +99,49 @@ local function pin()
         api.nvim_buf_clear_namespace(pinned.buf, pins, 0, -1)
     end
     pinned = { buf = buf, row = row, text = text }
-    for at = 1, #answer, 2 do
-        api.nvim_buf_set_extmark(buf, pins, row, answer[at], { end_col = answer[at + 1] })
+    local found = shown(buf, state, row, text, answer)
+    for at = 1, #found, 2 do
+        api.nvim_buf_set_extmark(buf, pins, row, found[at], { end_col = found[at + 1] })
     end
+end
+
+-- Asks the editor what of the rows that were drawn is code, and draws those anew that were drawn otherwise.
+local function look_for_code(buf)
+    local state = states[buf]
+    if not (state and api.nvim_buf_is_loaded(buf)) then
+        return
+    end
+    local rows, tick = state.unseen, api.nvim_buf_get_changedtick(buf)
+    state.unseen = {}
+    for row, drawn_marks in pairs(rows) do
+        local text = api.nvim_buf_get_lines(buf, row, row + 1, false)[1]
+        local answer = text and state.service.memo:get(text)
+        if type(answer) == 'table' then
+            local found = shown(buf, state, row, text, answer)
+            state.seen[row] = { answer = answer, marks = found, tick = tick }
+            state.guesses[answer] = found
+            if not vim.deep_equal(found, drawn_marks) then
+                buffers.redraw(buf, row, row + 1)
+            end
+        end
+    end
+end
+
+-- The marks of a row of which some may be in code, as far as the editor was asked. It is asked behind the redraw, where the text has changed.
+-- Nil where nothing is known of the answer.
+local function seen_marks(buf, state, row, answer)
+    local seen = state.seen[row]
+    local is_known = seen and seen.answer == answer
+    local found = is_known and seen.marks or state.guesses[answer]
+    if not (is_known and seen.tick == api.nvim_buf_get_changedtick(buf)) then
+        if not next(state.unseen) then
+            vim.schedule(function()
+                look_for_code(buf)
+            end)
+        end
+        state.unseen[row] = found or {}
+    end
+    return found
 end
 
 -- Draws the lines anew that a service has answered.
@@ -167,34 +227,40 @@ function M.look_at_all(buf)
     end
 end
 
--- The marks of a line that waits, as they were: by the last dictionary, or those that the editor moved.
-local function last_marks(buf, state, row, text)
-    local answer = state.service.memo:stale(text)
-    if answer == nil and state.before then
-        answer = state.before:get(text)
+-- The marks of a line that the editor moved.
+local function pinned_marks(buf, row)
+    local found = {}
+    for _, mark in ipairs(api.nvim_buf_get_extmarks(buf, pins, { row, 0 }, { row, -1 }, { details = true })) do
+        found[#found + 1], found[#found + 2] = mark[3], mark[4].end_col or mark[3]
     end
-    if answer == nil then
-        answer = {}
-        for _, mark in ipairs(api.nvim_buf_get_extmarks(buf, pins, { row, 0 }, { row, -1 }, { details = true })) do
-            answer[#answer + 1], answer[#answer + 2] = mark[3], mark[4].end_col or mark[3]
-        end
-    end
-    return answer
+    return found
 end
 
--- Draws one line of the screen.
-local function draw(buf, row)
-    local state, text = states[buf], api.nvim_buf_get_lines(buf, row, row + 1, false)[1]
-    if not text then
-        return
-    end
+-- The marks of a line as they are drawn. What waits is drawn as it was: by the last dictionary, or by the marks that the editor moved.
+local function marks_to_draw(buf, state, row, text)
     local answer = state.service.memo:get(text)
     if answer == nil then
         reading.want(state.service, text)
         reading.send_soon(state.service)
-        answer = last_marks(buf, state, row, text)
+        answer = state.service.memo:stale(text)
+        if answer == nil and state.before then
+            answer = state.before:get(text)
+        end
     end
-    local found = shown(state, text, answer)
+    if type(answer) == 'string' then
+        return {}
+    elseif takes_all(state) then
+        return answer or pinned_marks(buf, row)
+    elseif answer and state.source and #answer > 0 then
+        answer = seen_marks(buf, state, row, answer)
+    end
+    return addresses.without(text, answer or pinned_marks(buf, row))
+end
+
+-- Draws one line of the screen.
+local function draw(buf, row)
+    local text = api.nvim_buf_get_lines(buf, row, row + 1, false)[1]
+    local found = text and marks_to_draw(buf, states[buf], row, text) or {}
     for at = 1, #found, 2 do
         if found[at] < found[at + 1] and found[at + 1] <= #text then
             api.nvim_buf_set_extmark(buf, drawn, row, found[at], {
@@ -206,10 +272,21 @@ local function draw(buf, row)
     end
 end
 
+-- Before a window is drawn: what was asked of code is void if the buffer has another syntax now.
+local function prepare(buf)
+    local state, source = states[buf], code.source(buf)
+    if state.source ~= source then
+        state.source, state.seen, state.guesses = source, {}, setmetatable({}, { __mode = 'k' })
+    end
+end
+
 function M.setup()
     api.nvim_set_decoration_provider(drawn, {
         on_win = function(_, _, buf)
-            return states[buf] ~= nil
+            if not states[buf] then
+                return false
+            end
+            prepare(buf)
         end,
         on_line = function(_, _, buf, row)
             draw(buf, row)
@@ -279,7 +356,7 @@ function M.on(buf)
     elseif states[buf] then
         M.exchange(buf, pair)
     else
-        local state = { service = services.of(pair) }
+        local state = { service = services.of(pair), seen = {}, unseen = {}, guesses = {} }
         states[buf] = state
         state.service.users[buf] = true
         attach(buf, state)
@@ -378,11 +455,28 @@ end
 
 M.is_idle = reading.is_idle
 
--- The marks that are shown of a buffer, as far as they are known, `{ row, start, stop }` each, in the order of the text.
-function M.list(buf)
-    local marks = {}
+-- Whether the editor has to be asked of each line with marks what of it is code, which takes it some tenths of a millisecond a mark.
+function M.has_code(buf)
+    buf = buffers.number(buf)
+    return states[buf] ~= nil and not takes_all(states[buf]) and code.source(buf) ~= nil
+end
+
+-- Calls `visit(row, answer, marks)` for all lines of a buffer, and `pause` behind each of which the editor was asked what is code.
+local function each_known(buf, pause, visit)
+    local is_slow = pause and M.has_code(buf)
     buffers.each_line(buf, function(row, text)
-        local _, found = M.known(buf, text)
+        local answer, found = M.known(buf, row, text)
+        visit(row, answer, found)
+        if is_slow and type(answer) == 'table' and #answer > 0 then
+            pause()
+        end
+    end)
+end
+
+-- The marks that are shown of a buffer, as far as they are known, `{ row, start, stop }` each, in the order of the text.
+function M.list(buf, pause)
+    local marks = {}
+    each_known(buf, pause, function(row, _, found)
         for at = 1, found and #found or 0, 2 do
             marks[#marks + 1] = { row, found[at], found[at + 1] }
         end
@@ -390,17 +484,15 @@ function M.list(buf)
     return marks
 end
 
--- How many marks and lines a buffer has, how many lines wait, how many are not checked, and the first of these.
-function M.count(buf)
+-- How many marks and lines a buffer has, how many lines wait, and how many are not checked.
+function M.count(buf, pause)
     local count = { marks = 0, lines = 0, waiting = 0, refused = 0 }
-    buffers.each_line(buf, function(row, text)
-        local answer, found = M.known(buf, text)
+    each_known(buf, pause, function(_, answer, found)
         count.lines = count.lines + 1
         if answer == nil then
             count.waiting = count.waiting + 1
         elseif type(answer) == 'string' then
             count.refused = count.refused + 1
-            count.first_refused = count.first_refused or { row = row, why = answer }
         else
             count.marks = count.marks + #found / 2
         end
@@ -414,7 +506,7 @@ function M.at(buf, row, column)
     while text:sub(column + 1, column + 1) == '.' do
         column = column - 1
     end
-    local _, found = M.known(buf, text)
+    local _, found = M.known(buf, row, text)
     for at = 1, found and #found or 0, 2 do
         if found[at] <= column and column < found[at + 1] then
             return { found[at], found[at + 1] }
