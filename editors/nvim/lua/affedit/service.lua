@@ -87,17 +87,18 @@ local function tell_of_end(service, process, code, signal, last)
     ends[#ends + 1] = vim.loop.now() / 1000
     local often = #ends >= most_ends and ends[#ends] - ends[#ends - most_ends + 1] < M.ends_seconds
     if often or (process.answered == 0 and signal == 0) then
-        service:fail(how .. (code == 125 and '; run the launcher `affedit` once in a shell, which builds it' or ''))
+        how = how .. (code == 125 and '; run the launcher `affedit` once in a shell, which builds it' or '')
+        service:fail(how, '; there are no marks until :Affedit restart')
     else
         M.tell(how .. '; it is started again')
     end
 end
 
 -- From here on there are no marks by this dictionary, for a reason that has to be mended first. Who tries it tells that himself.
-function Service:fail(reason)
+function Service:fail(reason, hint)
     self.failed = reason
     if #self.trials == 0 then
-        M.tell(reason .. '; there are no marks until :Affedit restart', vim.log.levels.ERROR)
+        M.tell(reason .. (hint or ''), vim.log.levels.ERROR)
     end
     self:end_trials()
 end
