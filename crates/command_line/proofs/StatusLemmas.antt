@@ -58,18 +58,25 @@ due-told : {answers : List ℕ → End → Type 0} {sink_failed : Type 0} {befor
     → Tells meant ends.due × Appends before now (ends.text ++ tail_of ends.due)
 due-told meant not_sink not_memory ends is = by ends.text ends.due ends.end ends.end_is ends.put is
   where
+    as_due : {before now : Option (List ℕ)} {status : ℕ} (text : List ℕ) (due end : End)
+        → due ≡ end → status ≡ status_at end → Appends before now (text ++ tail_of end)
+        → status ≡ meant → Tells meant due × Appends before now (text ++ tail_of due)
+    as_due {before = before} {now = now} text due end same told_as put is = (
+      subst (λ n. Tells n due) (ap status_at same ∙ sym told_as ∙ is) (told due),
+      subst (λ end. Appends before now (text ++ tail_of end)) (sym same) put,
+    )
+
     by : {sink_failed : Type 0} {before now : Option (List ℕ)} {status : ℕ} (text : List ℕ)
         (due end : End) → IsOrWanting due end
         → IsPut (status_at end) (text ++ tail_of end) sink_failed before now status → status ≡ meant
         → Tells meant due × Appends before now (text ++ tail_of due)
     by text due end end_is (Cut failed six put) is = absurd (not_sink (sym is ∙ six))
-    by text due end (inl wanting) (Whole told_as put) is =
+    by text Quiet end same (Whole told_as put) is = as_due text Quiet end (sym same) told_as put is
+    by text Marked end same (Whole told_as put) is = as_due text Marked end (sym same) told_as put is
+    by text (Failed failure) end (inl wanting) (Whole told_as put) is =
         absurd (not_memory (sym is ∙ told_as ∙ ap status_at wanting))
-    by {before = before} {now = now} text due end (inr found) (Whole told_as put) is =
-        let same : due ≡ end = cc in (
-          subst (λ n. Tells n due) (ap status_at same ∙ sym told_as ∙ is) (told due),
-          subst (λ end. Appends before now (text ++ tail_of end)) (sym same) put,
-        )
+    by text (Failed failure) end (inr found) (Whole told_as put) is =
+        as_due text (Failed failure) end (cc) told_as put is
 
 has-no-form : (asked : Option Request) → is_some asked ≡ false → asked ≡ None
 has-no-form None none = refl

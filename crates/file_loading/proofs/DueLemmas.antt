@@ -116,3 +116,21 @@ module _ (told : Option Folder) (names : DictionaryNamed) (result : Result OwnSe
     own-there told names there list is also,
     gives-then MayCome _ (λ d. d) result due (gives-then MayCome _ (λ d. d) result items gives),
   )
+
+-- beside the files of a dictionary of which something holds there is something of a list too
+pub files-there : {P : DictionaryFiles → Type 0} (told : Option Folder) (names : DictionaryNamed)
+    → (there : DictionaryFiles) × IsThere told names.aff names.dic there × P there
+    → (there : OwnFiles) × IsOwnThere told names there × P there.dictionary
+files-there None names (there, is, holds) =
+    let list = some-list names.own in
+    (record { dictionary = there; own = list.0 }, list.1, holds)
+  where
+    some-list : (name : Option (List ℕ))
+        → (own : Option (Option (List ℕ))) × (is_some own ≡ is_some name)
+    some-list None = (None, refl)
+    some-list (Some name) = (Some None, refl)
+files-there (Some folder) names (there, is, holds) = (
+  record { dictionary = there; own = option_map folder names.own },
+  rw is refl,
+  holds,
+)

@@ -60,6 +60,10 @@ in_force_due files = do
   dictionary ← dictionary_due files
   Ok (in_force dictionary)
 
+-- what is due of them as one dictionary without the list: the base
+abbrev pub unextended_due : OwnFiles → Result Lexicon Failure
+unextended_due files = base_due files.dictionary
+
 -- what a folder has of these names
 abbrev pub own_found_in : Folder → DictionaryNamed → OwnFiles
 own_found_in folder names = record {

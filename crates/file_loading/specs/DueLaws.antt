@@ -16,6 +16,7 @@ use Rattle.own_dictionary.specs.dictionary_swap.declared.fault.LoadFault.TheVari
 use Rattle.console_board.specs.Transcripts.{IsThere}
 use Rattle.file_loading.specs.Due.{IsFileThere, MayCome, OwnFiles, base_due, bytes_due_of_file}
 use Rattle.file_loading.specs.Due.{dictionary_due, in_force_due, items_due, list_due, own_due}
+use Rattle.file_loading.specs.Due.{unextended_due}
 use Rattle.file_loading.specs.Failures.{failure_of, is_fault, own_failure}
 use Rattle.file_loading.specs.Forms.{IsCaused, Met}
 use Rattle.file_loading.specs.declared.ending.End.TheVariants.{Failed}
@@ -102,6 +103,9 @@ pub in-force-told : (there : OwnFiles) → IfErr (in_force_due there) IsTold
 unfolding in_force_due
 in-force-told there =
     then-told (dictionary_due there) _ (dictionary-told there) (λ dictionary. tt)
+
+pub unextended-told : (there : OwnFiles) → IfErr (unextended_due there) IsTold
+unextended-told there = base-told there.dictionary
 
 -- so what a call fails with is told
 pub failure-told : {A : Type 0} {due : Result A Failure} {failure : Failure}

@@ -30,12 +30,12 @@ put-behind {text = text} {before = before} {middle = middle} {now = now} first f
     Cut (fails failed) is (appends-front before middle now first text put more)
 
 -- what ends a call is put behind what it has written
-pub ends-behind : {sink_failed whole_failed : Type 0} {answers : List ℕ → End → Type 0} {due : End}
+pub ends-behind : {sink_failed whole_failed : Type 0} {answers : List ℕ → End → Type 0}
     {before middle now : Option (List ℕ)} {status : ℕ}
-    (text : List ℕ) → (sink_failed → whole_failed) → Appends before middle text → answers text due
+    (text : List ℕ) (due : End) → (sink_failed → whole_failed) → Appends before middle text → answers text due
     → IsEndPut due sink_failed middle now status
     → EndsAs answers whole_failed before now status
-ends-behind {due = due} text fails put is (end, end_is, more) = record {
+ends-behind text due fails put is (end, end_is, more) = record {
   text = text;
   due = due;
   answer = is;

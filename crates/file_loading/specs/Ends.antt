@@ -35,9 +35,11 @@ pub data IsPut (meant : ℕ) (text : List ℕ) (sink_failed : Type 0) (before no
   Cut : sink_failed → status ≡ sink_status → AppendsFront before now text
       → IsPut meant text sink_failed before now status
 
--- an end is this one, or memory is wanting for its last line
+-- an end is this one, or memory is wanting for its last line, if it has one
 abbrev pub IsOrWanting : End → End → Type 0
-IsOrWanting due end = IsDueOr (Failed NoMemory) (Some due) end
+IsOrWanting Quiet end = end ≡ Quiet
+IsOrWanting Marked end = end ≡ Marked
+IsOrWanting (Failed failure) end = IsDueOr (Failed NoMemory) (Some (Failed failure)) end
 
 -- what ends a call was put
 abbrev pub IsEndPut : End → Type 0 → Option (List ℕ) → Option (List ℕ) → ℕ → Type 0

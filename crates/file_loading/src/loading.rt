@@ -5,13 +5,14 @@ ghost use Rattle.std.specs.Arc.{arc_value};
 ghost use Rattle.std.specs.Option.{option_copied};
 ghost use Rattle.outside.specs.lists.Answers.{GivesDue};
 ghost use Rattle.console_board.specs.Transcripts.{IsThere};
-ghost use Rattle.own_dictionary.specs.dictionary_swap.Loads.{DictionaryFiles};
+ghost use Rattle.own_dictionary.specs.dictionary_swap.Loads.{DictionaryFiles, MayComeOfLoads};
+ghost use Rattle.own_dictionary.specs.dictionary_swap.Loads.{lexicon_due};
 ghost use Rattle.own_dictionary.specs.dictionary_swap.declared.fault.LoadFault.TheVariants.{Failed};
 ghost use Rattle.own_dictionary.specs.dictionary_swap.declared.limits.TheConstants.{SIZE_LIMIT};
 ghost use Rattle.own_dictionary.specs.personal_words.Dictionaries.{IsLoadedBase, in_force};
 ghost use Rattle.file_loading.specs.Due.{IsFileThere, IsListThere, IsOwnThere, MayCome, OwnFiles};
 ghost use Rattle.file_loading.specs.Due.{base_due, bytes_due_of_file, dictionary_due, in_force_due};
-ghost use Rattle.file_loading.specs.Due.{items_due, list_due, own_due};
+ghost use Rattle.file_loading.specs.Due.{items_due, list_due, own_due, unextended_due};
 ghost use Rattle.file_loading.specs.declared.failure.Failure.TheVariants.{Load};
 
 use crate::failure::Failure;
@@ -19,7 +20,7 @@ use crate::names::DictionaryNames;
 use affix_strip::Stems;
 use outside::lists::NoMemory;
 use outside::{Files, load_file};
-use own_dictionary::OwnDictionary;
+use own_dictionary::{OwnDictionary, load};
 use own_dictionary::dictionary_swap::{LoadFault, SIZE_LIMIT, load_lexicon};
 use own_dictionary::personal_words::{OwnList, extend_with, read_own};
 use spell_types::{Affixes, Lexicon};
@@ -95,6 +96,58 @@ pub fn load_judge<F: Files>(
 {
     let parts = load_parts(alloc, files, names)?;
     Ok(judge_made(alloc, parts)?)
+}
+
+/// The dictionary of the two files that these names name, without a personal list, to be asked, which
+/// threads may share.
+pub fn load_unextended<F: Files>(
+    alloc: Global,
+    files: &mut F,
+    names: &DictionaryNames<'_>,
+) -> Result<Arc<Speller>, Failure>
+    ensures due { (there : OwnFiles) × IsOwnThere (F.told files.old) names.now there
+        × GivesDue MayCome (λ judge. arc_value judge) (unextended_due there) result }
+    ensures failed { IsErrOf result (Load Failed) → F.faults files.old < F.faults files.new }
+    ensures same { F.told files.new ≡ F.told files.old }
+    ensures count { F.faults files.old ≤ F.faults files.new }
+{
+    load_base_judge(alloc, files, names.aff, names.dic)
+}
+
+/// The dictionary of these two files alone, to be asked, which threads may share.
+pub fn load_base_judge<F: Files>(
+    alloc: Global,
+    files: &mut F,
+    aff: &str,
+    dic: &str,
+) -> Result<Arc<Speller>, Failure>
+    ensures due { (there : DictionaryFiles) × IsThere (F.told files.old) aff.now dic.now there
+        × GivesDue MayCome (λ judge. arc_value judge) (base_due there) result }
+    ensures failed { IsErrOf result (Load Failed) → F.faults files.old < F.faults files.new }
+    ensures same { F.told files.new ≡ F.told files.old }
+    ensures count { F.faults files.old ≤ F.faults files.new }
+{
+    match load_speller(alloc, files, aff, dic) {
+        Ok(judge) => Ok(judge),
+        Err(fault) => Err(Failure::from(fault)),
+    }
+}
+
+/// The same, where a fault is told as that of the files.
+pub fn load_speller<F: Files>(
+    alloc: Global,
+    files: &mut F,
+    aff: &str,
+    dic: &str,
+) -> Result<Arc<Speller>, LoadFault>
+    ensures due { (there : DictionaryFiles) × IsThere (F.told files.old) aff.now dic.now there
+        × GivesDue MayComeOfLoads (λ judge. arc_value judge) (lexicon_due there) result }
+    ensures failed { IsErrOf result Failed → F.faults files.old < F.faults files.new }
+    ensures same { F.told files.new ≡ F.told files.old }
+    ensures count { F.faults files.old ≤ F.faults files.new }
+{
+    let speller = load(alloc, files, aff, dic)?;
+    Ok(shared(alloc, speller)?)
 }
 
 /// The dictionary that is made of these parts, to be asked.

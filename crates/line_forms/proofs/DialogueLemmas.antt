@@ -51,7 +51,7 @@ pub dialogue-ends : {read : Reading} {quits : List ℕ → Bool} {answered : Ans
     → EndsAs (IsDialogue read quits answered) whole_failed before now status
 dialogue-ends {end = end} {before = before} {middle = middle} sink_failed ended said is written told
     fails put =
-    ends-behind said fails (by ended written told)
+    ends-behind said end fails (by ended written told)
     (record { ended = ended; end_is = told; is = is }) put
   where
     by : (ended : ReadingEnd) → IsWritten ended sink_failed before middle said

@@ -14,7 +14,7 @@ use Rattle.input_lines.specs.declared.reading_end.ReadingEnd.TheVariants as read
 use Rattle.console_board.specs.Transcripts.{is_quit}
 use Rattle.line_forms.specs.Dialogues.{AreReplied, Setting}
 use Rattle.pipe_mode.specs.Pipes.{ends_input, pipe_answers}
-use Rattle.file_loading.specs.Due.{IsOwnThere, OwnFiles, dictionary_due, in_force_due, own_found_in}
+use Rattle.file_loading.specs.Due.{IsOwnThere, OwnFiles, dictionary_due, own_found_in, unextended_due}
 use Rattle.file_loading.specs.Operands.{DictionaryNamed}
 use Rattle.file_loading.specs.declared.ending.End.{End}
 use Rattle.file_loading.specs.declared.ending.End.TheVariants.{Quiet, Failed}
@@ -127,4 +127,4 @@ edit_form names workers = dialogue_form true names dictionary_due is_quit (HasRe
 
 -- `pipe AFF DIC`
 abbrev pub pipe_form : DictionaryNamed → Form
-pipe_form names = dialogue_form false names in_force_due ends_input HasPiped
+pipe_form names = dialogue_form false names unextended_due ends_input HasPiped

@@ -8,14 +8,14 @@ ghost use Rattle.line_forms.specs.Forms.{pipe_form, IsDialogue};
 ghost use Rattle.file_loading.specs.Forms.{IsAnswerBy};
 
 use crate::ending::end_of;
-use file_loading::{DictionaryNames, End, Failure, SINK_FAILED, load_judge, put_end};
+use file_loading::{DictionaryNames, End, Failure, SINK_FAILED, load_unextended, put_end};
 use input_lines::{answer_lines, fitting_inputs_are_read};
 use outside::lists::NoMemory;
 use outside::{Files, Sink, Source};
 use pipe_mode::Pipe;
 use std::alloc::Global;
 
-/// Answers the lines that are read, to the end of the input, by a dictionary.
+/// Answers the lines that are read, to the end of the input, by a dictionary. It takes no personal list.
 pub fn pipe<F: Files, S: Source, K: Sink>(
     alloc: Global,
     names: DictionaryNames<'_>,
@@ -55,7 +55,7 @@ pub fn pipe<F: Files, S: Source, K: Sink>(
     ensures sink_count { K.Sink.faults out.old ≤ K.Sink.faults out.new }
 {
     fitting_inputs_are_read();
-    match load_judge(alloc, files, &names) {
+    match load_unextended(alloc, files, &names) {
         Ok(speller) => match Pipe::open(alloc, &speller) {
             Ok(mut pipe) => answer_input(alloc, &mut pipe, input, out),
             Err(NoMemory) => put_end(alloc, out, End::Failed(Failure::NoMemory)),

@@ -1,6 +1,6 @@
 -- Texts that are put one after another.
 use Rattle.std.proofs.Common.{◌≡◌, ◌∙◌, ℕ, ◌+◌, ◌<◌, List, ◌∷◌, ◌++◌, length, get_or, take, drop}
-use Rattle.std.proofs.Common.{map, Option, sym, ap, subst, append_assoc, String, Global, inr, refl}
+use Rattle.std.proofs.Common.{map, Option, sym, ap, subst, append_assoc, String, Global, refl}
 use Rattle.std.proofs.Common.{append-nil}
 use Rattle.std.proofs.lemmas.List.{drop_more, map-append, take-append-drop}
 use Rattle.std.proofs.lemmas.List.Concat.{flat_map-append}
@@ -56,6 +56,6 @@ all-put text fails is put = record {
   due = Quiet;
   answer = is;
   end = Quiet;
-  end_is = inr refl;
+  end_is = refl;
   put = rw (append-nil text) (put-sooner fails put);
 }

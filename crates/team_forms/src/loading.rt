@@ -1,64 +1,21 @@
-//! Loads the files that the words `team` and a script name.
+//! Loads the script that the words `team` name.
 
 ghost use Rattle.std.specs.Prelude.{◌≡◌, ◌<◌, ◌≤◌, ℕ, List, length, Option, IfOk, IsErrOf};
-ghost use Rattle.std.specs.Arc.{arc_value};
 ghost use Rattle.outside.specs.lists.Answers.{GivesDue, failing};
-ghost use Rattle.console_board.specs.Transcripts.{IsThere};
-ghost use Rattle.own_dictionary.specs.dictionary_swap.Loads.{DictionaryFiles, MayComeOfLoads};
-ghost use Rattle.own_dictionary.specs.dictionary_swap.Loads.{lexicon_due};
 ghost use Rattle.own_dictionary.specs.dictionary_swap.declared.fault.LoadFault.TheVariants.{Failed};
 ghost use Rattle.own_dictionary.specs.dictionary_swap.declared.limits.TheConstants.{SIZE_LIMIT};
 ghost use Rattle.team_script.specs.Due.{script_due};
-ghost use Rattle.file_loading.specs.Due.{IsFileThere, MayCome, base_due};
+ghost use Rattle.file_loading.specs.Due.{IsFileThere, MayCome};
 ghost use Rattle.team_forms.specs.Teams.{script_failure, read_due};
 ghost use Rattle.file_loading.specs.declared.failure.Failure.TheVariants.{Load};
 
 use crate::limits::MOST_PAIRS;
-use file_loading::{Failure, load_bytes, shared};
+use file_loading::{Failure, load_bytes};
 use input_lines::LINE_LIMIT;
 use outside::Files;
-use own_dictionary::dictionary_swap::{LoadFault, SIZE_LIMIT};
-use own_dictionary::load;
+use own_dictionary::dictionary_swap::SIZE_LIMIT;
 use std::alloc::Global;
-use std::sync::Arc;
 use team_script::{Script, ScriptFault, read_script};
-use word_verdict::Speller;
-
-/// The dictionary of these two files alone, to be asked, which threads may share.
-pub fn load_base_judge<F: Files>(
-    alloc: Global,
-    files: &mut F,
-    aff: &str,
-    dic: &str,
-) -> Result<Arc<Speller>, Failure>
-    ensures due { (there : DictionaryFiles) × IsThere (F.told files.old) aff.now dic.now there
-        × GivesDue MayCome (λ judge. arc_value judge) (base_due there) result }
-    ensures failed { IsErrOf result (Load Failed) → F.faults files.old < F.faults files.new }
-    ensures same { F.told files.new ≡ F.told files.old }
-    ensures count { F.faults files.old ≤ F.faults files.new }
-{
-    match load_speller(alloc, files, aff, dic) {
-        Ok(judge) => Ok(judge),
-        Err(fault) => Err(Failure::from(fault)),
-    }
-}
-
-/// The same, where a fault is told as that of the files.
-pub fn load_speller<F: Files>(
-    alloc: Global,
-    files: &mut F,
-    aff: &str,
-    dic: &str,
-) -> Result<Arc<Speller>, LoadFault>
-    ensures due { (there : DictionaryFiles) × IsThere (F.told files.old) aff.now dic.now there
-        × GivesDue MayComeOfLoads (λ judge. arc_value judge) (lexicon_due there) result }
-    ensures failed { IsErrOf result Failed → F.faults files.old < F.faults files.new }
-    ensures same { F.told files.new ≡ F.told files.old }
-    ensures count { F.faults files.old ≤ F.faults files.new }
-{
-    let speller = load(alloc, files, aff, dic)?;
-    Ok(shared(alloc, speller)?)
-}
 
 /// The script of this name. It has no more lines than a file has bytes.
 pub fn load_script<F: Files>(alloc: Global, files: &mut F, name: &str) -> Result<Script, Failure>

@@ -22,13 +22,13 @@ ghost use Rattle.team_forms.specs.TeamLoads.{AreLoaded, AreNotLoaded, IsHeld, Is
 ghost use Rattle.team_forms.specs.TeamLoads.{IsNotLoaded, IsPairLoaded, IsTeamLoaded, ending_of};
 ghost use Rattle.file_loading.specs.declared.failure.Failure.TheVariants.{Load};
 
-use crate::loading::{load_base_judge, load_script, load_speller};
+use crate::loading::load_script;
 use crate::pairs::LoadedPair;
 use crate::scripts::scripts_of;
 use crate::teamwork::{Teamed, answer_at_once};
 use board_share::Closed;
 use board_share::edit_core::Versions;
-use file_loading::{End, Ended, Failure, SINK_FAILED, Workers, put_end};
+use file_loading::{End, Ended, Failure, SINK_FAILED, Workers, load_base_judge, load_speller, put_end};
 use outside::lists::{Copied, NoMemory};
 use outside::{Failed, Files, Gate, Sink};
 use own_dictionary::dictionary_swap::LoadFault;

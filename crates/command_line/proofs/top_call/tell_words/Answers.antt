@@ -6,7 +6,7 @@ use Rattle.command_line.proofs.top_call.tell_words.Goals as goal
 
 pub returns-clause-due : goal.returns-clause-due
 returns-clause-due g c = λ folder files reading untouched.
-    ends-behind [] (λ failed. failed) (appends-none (g.K.Sink.written c.args.out.now)) (record {
+    ends-behind [] _ (λ failed. failed) (appends-none (g.K.Sink.written c.args.out.now)) (record {
       answer = refl;
       caused = record {
         words = λ is. refl;
@@ -20,5 +20,5 @@ returns-clause-due g c = λ folder files reading untouched.
 
 pub returns-clause-complete : goal.returns-clause-complete
 returns-clause-complete g c = λ met same.
-    ends-behind [] (λ failed. omega (arith, failed, same))
+    ends-behind [] _ (λ failed. omega (arith, failed, same))
     (appends-none (g.K.Sink.written c.args.out.now)) tt c.put_end.ensures.puts

@@ -36,7 +36,7 @@ returns-in-Ok-clause-complete g c = λ same.
 pub returns-in-Err-clause-due : goal.returns-in-Err-clause-due
 returns-in-Err-clause-due g c =
     let fails = c.in-Err.ensures in
-    ends-behind [] (λ failed. failed) (appends-none (g.K.Sink.written c.args.out.now)) (record {
+    ends-behind [] _ (λ failed. failed) (appends-none (g.K.Sink.written c.args.out.now)) (record {
       answer = not-opened fails.due (record { same = refl; count = refl });
       caused = not-opened-caused c.args.names dictionary_due dictionary-told fails.due (λ is. fails.failed (ap Err is));
       input = tt;
@@ -46,7 +46,7 @@ returns-in-Err-clause-due g c =
 pub returns-in-Err-clause-complete : goal.returns-in-Err-clause-complete
 returns-in-Err-clause-complete g c = λ same.
     let fails = c.in-Err.ensures in
-    ends-behind [] (λ failed. omega (arith, failed, same))
+    ends-behind [] _ (λ failed. omega (arith, failed, same))
     (appends-none (g.K.Sink.written c.args.out.now))
     (λ opened fit first reads.
     not-opened-whole dictionary_due (HasReplied c.args.workers) fails.due (λ is. fails.failed (ap Err is))

@@ -1,11 +1,11 @@
 -- The dictionary is refused, or the lines are answered by it.
 use Rattle.std.proofs.Common.{◌∙◌, [], ap, arith, refl, Err}
 use Rattle.outside.specs.Laws.{appends-none}
-use Rattle.file_loading.specs.Due.{in_force_due}
+use Rattle.file_loading.specs.Due.{unextended_due}
 use Rattle.line_forms.specs.Forms.{HasPiped, NoneAnswered, Opened, WantingFirst}
 use Rattle.line_forms.proofs.DialogueLemmas.{dialogue-caused, dialogue-whole, not-opened}
 use Rattle.line_forms.proofs.DialogueLemmas.{not-opened-caused, not-opened-whole, piped-by}
-use Rattle.file_loading.specs.DueLaws.{in-force-told}
+use Rattle.file_loading.specs.DueLaws.{unextended-told}
 use Rattle.file_loading.specs.EndLaws.{ends-behind, call-ends-weaker, goes-on}
 use Rattle.line_forms.proofs.pipe.pipe.Goals as goal
 
@@ -28,7 +28,7 @@ returns-in-Ok-open-clause-complete g c = λ same.
     let lexicon = ap (λ pipe. pipe.lexicon) c.in-Ok-open.ensures ∙ c.deref.ensures in
     call-ends-weaker (λ failed. omega (arith, failed, same))
     (λ text due is. λ other fit first reads.
-    dialogue-whole in_force_due HasPiped c.fitting_inputs_are_read.ensures
+    dialogue-whole unextended_due HasPiped c.fitting_inputs_are_read.ensures
     (λ line ends. absurd (cc)) opened.due (piped-by lexicon is) other fit reads)
     c.answer_input.ensures.dialogue
 
@@ -36,7 +36,7 @@ returns-in-Ok-open-clause-complete g c = λ same.
 
 pub returns-in-Ok-clause-due : goal.returns-in-Ok-clause-due
 returns-in-Ok-clause-due g c =
-    ends-behind [] (λ failed. failed) (appends-none (g.K.Sink.written c.args.out.now)) (record {
+    ends-behind [] _ (λ failed. failed) (appends-none (g.K.Sink.written c.args.out.now)) (record {
       answer = WantingFirst refl refl (record { same = refl; count = refl });
       caused = goes-on refl (λ is. absurd (cc));
       input = tt;
@@ -45,7 +45,7 @@ returns-in-Ok-clause-due g c =
 
 pub returns-in-Ok-clause-complete : goal.returns-in-Ok-clause-complete
 returns-in-Ok-clause-complete g c = λ same.
-    ends-behind [] (λ failed. omega (arith, failed, same))
+    ends-behind [] _ (λ failed. omega (arith, failed, same))
     (appends-none (g.K.Sink.written c.args.out.now))
     (λ opened fit first reads. NoneAnswered refl refl) c.put_end.ensures.puts
 
@@ -54,9 +54,9 @@ returns-in-Ok-clause-complete g c = λ same.
 pub returns-clause-due : goal.returns-clause-due
 returns-clause-due g c =
     let fails = c.in-Err.ensures in
-    ends-behind [] (λ failed. failed) (appends-none (g.K.Sink.written c.args.out.now)) (record {
+    ends-behind [] _ (λ failed. failed) (appends-none (g.K.Sink.written c.args.out.now)) (record {
       answer = not-opened fails.due (record { same = refl; count = refl });
-      caused = not-opened-caused c.args.names in_force_due in-force-told fails.due
+      caused = not-opened-caused c.args.names unextended_due unextended-told fails.due
           (λ is. fails.failed (ap Err is));
       input = tt;
       files = tt;
@@ -65,9 +65,9 @@ returns-clause-due g c =
 pub returns-clause-complete : goal.returns-clause-complete
 returns-clause-complete g c = λ same.
     let fails = c.in-Err.ensures in
-    ends-behind [] (λ failed. omega (arith, failed, same))
+    ends-behind [] _ (λ failed. omega (arith, failed, same))
     (appends-none (g.K.Sink.written c.args.out.now))
     (λ opened fit first reads.
-    not-opened-whole in_force_due HasPiped fails.due (λ is. fails.failed (ap Err is))
+    not-opened-whole unextended_due HasPiped fails.due (λ is. fails.failed (ap Err is))
     (record { same = refl; count = refl }) opened fit first)
     c.put_end-in-Err.ensures.puts

@@ -1,5 +1,5 @@
 -- A report is put, and nothing behind it.
-use Rattle.std.proofs.Common.{◌==◌, ◌++◌, inr, refl, append-nil, Bool, true, false, List, ℕ, Option}
+use Rattle.std.proofs.Common.{◌==◌, ◌++◌, refl, append-nil, Bool, true, false, List, ℕ, Option}
 use Rattle.std.proofs.Common.{if◌then◌else◌}
 use Rattle.file_loading.specs.Ends.{IsOrWanting, IsPut, status_at, tail_of}
 use Rattle.file_loading.specs.declared.ending.End.{End}
@@ -12,8 +12,8 @@ without-tail : {text : List ℕ} {sink_failed : Type 0} {before now : Option (Li
     → IsPut (status_at (if quiet then Quiet else Marked)) text sink_failed before now status
     → (end : End) × IsOrWanting (if quiet then Quiet else Marked) end
     × IsPut (status_at end) (text ++ tail_of end) sink_failed before now status
-without-tail {text = text} true put = (Quiet, inr refl, rw (append-nil text) put)
-without-tail {text = text} false put = (Marked, inr refl, rw (append-nil text) put)
+without-tail {text = text} true put = (Quiet, refl, rw (append-nil text) put)
+without-tail {text = text} false put = (Marked, refl, rw (append-nil text) put)
 
 pub returns-in-Ok-clause-puts : goal.returns-in-Ok-clause-puts
 returns-in-Ok-clause-puts g c =

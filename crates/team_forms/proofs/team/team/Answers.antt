@@ -36,7 +36,7 @@ returns-in-Ok-perform-clause-complete g c = λ reading same.
 
 pub returns-in-Ok-clause-due : goal.returns-in-Ok-clause-due
 returns-in-Ok-clause-due g c = λ reading untouched.
-    ends-behind [] (λ failed. failed) (appends-none (g.K.Sink.written c.args.out.now)) (record {
+    ends-behind [] _ (λ failed. failed) (appends-none (g.K.Sink.written c.args.out.now)) (record {
       answer = WantingThen refl refl;
       caused = goes-on refl (λ is. absurd (cc));
       input = untouched;
@@ -45,7 +45,7 @@ returns-in-Ok-clause-due g c = λ reading untouched.
 
 pub returns-in-Ok-clause-complete : goal.returns-in-Ok-clause-complete
 returns-in-Ok-clause-complete g c = λ reading same.
-    ends-behind [] (λ failed. omega (arith, failed, same))
+    ends-behind [] _ (λ failed. omega (arith, failed, same))
     (appends-none (g.K.Sink.written c.args.out.now))
     (λ team fit unfailed. NoneOfThem refl refl) c.fail.ensures.puts
 
@@ -54,7 +54,7 @@ returns-in-Ok-clause-complete g c = λ reading same.
 pub returns-clause-due : goal.returns-clause-due
 returns-clause-due g c = λ reading untouched.
     let fails = c.in-Err.ensures in
-    ends-behind [] (λ failed. failed) (appends-none (g.K.Sink.written c.args.out.now)) (record {
+    ends-behind [] _ (λ failed. failed) (appends-none (g.K.Sink.written c.args.out.now)) (record {
       answer = team-not-answered fails.err;
       caused = team-caused fails.err (λ is. fails.failed (ap Err is));
       input = untouched;
@@ -64,7 +64,7 @@ returns-clause-due g c = λ reading untouched.
 pub returns-clause-complete : goal.returns-clause-complete
 returns-clause-complete g c = λ reading same.
     let fails = c.in-Err.ensures in
-    ends-behind [] (λ failed. omega (arith, failed, same))
+    ends-behind [] _ (λ failed. omega (arith, failed, same))
     (appends-none (g.K.Sink.written c.args.out.now))
     (λ team fit unfailed.
     team-not-whole fit fails.err (λ is. fails.failed (ap Err is)) unfailed)

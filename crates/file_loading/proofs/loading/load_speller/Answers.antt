@@ -6,7 +6,7 @@ use Rattle.outside.specs.lists.Answers.{FailsAs}
 use Rattle.own_dictionary.specs.dictionary_swap.Loads.{MayComeOfLoads, lexicon_due}
 use Rattle.own_dictionary.specs.dictionary_swap.declared.fault.LoadFault.TheVariants.{NoMemory}
 use Rattle.file_loading.specs.DueLaws.{some-there}
-use Rattle.team_forms.proofs.loading.load_speller.Goals as goal
+use Rattle.file_loading.proofs.loading.load_speller.Goals as goal
 
 pub returns-in_err-speller-clause-due : goal.returns-in_err-speller-clause-due
 returns-in_err-speller-clause-due g c =

@@ -6,7 +6,7 @@ use Rattle.own_dictionary.specs.dictionary_swap.Loads.{MayComeOfLoads}
 use Rattle.file_loading.specs.Due.{MayCome, base_due}
 use Rattle.file_loading.specs.Failures.{failure_of}
 use Rattle.file_loading.specs.DueLaws.{load-comes}
-use Rattle.team_forms.proofs.loading.load_base_judge.Goals as goal
+use Rattle.file_loading.proofs.loading.load_base_judge.Goals as goal
 
 pub returns-in-Ok-clause-due : goal.returns-in-Ok-clause-due
 unfolding base_due
