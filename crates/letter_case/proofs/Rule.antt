@@ -15,7 +15,7 @@ use Rattle.spell_types.specs.Cases.{IsOne, Covers}
 use Rattle.letter_case.proofs.Repeats.{same-≡}
 use Rattle.spell_types.specs.declared.limits.TheConstants.{MOST_PAIRS}
 
-≡-same : (word other : List ℕ) → word ≡ other → is_same_word word other ≡ true
+pub ≡-same : (word other : List ℕ) → word ≡ other → is_same_word word other ≡ true
 ≡-same word other same = (bytes_eq-Decides word other).1 same
 
 -- leaving out the words like one word takes no other one away

@@ -2,7 +2,7 @@
 #![tactic(auto)]
 
 ghost use Rattle.std.specs.Prelude.{◌≡◌, ℕ, ◌↔◌, Bool, List, IsTrue, slice_get, Some, AllPairs};
-ghost use Rattle.std.specs.Prelude.{◌≢◌, fold, IfOk, OnOk};
+ghost use Rattle.std.specs.Prelude.{◌≢◌, ◌≤◌, length, fold, IfOk, OnOk};
 ghost use Rattle.spell_types.specs.Cases.{is_upper, is_lower, low, begins_upper, has_lower};
 ghost use Rattle.spell_types.specs.Cases.{first_lowered, all_lowered, rest_lowered, is_among};
 ghost use Rattle.spell_types.specs.Cases.{spellings_of_capital, spellings_of_capitals};
@@ -70,7 +70,8 @@ pub fn has_lower(word: &[char]) -> bool
 
 /// The words that a written word covers: the written one first, and none twice. `sharps` says that
 /// SS may stand for ß: the option CHECKSHARPS of hunspell(5). At most the first five pairs SS are
-/// looked at, which is this project's own rule, so that there are at most 66 words.
+/// looked at, which is this project's own rule, so that there are at most 66 words, as
+/// `covered_words_are_few` says.
 pub fn covered(alloc: Global, word: &[char], sharps: bool) -> Result<SmallVec<Chars, 4>, NoMemory>
     ensures { IfOk result (λ found. found.items ≡ covered_by sharps word.now) }
 {
@@ -91,6 +92,11 @@ pub fn covered_words_are()
         ≡ Some written }
     ensures once { (sharps : Bool) (written : List ℕ)
         → AllPairs (λ one other. one ≢ other) (covered_by sharps written) }
+{}
+
+/// A word covers 66 words at most.
+pub fn covered_words_are_few()
+    ensures { (sharps : Bool) (written : List ℕ) → length (covered_by sharps written) ≤ 66 }
 {}
 
 /// Adds what a word that begins in upper case stands for.
