@@ -3,19 +3,22 @@ use Rattle.std.proofs.Common.{◌≡◌, ◌∙◌, sym, ap, subst, ℕ, ◌+◌
 use Rattle.std.proofs.Common.{length, not, false, append_assoc, append-nil, length-append}
 use Rattle.std.proofs.Common.{arith}
 use Rattle.std.specs.Prelude.{if◌then◌else◌}
+use Rattle.std.specs.List.{AllByRecursion, sum_by}
 use Rattle.std.proofs.lemmas.Bool.{true≢false}
 use Rattle.board_share.specs.edit_core.Events.{SeenEvent, AnEdit, ALoad, AClaim, AFinish, APark}
 use Rattle.board_share.specs.edit_core.Events.{AnAsk, kind_of}
-use Rattle.board_share.specs.edit_core.Runs.{AreSteps, Entry, asked_of, is_quiet, last_board}
+use Rattle.board_share.specs.edit_core.Runs.{AreSteps, Entry, all_kinds, asked_of, entries_by}
+use Rattle.board_share.specs.edit_core.Runs.{entries_through, is_quiet, last_board}
 use Rattle.board_share.specs.edit_core.Seen.{Seen}
 use Rattle.board_share.specs.edit_core.declared.event.EventKind.{EventKind}
 use Rattle.board_share.specs.edit_core.declared.event.EventKind.TheVariants as kind
-use Rattle.board_share.specs.Eyes.{EyeSeen, IsLater, counted, entries_in, events_in, last_of}
+use Rattle.board_share.specs.Eyes.{EyeSeen, IsCounted, IsLater, counted, entries_in, events_in}
+use Rattle.board_share.specs.Eyes.{last_of}
 use Rattle.board_share.specs.declared.counts.Counts.{Counts}
 use Rattle.board_share.specs.declared.told.Told.{Told as ToldOf}
 use Rattle.board_share.specs.Eyes.{CountsChecks}
 use Rattle.console_history.specs.Told.{Looks, Publishes, Settles}
-use Rattle.console_history.proofs.Stretches.{CoreLaws, IsIdle}
+use Rattle.console_history.proofs.Stretches.{CoreLaws, IsIdle, all-through, each-part}
 
 -- behind all that an eye knew stands a stretch, with at least as many events as were counted
 pub record GoesOn (old new : EyeSeen) : Type 0 where
@@ -32,10 +35,11 @@ pub record HasCounted (eye : EyeSeen) : Type 0 where
   pub all : entries_in eye.counts ≤ length eye.run.entries
 
 -- it is a history, and nothing is asked in it but what the eye counts; without workers it has no
--- more events at all
+-- more events at all, and each came through the eye's number
 pub record HasNoMore (workers : ℕ) (eye : EyeSeen) : Type 0 where
   pub asked : asked_of eye.run.entries ≤ events_in eye.counts
   pub all : workers ≡ 0 → length eye.run.entries ≤ entries_in eye.counts
+  pub own : workers ≡ 0 → AllByRecursion (λ entry. entry.by ≡ eye.number) eye.run.entries
   pub steps : AreSteps eye.run.opening eye.run.entries
 
 -- an eye comes to know an idle stretch
@@ -128,6 +132,37 @@ pub checks-asked : (old new : EyeSeen) → CountsChecks old new
 checks-asked old new counts =
     sum-same new.counts.edits new.counts.loads new.counts.asks old.counts.edits old.counts.loads
     old.counts.asks counts.edits counts.loads counts.asks
+
+-- the entries through a number are those of the six kinds together
+abbrev pub KindsAddUp : Type 0
+KindsAddUp = (by : ℕ) (entries : List Entry)
+    → entries_through by entries ≡ sum_by (λ asked. entries_by asked by entries) all_kinds
+
+-- as many entries came through a number as were counted, or more
+counted-through : KindsAddUp → (by : ℕ) (entries : List Entry) (counts : Counts)
+    → IsCounted by entries counts → entries_in counts ≤ entries_through by entries
+counted-through kinds by entries counts is =
+    let n = λ (asked : EventKind). entries_by asked by entries in
+    let through : entries_through by entries ≡ 0 + n kind.Edit + n kind.Load + n kind.Claim
+    + n kind.Finish + n kind.Park + n kind.Ask = kinds by entries in
+    omega (arith, through, is.edits, is.loads, is.asks, is.checks)
+
+-- where no more is known than was counted through a number, each event came through it
+pub all-counted : KindsAddUp → (by : ℕ) (entries : List Entry) (counts : Counts)
+    → IsCounted by entries counts → length entries ≤ entries_in counts
+    → AllByRecursion (λ entry. entry.by ≡ by) entries
+all-counted kinds by entries counts is few =
+    let through = counted-through kinds by entries counts is in
+    all-through by entries (omega (arith, through, few))
+
+-- where all that an eye knows came through a number, so did what it knew and the stretch behind it
+pub own-on : (old new : EyeSeen) (part : List Entry) → new.run.entries ≡ old.run.entries ++ part
+    → AllByRecursion (λ entry. entry.by ≡ new.number) new.run.entries
+    → AllByRecursion (λ entry. entry.by ≡ new.number) old.run.entries
+    × AllByRecursion (λ entry. entry.by ≡ new.number) part
+own-on old new part is own =
+    each-part (λ (entry : Entry). entry.by ≡ new.number) old.run.entries part
+    (subst (AllByRecursion (λ (entry : Entry). entry.by ≡ new.number)) is own)
 
 module _ (laws : CoreLaws) where
   pub asked-on : (old new : EyeSeen) (part : List Entry)
@@ -282,6 +317,8 @@ module _ (laws : CoreLaws) where
     all = λ none. no-more-back (entries_in old.counts) (entries_in new.counts)
         (length old.run.entries) (length new.run.entries) (length goes.part) (most.all none)
         goes.all (length-on old new goes.part goes.entries);
+    own = λ none. subst (λ n. AllByRecursion (λ (entry : Entry). entry.by ≡ n) old.run.entries)
+        goes.number (own-on old new goes.part goes.entries (most.own none)).0;
     steps = (steps-on old new goes.part most goes.opening goes.entries).0;
   }
 

@@ -26,7 +26,7 @@ use Rattle.console_board.specs.OwnConsoles.{OwnConsole}
 use Rattle.console_board.specs.Transcripts.{Answers}
 use Rattle.console_history.specs.Followed.{Follows, Given, IsConsoleHistory}
 use Rattle.console_history.specs.Told.{Looks, Seat, Told}
-use Rattle.console_history.proofs.Stretches.{CoreLaws, idle-between}
+use Rattle.console_history.proofs.Stretches.{CoreLaws, all-through, idle-between}
 use Rattle.console_history.proofs.Counting.{GoesOn, HasCounted, HasNoMore, TakesIn, counted-on}
 use Rattle.console_history.proofs.Counting.{goes-apart, goes-looks, goes-trans, looks-in}
 use Rattle.console_history.proofs.Counting.{no-more-before}
@@ -183,6 +183,9 @@ module _ {given : Given} {eyes : List EyeSeen} {eye : EyeSeen} {history : Run}
     asked = equal-most (asked_of history.entries) (events_in eye.counts) asked-all;
     all = λ none. equal-most (length history.entries) (entries_in eye.counts)
         (length-all through none);
+    own = λ none. all-through eye.number history.entries
+        (equal-most (length history.entries) (entries_through eye.number history.entries)
+        (length-all through none ∙ sym its-events.entries));
     steps = closed.theirs.run.steps;
   }
 

@@ -2,6 +2,7 @@
 use Rattle.std.proofs.Common.{◌≡◌, ◌∙◌, refl, sym, ap, subst, ℕ, zero, suc, List, [], ◌∷◌, ◌++◌}
 use Rattle.std.proofs.Common.{Option, None, Some, append_assoc, append-nil}
 use Rattle.std.specs.Prelude.{Result, Ok, Err}
+use Rattle.std.specs.List.{AllByRecursion}
 use Rattle.outside.specs.Files.{Folder}
 use Rattle.spell_types.specs.declared.Lexicon.{Lexicon}
 use Rattle.personal_words.specs.declared.items.OwnItem.{OwnItem}
@@ -32,7 +33,7 @@ use Rattle.console_history.proofs.Stretches.{CoreLaws, idle-between, idle-nil}
 use Rattle.console_history.proofs.Counting.{GoesOn, HasCounted, HasNoMore, StretchOf, TakesOwn}
 use Rattle.console_history.proofs.Counting.{counted-on, followed-as, goes-looks, goes-publishes}
 use Rattle.console_history.proofs.Counting.{goes-self, goes-settles, goes-trans, last-on, looks-in}
-use Rattle.console_history.proofs.Counting.{no-more-before, publishes-own, settles-none}
+use Rattle.console_history.proofs.Counting.{no-more-before, own-on, publishes-own, settles-none}
 use Rattle.console_history.proofs.Places.{goes-place, place-told}
 
 -- the stretch that an eye came to know by what was asked for
@@ -192,9 +193,10 @@ module _ (laws : CoreLaws) where
 
     -- ---- what is settled
     settled : (old new : EyeSeen) (reply : Reply) → Settles old new → HasCounted old
-        → HasNoMore given.workers new → reply ≡ Done (last_of new.run).text_version
-        → StretchOf old new (λ part. IsConsoleSettledIn (last_of old.run) part reply)
-    settled old new reply settles least most replied =
+        → HasNoMore given.workers new → old.number ≡ given.by
+        → reply ≡ Done (last_of new.run).text_version
+        → StretchOf old new (λ part. IsConsoleSettledIn given (last_of old.run) part reply)
+    settled old new reply settles least most number replied =
         let is = settles.settled in
         let part = is.skipped ++ is.behind in
         let entries : new.run.entries ≡ old.run.entries ++ part =
@@ -204,6 +206,9 @@ module _ (laws : CoreLaws) where
           followed = record {
             quiet = laws.quiet part
                 (settles-none laws old new part entries settles.counts least most);
+            own = λ none. subst (λ n. AllByRecursion (λ (entry : Entry). entry.by ≡ n) part)
+                (settles.later.number ∙ number)
+                (own-on old new part entries (most.own none)).1;
             skipped = is.skipped;
             behind = is.behind;
             part_is = refl;
@@ -234,7 +239,7 @@ module _ (laws : CoreLaws) where
         followed-as (looked before.eye after.eye reply look_reply tells.0.1 least most tells.1)
         (λ part does. (does.0, (tells.0.0, does.1)))
     followed-to before Settle after reply tells least most number =
-        followed-as (settled before.eye after.eye reply tells.0.1 least most tells.1)
+        followed-as (settled before.eye after.eye reply tells.0.1 least most number tells.1)
         (λ part does. (tells.0.0, does))
     followed-to before Quit after reply tells least most number = absurd tells
     followed-to before command after reply tells least most number =

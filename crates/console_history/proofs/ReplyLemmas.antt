@@ -238,7 +238,7 @@ module _ (known : Known) (given : Given) (board : Seen) (part : List Entry)
       same ((is ∙ known.shown_is last, refl), refl)
 
   settle-replies : (before after : OwnSeen) (reply : Reply) → after ≡ before
-      → IsConsoleSettledIn board part reply
+      → IsConsoleSettledIn given board part reply
       → Replies given.workers before board
       (λ ready. IsOwnReplyTo given.folder ready Settle reply (own_console_of after last))
   unfolding IsOwnReplyTo IsReplyTo

@@ -1,12 +1,40 @@
 -- Stretches of a history in which the console asks for nothing.
-use Rattle.std.proofs.Common.{◌≡◌, refl, ℕ, zero, suc, ◌+◌, List, [], ◌∷◌, ◌++◌, length, not}
-use Rattle.std.proofs.Common.{length-append, arith}
+use Rattle.std.proofs.Common.{◌≡◌, refl, ℕ, zero, suc, ◌+◌, ◌≤◌, ◌==◌, Bool, true, false, cond}
+use Rattle.std.proofs.Common.{not, List, [], ◌∷◌, ◌++◌, length, length-append, eqb-true, arith}
 use Rattle.std.specs.Prelude.{if◌then◌else◌}
+use Rattle.std.specs.List.{AllByRecursion}
 use Rattle.std.proofs.lemmas.List.{nil_from_length}
+use Rattle.std.proofs.lemmas.List.Sums.{count_by-le-length, sum_by-cons}
 use Rattle.board_share.specs.edit_core.Runs.{AreQuiet, AreSteps, Entry, IsQuiet, asked_of, is_quiet}
-use Rattle.board_share.specs.edit_core.Runs.{last_board}
+use Rattle.board_share.specs.edit_core.Runs.{entries_through, last_board}
 use Rattle.board_share.specs.edit_core.Seen.{Seen}
 use Rattle.console_history.specs.Followed.{AreBetween}
+
+-- what holds of each event of a stretch holds of each event of its parts
+pub each-part : (P : Entry → Type 0) (front back : List Entry) → AllByRecursion P (front ++ back)
+    → AllByRecursion P front × AllByRecursion P back
+each-part P [] back each = (tt, each)
+each-part P (entry ∷ front) back each =
+    let later = each-part P front back each.1 in ((each.0, later.0), later.1)
+
+-- where as many events came through a number as there are, each did
+pub all-through : (by : ℕ) (entries : List Entry) → length entries ≤ entries_through by entries
+    → AllByRecursion (λ entry. entry.by ≡ by) entries
+all-through by [] most = tt
+all-through by (entry ∷ entries) most =
+    let more = sum_by-cons (λ (e : Entry). cond (e.by == by) 1 0) entry entries in
+    let few = count_by-le-length (λ (e : Entry). e.by == by) entries in (
+      its-own entry.by by (entry.by == by) refl (omega (arith, more, few, most)),
+      all-through by entries (omega (arith, at-most-one (entry.by == by), more, most)),
+    )
+  where
+    at-most-one : (b : Bool) → cond {A = ℕ} b 1 0 ≤ 1
+    at-most-one true = omega arith
+    at-most-one false = omega arith
+
+    its-own : (m n : ℕ) (b : Bool) → (m == n) ≡ b → 1 ≤ cond {A = ℕ} b 1 0 → m ≡ n
+    its-own m n true is one = eqb-true m n is
+    its-own m n false is one = absurd (omega (arith, one))
 
 -- laws of the core
 pub record CoreLaws : Type 0 where

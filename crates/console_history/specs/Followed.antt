@@ -2,6 +2,7 @@
 -- console are the only ones that are not of workers.
 use Rattle.std.specs.Prelude.{◌≡◌, ℕ, zero, suc, ◌++◌, List, [], ◌∷◌, length, Option, None, Some}
 use Rattle.std.specs.Prelude.{Result, Ok, Err}
+use Rattle.std.specs.List.{AllByRecursion}
 use Rattle.outside.specs.Files.{Folder}
 use Rattle.spell_types.specs.declared.Lexicon.{Lexicon}
 use Rattle.personal_words.specs.declared.items.OwnItem.{OwnItem}
@@ -127,10 +128,18 @@ IsItemFollowed given before (Err why) board part after reply =
 
 -- ---- what is settled
 
--- A stretch has no event of the console but finished checks. Each paragraph that was open on some
--- board of it is settled behind that one, and the reply tells the text's version of the last.
-pub record IsConsoleSettledIn (board : Seen) (part : List Entry) (reply : Reply) : Type 0 where
+-- without workers all events of a stretch are the console's own
+abbrev pub AreOwnAlone : Given → List Entry → Type 0
+AreOwnAlone given entries =
+    given.workers ≡ 0 → AllByRecursion (λ entry. entry.by ≡ given.by) entries
+
+-- A stretch has no events but claims and finished checks, and without workers all are the
+-- console's. Each paragraph that was open on some board of it is settled behind that one, and the
+-- reply tells the text's version of the last.
+pub record IsConsoleSettledIn (given : Given) (board : Seen) (part : List Entry)
+    (reply : Reply) : Type 0 where
   pub quiet : AreQuiet part
+  pub own : AreOwnAlone given part
   pub skipped : List Entry
   pub behind : List Entry
   pub part_is : part ≡ skipped ++ behind
@@ -149,7 +158,7 @@ IsFollowed given before Show board part after reply =
     AreBetween given.workers part
     × ((after ≡ before) × (reply ≡ look_reply (last_board board part)))
 IsFollowed given before Settle board part after reply =
-    (after ≡ before) × IsConsoleSettledIn board part reply
+    (after ≡ before) × IsConsoleSettledIn given board part reply
 IsFollowed given before Quit board part after reply = ⊥
 IsFollowed given before command board part after reply =
     (after ≡ before) × IsPlaceFollowed given command board part reply

@@ -8,8 +8,8 @@ ghost use Rattle.personal_words.specs.Dictionaries.{OwnSeen, in_force};
 ghost use Rattle.board_share.specs.edit_core.Runs.{AreSteps, Entry, IsRun, Run, asked_of, is_quiet};
 ghost use Rattle.board_share.specs.edit_core.Seen.{IsValidBoard, Seen, opening_of};
 ghost use Rattle.board_share.specs.Endings.{IsTheirs};
-ghost use Rattle.board_share.specs.Eyes.{EyeSeen, IsLater, entries_in, events_in, fresh_eye};
-ghost use Rattle.board_share.specs.Eyes.{last_of};
+ghost use Rattle.board_share.specs.Eyes.{EyeSeen, IsCounted, IsLater, entries_in, events_in};
+ghost use Rattle.board_share.specs.Eyes.{fresh_eye, last_of};
 ghost use Rattle.console_lang.specs.declared.command.Command.{Command};
 ghost use Rattle.console_lang.specs.declared.reply.Reply.{Reply};
 ghost use Rattle.console_board.specs.Boards.{own_console_of};
@@ -23,14 +23,14 @@ ghost use Rattle.board_share.specs.Eyes.{CountsChecks};
 ghost use Rattle.board_share.specs.edit_core.Events.{SeenEvent};
 
 use board_share::edit_core::{
-    fronts_are_runs, ids_name_paragraphs, numbers_add_up, runs_are_short, runs_go_on,
+    fronts_are_runs, ids_name_paragraphs, kinds_add_up, numbers_add_up, runs_are_short, runs_go_on,
     workers_keep_texts,
 };
 use console_board::commands_are_their_events;
 
 /// Where all that the eye of a told console knows has no more events that are not of workers than
-/// the eye counts, and without workers no more events at all, the console's commands are followed
-/// in it. One command more goes on, and so does what comes behind.
+/// the eye counts, and without workers has those that it counts and no more events at all, the
+/// console's commands are followed in it. One command more goes on, and so does what comes behind.
 pub fn told_consoles_are_followed()
     ensures one_more { (folder : Option Folder) (session : ℕ) (first seat next : Seat)
         (commands : List (Option Command)) (replies : List Reply) (asked : Option Command)
@@ -45,6 +45,7 @@ pub fn told_consoles_are_followed()
         → IsRun after.eye.run
         → asked_of after.eye.run.entries ≤ events_in after.eye.counts
         → (given.workers ≡ 0 → length after.eye.run.entries ≤ entries_in after.eye.counts)
+        → (given.workers ≡ 0 → IsCounted given.by after.eye.run.entries after.eye.counts)
         → Follows given dictionary opening after.eye.run.entries commands replies
         after.dictionary }
     ensures behind { (given : Given) (before after : OwnSeen) (board : Seen)
@@ -56,6 +57,7 @@ pub fn told_consoles_are_followed()
     workers_keep_texts();
     runs_go_on();
     numbers_add_up();
+    kinds_add_up();
 }
 
 /// By a command that is replied to, a look, an event that is published, and checks alone an eye goes
