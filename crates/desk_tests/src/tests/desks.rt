@@ -374,7 +374,9 @@ impl Scene for FreshSessions {
     ) -> Option<()> {
         assert_session_inserts(rt, alloc, &mut Session::new(desk, eyes.pop()?, 1))?;
         assert_shows(rt, &mut Session::new(desk, eyes.pop()?, 2), 1, "hello")?;
-        assert_eq!(rt; Session::new(desk, eyes.pop()?, 3).progress().text, 1);
+        let mut third = Session::new(desk, eyes.pop()?, 3);
+        assert_eq!(rt; third.progress().text, 1);
+        assert_eq!(rt; third.eye().progress().text, 1);
         assert_session_removes(rt, alloc, &mut Session::new(desk, eyes.pop()?, 4));
         Some(())
     }

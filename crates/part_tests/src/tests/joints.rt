@@ -24,6 +24,14 @@ const PAIRS: &str = "0 1=1 o 1,
 1 1=0  0,
 0 2=";
 
+const ORDERED_AFF: &str = "COMPOUNDFLAG X\nCHECKCOMPOUNDPATTERN 3\nCHECKCOMPOUNDPATTERN a/A u o\nCHECKCOMPOUNDPATTERN a u e\nCHECKCOMPOUNDPATTERN a/B u o\n";
+
+const ORDERED_DIC: &str = "2\nsurya/XB\nudaya/X\n";
+
+/// By hand: `surya` has the flag B and not A, so the second and the third row fit. The joint of the
+/// third has the place of the first row, which puts the same.
+const ORDERED: &str = "0 1=1 o 1,1 e 1,";
+
 /// The entry in a field with a number from 0, without affixes.
 fn entry_at(row: &str, number: usize) -> Derivation {
     let entry = row.split(' ').nth(number).unwrap_or("").parse::<u32>();
@@ -64,8 +72,13 @@ fn joints_told(alloc: Global, lexicon: &Lexicon, row: &str) -> Result<String, Fa
     }
 }
 
-fn assert_joints(rt: &impl Abort, alloc: Global, lexicon: &Lexicon) -> Result<(), Fail> {
-    for row in PAIRS.split('\n') {
+fn assert_joints(
+    rt: &impl Abort,
+    alloc: Global,
+    lexicon: &Lexicon,
+    pairs: &str,
+) -> Result<(), Fail> {
+    for row in pairs.split('\n') {
         let (pair, want) = row.split_once('=').unwrap_or((row, "no row"));
         assert_eq!(rt; joints_told(alloc, lexicon, pair)?.as_str(), want, "{pair}");
     }
@@ -75,5 +88,12 @@ fn assert_joints(rt: &impl Abort, alloc: Global, lexicon: &Lexicon) -> Result<()
 #[test]
 fn parts_are_written_together(rt: HostRuntime) -> Result<(), Fail> {
     let lexicon = lexicon_of(rt.alloc(), AFF, DIC)?;
-    assert_joints(&rt, rt.alloc(), &lexicon)
+    assert_joints(&rt, rt.alloc(), &lexicon, PAIRS)
+}
+
+/// A joint stands where the first row with it stands, though another row fits.
+#[test]
+fn joints_come_by_their_first_rows(rt: HostRuntime) -> Result<(), Fail> {
+    let lexicon = lexicon_of(rt.alloc(), ORDERED_AFF, ORDERED_DIC)?;
+    assert_joints(&rt, rt.alloc(), &lexicon, ORDERED)
 }
