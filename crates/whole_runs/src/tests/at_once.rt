@@ -157,7 +157,10 @@ fn scripted<R: Threads + Wait + Sync>(
 fn workers_check_at_once(rt: HostRuntime) -> Result<(), Fail> {
     let turnstile = Turnstile::new();
     let out = edited(&rt, rt.alloc(), &turnstile)?;
-    assert!(rt; !turnstile.is_late.load(Ordering::SeqCst), "no two workers came");
+    assert!(rt;
+        !turnstile.is_late.load(Ordering::SeqCst),
+        "no two workers came"
+    );
     let wanted = b"ok 1\nok 2\nok 2\ntext 2 dict 0\n2 0 5 wrold\n.\n".as_slice();
     assert!(rt; out.written() == wanted, "it wrote {:?}", out.written());
     Ok(())
@@ -169,8 +172,15 @@ fn workers_check_at_once(rt: HostRuntime) -> Result<(), Fail> {
 fn workers_check_beside_sessions(rt: HostRuntime) -> Result<(), Fail> {
     let turnstile = Turnstile::new();
     let out = scripted(&rt, rt.alloc(), &turnstile)?;
-    assert!(rt; !turnstile.is_late.load(Ordering::SeqCst), "one has not come");
+    assert!(rt;
+        !turnstile.is_late.load(Ordering::SeqCst),
+        "one has not come"
+    );
     let wanted = b"session 1\nok 1\nok 2\nsession 2\ntext 2 dict 0\n".as_slice();
-    assert!(rt; out.written().starts_with(wanted), "it wrote {:?}", out.written());
+    assert!(rt;
+        out.written().starts_with(wanted),
+        "it wrote {:?}",
+        out.written()
+    );
     Ok(())
 }
