@@ -10,7 +10,6 @@ use Rattle.std.proofs.lemmas.List.{length-map, map-append}
 use Rattle.std.proofs.lemmas.List.Elements.{All-from_recursion}
 use Rattle.std.proofs.lemmas.List.FromFn.{length-range_with_len}
 use Rattle.std.proofs.lemmas.List.Sorted.{IsPermutation-refl}
-use Rattle.outside.specs.Files.{Folder}
 use Rattle.mark_types.specs.spell_types.declared.Lexicon.{Lexicon}
 use Rattle.board_share.specs.edit_core.Runs.{Run}
 use Rattle.board_share.specs.edit_core.Seen.{Seen}
@@ -21,7 +20,7 @@ use Rattle.console_lang.specs.declared.reply.Reply.{Reply}
 use Rattle.desk_console.specs.declared.stop.Stop.{Stop}
 use Rattle.desk_console.specs.declared.stop.Stop.TheVariants as stop
 use Rattle.team_history.specs.Eyes.{HasHeard, IsAtLastPoint}
-use Rattle.team_history.specs.ToldBy.{AreOf, IsToldBy, Session, session_asks}
+use Rattle.team_history.specs.ToldBy.{AreOf, IsToldBy, NamedFiles, Session, session_asks}
 use Rattle.team_forms.specs.Pairs.{IsLoaded}
 use Rattle.team_forms.specs.Seats.{AreSeatsBehind, first_stop, fresh_eyes, seats}
 use Rattle.team_forms.specs.Sessions.{HasPerformed, MayStop, SessionSeen}
@@ -54,22 +53,22 @@ OnlySessions = (first count : ℕ) (eyes : List EyeSeen) (history : Run) → IsT
 
 -- ---- the sessions
 pub told-all : Starts → ClosedTold → {J : Type 0} (lexicon_of : J → Lexicon)
-    (pairs : List (LoadedPair J)) (folder : Option Folder) → All (IsLoaded lexicon_of folder) pairs
+    (pairs : List (LoadedPair J)) (files : List NamedFiles) → All (IsLoaded lexicon_of files) pairs
     → (history : Run) (first : ℕ) (scripts : List Script) (news : List (SessionSeen J))
     → AllZip (HasPerformed lexicon_of)
     (seats pairs scripts (fresh_eyes history.opening first (length scripts))) news
     → AllByRecursion (λ (session : SessionSeen J). session.stopped ≡ None) news
     → AllByRecursion (HasEventsOf history) (map (λ (session : SessionSeen J). session.eye) news)
-    → AreToldBy folder first history scripts (map (λ (session : SessionSeen J). session.text) news)
-told-all starts closed lexicon_of pairs folder loaded history first [] [] performed done has = refl
-told-all starts closed lexicon_of pairs folder loaded history first [] (new ∷ news) performed done
+    → AreToldBy files first history scripts (map (λ (session : SessionSeen J). session.text) news)
+told-all starts closed lexicon_of pairs files loaded history first [] [] performed done has = refl
+told-all starts closed lexicon_of pairs files loaded history first [] (new ∷ news) performed done
     has = absurd performed
-told-all starts closed lexicon_of pairs folder loaded history first (script ∷ scripts) [] performed
+told-all starts closed lexicon_of pairs files loaded history first (script ∷ scripts) [] performed
     done has = absurd performed
-told-all starts closed lexicon_of pairs folder loaded history first (script ∷ scripts) (new ∷ news)
+told-all starts closed lexicon_of pairs files loaded history first (script ∷ scripts) (new ∷ news)
     performed done has =
     let session : Session =
-    record { by = first; number = script.session; folder = folder } in
+    record { by = first; number = script.session; pairs = files } in
     let answered =
     performed.0.answered done.0 session history.opening
     (record { number_is = refl; loaded = loaded }) (starts session history.opening) in (
@@ -77,7 +76,7 @@ told-all starts closed lexicon_of pairs folder loaded history first (script ∷ 
       closed session (session_asks script.lines) answered.replies new.eye history answered.heard
           has.0,
       answered.text_is,
-      told-all starts closed lexicon_of pairs folder loaded history (first + 1) scripts news
+      told-all starts closed lexicon_of pairs files loaded history (first + 1) scripts news
           performed.1 done.1 has.1,
     )
 
@@ -268,9 +267,9 @@ module _ {J : Type 0} (lexicon_of : J → Lexicon) (pairs : List (LoadedPair J))
 
   -- the history tells what is to be printed
   pub is-teamwork : Starts → ClosedTold → OnlySessions → {history : Run} → IsTheirs all-eyes history
-      → stopped ≡ None → (folder : Option Folder) → All (IsLoaded lexicon_of folder) pairs
-      → IsTeamwork folder workers opening scripts history texts
-  is-teamwork starts closed only {history} theirs going folder loaded =
+      → stopped ≡ None → (files : List NamedFiles) → All (IsLoaded lexicon_of files) pairs
+      → IsTeamwork files workers opening scripts history texts
+  is-teamwork starts closed only {history} theirs going files loaded =
       let spare = fresh_eye opening (workers + length scripts) in
       let parts = parts-hold (HasEventsOf history) eyes (spare ∷ []) theirs.each in
       let own =
@@ -280,8 +279,8 @@ module _ {J : Type 0} (lexicon_of : J → Lexicon) (pairs : List (LoadedPair J))
       let opens : opening ≡ history.opening = parts.1.0.opening in record {
         run = theirs.run;
         opens = sym opens;
-        told = subst (AreToldBy folder workers history scripts) (sym behind.texts_are)
-            (told-all starts closed lexicon_of pairs folder loaded history workers scripts
+        told = subst (AreToldBy files workers history scripts) (sym behind.texts_are)
+            (told-all starts closed lexicon_of pairs files loaded history workers scripts
             behind.sessions
             (subst (λ (board : Seen). AllZip (HasPerformed lexicon_of)
             (seats pairs scripts (fresh_eyes board workers (length scripts))) behind.sessions) opens

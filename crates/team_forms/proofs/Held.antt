@@ -1,15 +1,14 @@
 -- The pair that a line loads is held.
 use Rattle.std.proofs.Common.{◌≡◌, ◌∙◌, refl, sym, ap, subst, ℕ, Bool, true, false, ◌||◌, cond}
 use Rattle.std.proofs.Common.{List, [], ◌∷◌, map, find, Option, Some, None, Result, Ok, Err, All}
+use Rattle.std.proofs.Common.{Contains}
 use Rattle.std.specs.List.{AllByRecursion, list_any}
 use Rattle.std.specs.Str.{bytes_eq}
 use Rattle.std.proofs.lemmas.Bool.{and_parts, true≢false}
 use Rattle.std.proofs.lemmas.List.Elements.{recursion_from_All}
 use Rattle.std.proofs.lemmas.Option.{same_Some}
 use Rattle.std.proofs.lemmas.Slice.Eq.{bytes_eq-Decides}
-use Rattle.outside.specs.Files.{Folder}
 use Rattle.mark_types.specs.spell_types.declared.Lexicon.{Lexicon}
-use Rattle.console_board.specs.Transcripts.{IsThere}
 use Rattle.team_script.specs.Pairs.{is_pair_among, is_same}
 use Rattle.std.specs.Arc.{arc_value}
 use Rattle.own_dictionary.specs.dictionary_swap.Loads.{lexicon_due}
@@ -17,7 +16,7 @@ use Rattle.own_dictionary.specs.dictionary_swap.declared.fault.LoadFault.{LoadFa
 use Rattle.board_share.specs.Eyes.{EyeSeen}
 use Rattle.console_lang.specs.declared.reply.Reply.{Reply}
 use Rattle.team_history.specs.Eyes.{IsLoadedTold, IsPairTold}
-use Rattle.team_history.specs.ToldBy.{Session}
+use Rattle.team_history.specs.ToldBy.{NamedFiles, Session}
 use Rattle.console_board.specs.OwnConsoles.{fault_reply}
 use Rattle.console_history.specs.Told.{IsLexiconTold}
 use Rattle.team_forms.specs.Pairs.{Holds, IsLoaded, has_names, names_of}
@@ -58,13 +57,13 @@ is-held pairs aff dic none there =
     ∙ none-any names_of (λ other. is_same other (record { aff = aff; dic = dic })) pairs none)
 
 -- the pair that is found was loaded, under these names
-pub is-loaded : {J : Type 0} (lexicon_of : J → Lexicon) (folder : Option Folder)
+pub is-loaded : {J : Type 0} (lexicon_of : J → Lexicon) (files : List NamedFiles)
     (pairs : List (LoadedPair J)) (pair : LoadedPair J) (aff dic : List ℕ)
-    → find (has_names aff dic) pairs ≡ Some pair → All (IsLoaded lexicon_of folder) pairs
-    → IsLoaded lexicon_of folder pair × ((pair.aff ≡ aff) × (pair.dic ≡ dic))
-is-loaded lexicon_of folder pairs pair aff dic found all =
-    let has = found-has (IsLoaded lexicon_of folder) (has_names aff dic) pairs pair found
-    (recursion_from_All (IsLoaded lexicon_of folder) pairs all) in
+    → find (has_names aff dic) pairs ≡ Some pair → All (IsLoaded lexicon_of files) pairs
+    → IsLoaded lexicon_of files pair × ((pair.aff ≡ aff) × (pair.dic ≡ dic))
+is-loaded lexicon_of files pairs pair aff dic found all =
+    let has = found-has (IsLoaded lexicon_of files) (has_names aff dic) pairs pair found
+    (recursion_from_All (IsLoaded lexicon_of files) pairs all) in
     let names = and_parts (bytes_eq pair.aff aff) (bytes_eq pair.dic dic) has.0 in (
       has.1,
       ((bytes_eq-Decides pair.aff aff).0 names.0, (bytes_eq-Decides pair.dic dic).0 names.1),
@@ -74,15 +73,22 @@ is-loaded lexicon_of folder pairs pair aff dic found all =
 pub pair-brought : {J : Type 0} (lexicon_of : J → Lexicon) (session : Session)
     (pairs : List (LoadedPair J)) (pair : LoadedPair J) (aff dic : List ℕ)
     {old new : EyeSeen} {reply : Reply}
-    → find (has_names aff dic) pairs ≡ Some pair → All (IsLoaded lexicon_of session.folder) pairs
+    → find (has_names aff dic) pairs ≡ Some pair → All (IsLoaded lexicon_of session.pairs) pairs
     → ((due : Result Lexicon LoadFault)
     → Holds (λ held. lexicon_of (arc_value held)) due pair.loaded → IsLoadedTold due old new reply)
     → IsPairTold session aff dic old new reply
 pair-brought lexicon_of session pairs pair aff dic found all tells =
-    let is = is-loaded lexicon_of session.folder pairs pair aff dic found all in record {
+    let is = is-loaded lexicon_of session.pairs pairs pair aff dic found all in record {
       there = is.0.there;
-      is_there = subst (λ name. IsThere session.folder aff name is.0.there) is.1.1
-          (subst (λ name. IsThere session.folder name pair.dic is.0.there) is.1.0 is.0.is_there);
+      is_there = subst (λ (name : List ℕ). Contains session.pairs (record {
+        aff = aff;
+        dic = name;
+        there = is.0.there;
+      })) is.1.1 (subst (λ (name : List ℕ). Contains session.pairs (record {
+        aff = name;
+        dic = pair.dic;
+        there = is.0.there;
+      })) is.1.0 is.0.is_there);
       done = tells (lexicon_due is.0.there) is.0.holds;
     }
 

@@ -1,9 +1,10 @@
 -- What is loaded for a team, step by step, and what the call then answers.
 use Rattle.std.proofs.Common.{Bool, ◌≡◌, ◌∙◌, ⊎_elim, inl, inr, ℕ, ◌+◌, ◌<◌, List, [], ◌∷◌, ◌++◌}
 use Rattle.std.proofs.Common.{length, get_or, take, drop, Option, Some, None, IfSome, IfErr, Result}
-use Rattle.std.proofs.Common.{Ok, Err, refl, sym, ap, subst, arith}
+use Rattle.std.proofs.Common.{Contains, Ok, Err, refl, sym, ap, subst, arith}
 use Rattle.std.proofs.lemmas.List.{drop_more, map_push, take-append-drop, take_more}
-use Rattle.std.proofs.lemmas.List.Elements.{All-nil, All-push}
+use Rattle.std.proofs.lemmas.List.Elements.{All-nil, All-push, All-weaker, Contains-append_left}
+use Rattle.std.proofs.lemmas.List.Elements.{Contains-push}
 use Rattle.std.proofs.lemmas.Result.{IfErr-at_err, IfErr-weaker}
 use Rattle.std.specs.Arc.{arc_value}
 use Rattle.std.specs.declared.alloc.Global.{Global}
@@ -25,6 +26,7 @@ use Rattle.board_share.specs.edit_core.Runs.{Run}
 use Rattle.board_share.specs.edit_core.Seen.{opening_of}
 use Rattle.board_share.specs.Eyes.{last_of}
 use Rattle.console_board.specs.Transcripts.{IsThere}
+use Rattle.team_history.specs.ToldBy.{NamedFiles}
 use Rattle.team_script.specs.Due.{MayComeOfScripts, script_due}
 use Rattle.team_script.specs.Told.{ScriptTold}
 use Rattle.team_script.specs.declared.fault.ScriptFault.{ScriptFault}
@@ -37,9 +39,10 @@ use Rattle.team_forms.specs.declared.pairs.LoadedPair.{LoadedPair}
 use Rattle.file_loading.specs.Due.{IsFileThere, MayCome, base_due, bytes_due_of_file}
 use Rattle.team_forms.specs.Teams.{script_failure, ArePairs, AreTeamFiles, IsTeamPrinted, TeamFiles}
 use Rattle.team_forms.specs.Teams.{TeamSeen, or_else, pair_failure, pairs_failure, pairs_found_in}
-use Rattle.team_forms.specs.Teams.{read_due, team_due, team_found_in}
+use Rattle.team_forms.specs.Teams.{named_files, read_due, team_due, team_found_in}
 use Rattle.team_forms.specs.Forms.{AllEnded, AllOfThem, FilesFailedThen, IsTeamAnswer, IsTeamFit}
 use Rattle.team_forms.specs.Forms.{IsWholeTeam, NoneOfThem, PairRefused, TeamRefused, WantingThen}
+use Rattle.team_forms.specs.Forms.{pairs_of_fit}
 use Rattle.file_loading.specs.Forms.{IsCaused, Met}
 use Rattle.team_forms.specs.Operands.{TeamNamed}
 use Rattle.team_forms.specs.TeamLoads.{AreLoaded, AreNotLoaded, IsHeld, IsNotHeld, IsNotLoaded}
@@ -171,6 +174,33 @@ any-pairs told (pair ∷ more) =
     let others = any-pairs told more in
     (first.0 ∷ others.0, (first.1, others.1))
 
+-- a pair with what there is of it
+abbrev named : Pair → DictionaryFiles → NamedFiles
+named pair there = record { aff = pair.aff; dic = pair.dic; there = there }
+
+-- what there is of some pairs, and of those behind them, by their names
+named-behind : (R : Pair → DictionaryFiles → Type 0) (pairs more : List Pair)
+    (there others : List DictionaryFiles) → AllZip R pairs there
+    → named_files (pairs ++ more) (there ++ others)
+    ≡ named_files pairs there ++ named_files more others
+named-behind R [] more [] others are = refl
+named-behind R [] more (first ∷ there) others are = absurd are
+named-behind R (pair ∷ pairs) more [] others are = absurd are
+named-behind R (pair ∷ pairs) more (first ∷ there) others are =
+    λ i. named pair first ∷ named-behind R pairs more there others are.1 i
+
+-- a pair was loaded of these files, to be looked at
+abbrev IsBareLoaded : List NamedFiles → LoadedPair Lexicon → Type 0
+IsBareLoaded files one = IsLoaded (λ lexicon. lexicon) files one
+
+loaded-longer : (files : List NamedFiles) (last : NamedFiles) (one : LoadedPair Lexicon)
+    → IsBareLoaded files one → IsBareLoaded (files ++ last ∷ []) one
+loaded-longer files last one is = record {
+  there = is.there;
+  is_there = Contains-append_left files (last ∷ []) _ is.is_there;
+  holds = is.holds;
+}
+
 module _ (told : Option Folder) where
   -- none is loaded
   pub none-loaded : AreLoaded told [] []
@@ -179,16 +209,17 @@ module _ (told : Option Folder) where
     are_there = tt;
     go_on = refl;
     names = refl;
-    each = All-nil (IsLoaded (λ lexicon. lexicon) told);
+    each = All-nil (IsBareLoaded []);
   }
 
-  -- what is loaded under these names
-  named-loaded : (pair : Pair) (loaded : LoadedPair Lexicon) (held : IsPairLoaded told pair loaded)
-      → IsLoaded (λ lexicon. lexicon) told loaded
-  named-loaded pair loaded held = record {
+  -- what is loaded under these names, of what there is of them
+  named-loaded : (files : List NamedFiles) (pair : Pair) (loaded : LoadedPair Lexicon)
+      (held : IsPairLoaded told pair loaded)
+      → Contains files (named pair held.held.there) → IsBareLoaded files loaded
+  named-loaded files pair loaded held inside = record {
     there = held.held.there;
-    is_there = subst (λ (pair : Pair). IsThere told pair.aff pair.dic held.held.there)
-        (sym held.names) held.held.is_there;
+    is_there = subst (λ (pair : Pair). Contains files (named pair held.held.there))
+        (sym held.names) inside;
     holds = held.held.holds;
   }
 
@@ -205,8 +236,16 @@ module _ (told : Option Folder) where
     names = map_push names_of loaded one
         ∙ ap (λ names. names ++ names_of one ∷ []) are.names
         ∙ ap (λ last. pairs ++ last ∷ []) is.names;
-    each = All-push (IsLoaded (λ lexicon. lexicon) told) loaded one are.each
-        (named-loaded pair one is);
+    each =
+        let files = named_files pairs are.there in
+        let last = named pair is.held.there in
+        let same = named-behind (λ pair there. IsThere told pair.aff pair.dic there) pairs (pair ∷ [])
+        are.there (is.held.there ∷ []) are.are_there in
+        subst (λ files. All (IsBareLoaded files) (loaded ++ one ∷ [])) (sym same)
+        (All-push (IsBareLoaded (files ++ last ∷ [])) loaded one
+        (All-weaker (IsBareLoaded files) (IsBareLoaded (files ++ last ∷ []))
+        (loaded-longer files last) loaded are.each)
+        (named-loaded (files ++ last ∷ []) pair one is (Contains-push files last)));
   }
 
   -- one is not loaded, and those behind it are not looked at
@@ -338,43 +377,48 @@ module _ (told : Option Folder) (names : TeamNamed) where
 -- ---- what is done
 
 -- by these numbers, and by what these say
-pub work-as : {folder : Option Folder} {workers count : ℕ} {lexicon other : Lexicon}
+pub work-as : {files : List NamedFiles} {workers count : ℕ} {lexicon other : Lexicon}
     {scripts others : List Script} {history : Run} {texts : List (List ℕ)} → count ≡ workers
     → other ≡ lexicon → others ≡ scripts
-    → IsTeamwork folder count (opening_of other []) others history texts
-    → IsTeamwork folder workers (opening_of lexicon []) scripts history texts
-work-as {folder} {workers} {count} {lexicon} {other} {scripts} {others} {history} {texts} same_count
+    → IsTeamwork files count (opening_of other []) others history texts
+    → IsTeamwork files workers (opening_of lexicon []) scripts history texts
+work-as {files} {workers} {count} {lexicon} {other} {scripts} {others} {history} {texts} same_count
     same_lexicon same_scripts work =
-    subst (λ workers. IsTeamwork folder workers (opening_of lexicon []) scripts history texts)
+    subst (λ workers. IsTeamwork files workers (opening_of lexicon []) scripts history texts)
     same_count
-    (subst (λ lexicon. IsTeamwork folder count (opening_of lexicon []) scripts history texts)
+    (subst (λ lexicon. IsTeamwork files count (opening_of lexicon []) scripts history texts)
     same_lexicon
-    (subst (λ scripts. IsTeamwork folder count (opening_of other []) scripts history texts)
+    (subst (λ scripts. IsTeamwork files count (opening_of other []) scripts history texts)
     same_scripts work))
 
 -- ---- what the call answers
 
+-- what there is of the pairs of a team that was loaded
+abbrev pub files_of : {told : Option Folder} {names : TeamNamed} {team : TeamSeen}
+    {loaded : List (LoadedPair Lexicon)} → IsTeamLoaded told names team loaded → List NamedFiles
+files_of {team = team} is = named_files team.script.pairs is.pairs.there
+
 -- what is printed of a team that was loaded
 pub team-printed : {told : Option Folder} {names : TeamNamed} {team : TeamSeen}
     {loaded : List (LoadedPair Lexicon)} {workers : ℕ} {history : Run} {texts : List (List ℕ)}
-    {total : List ℕ} (closed : Option Run) → IsTeamLoaded told names team loaded
-    → ((folder : Option Folder) → All (IsLoaded (λ lexicon. lexicon) folder) loaded
-    → IsTeamwork folder workers (opening_of team.lexicon []) (scripts_in team.script.lines)
+    {total : List ℕ} (closed : Option Run) (is : IsTeamLoaded told names team loaded)
+    → ((files : List NamedFiles) → All (IsLoaded (λ lexicon. lexicon) files) loaded
+    → IsTeamwork files workers (opening_of team.lexicon []) (scripts_in team.script.lines)
     history texts)
     → total ≡ total_line (last_of history) → IfSome closed (λ run. run ≡ history)
-    → IsTeamPrinted told workers team closed (flat_map (λ one. one) texts ++ total)
-team-printed {told} {history = history} {texts = texts} closed is work total same = record {
+    → IsTeamPrinted (files_of is) workers team closed (flat_map (λ one. one) texts ++ total)
+team-printed {history = history} {texts = texts} closed is work total same = record {
   history = history;
   texts = texts;
-  work = work told is.pairs.each;
+  work = work (files_of is) is.pairs.each;
   text_is = ap (λ total. flat_map (λ one. one) texts ++ total) total;
   closed_is = same;
 }
 
 pub team-answered : {met : Met} {names : TeamNamed} {workers : ℕ} {team : TeamSeen}
     {loaded : List (LoadedPair Lexicon)} {text : List ℕ}
-    → IsTeamLoaded met.folder names team loaded
-    → IsTeamPrinted met.folder workers team met.closed text
+    (is : IsTeamLoaded met.folder names team loaded)
+    → IsTeamPrinted (files_of is) workers team met.closed text
     → IsTeamAnswer met names workers text Quiet
 team-answered {team = team} is printed =
     AllEnded is.files team is.pairs.there is.are_there is.is_due is.pairs.are_there is.pairs.go_on
@@ -486,18 +530,24 @@ module _ {met : Met} {names : TeamNamed} {team : TeamSeen} (fit : IsTeamFit met 
 
   -- what is printed is whole
   pub team-whole : {workers : ℕ} {other : TeamSeen} {loaded : List (LoadedPair Lexicon)}
-      {text : List ℕ} → IsTeamLoaded met.folder names other loaded
-      → IsTeamPrinted met.folder workers other met.closed text
-      → IsWholeTeam met workers team text Quiet
-  team-whole {workers} {text = text} is printed =
+      {text : List ℕ} (is : IsTeamLoaded met.folder names other loaded)
+      → IsTeamPrinted (files_of is) workers other met.closed text
+      → IsWholeTeam met workers team (pairs_of_fit fit) text Quiet
+  team-whole {workers} {other} {text = text} is printed =
+      let found = pairs-found fit.folder other.script.pairs is.pairs.there
+      (subst (λ told. ArePairs told other.script.pairs is.pairs.there) fit.folder_is
+      is.pairs.are_there) in
       AllOfThem refl
-      (subst (λ team. IsTeamPrinted met.folder workers team met.closed text)
-      (fit-same is.files is.are_there is.is_due) printed)
+      (subst (λ (team : TeamSeen). IsTeamPrinted
+      (named_files team.script.pairs (pairs_found_in fit.folder team.script.pairs)) workers team
+      met.closed text) (fit-same is.files is.are_there is.is_due)
+      (subst (λ there. IsTeamPrinted (named_files other.script.pairs there) workers other met.closed
+      text) found printed))
 
   -- and it is loaded, unless the files fail or memory is wanting
   pub team-not-whole : {workers : ℕ} {failure : Failure} → IsNotLoaded met.folder names failure
       → (failure ≡ Load FailedLoad → met.files_before < met.files_after)
-      → met.files_after ≡ met.files_before → IsWholeTeam met workers team [] (Failed failure)
+      → met.files_after ≡ met.files_before → IsWholeTeam met workers team (pairs_of_fit fit) [] (Failed failure)
   team-not-whole {failure = failure} (TeamComes comes) rose same =
       ⊎_elim (λ failed. let more = rose failed in absurd (omega (arith, more, same)))
       (λ wanting. NoneOfThem (ap Failed wanting) refl) (comes-as failure comes)

@@ -5,7 +5,9 @@ use Rattle.own_dictionary.specs.dictionary_swap.Loads.{DictionaryFiles}
 use Rattle.own_dictionary.specs.dictionary_swap.declared.fault.LoadFault.TheVariants.{Failed as FailedLoad}
 use Rattle.team_forms.specs.Operands.{TeamNamed}
 use Rattle.team_forms.specs.Teams.{ArePairs, AreTeamFiles, IsTeamPrinted, TeamFiles, TeamSeen}
-use Rattle.team_forms.specs.Teams.{pairs_failure, pairs_found_in, team_due, team_found_in}
+use Rattle.team_forms.specs.Teams.{named_files, pairs_failure, pairs_found_in, team_due}
+use Rattle.team_forms.specs.Teams.{team_found_in}
+use Rattle.team_history.specs.ToldBy.{NamedFiles}
 use Rattle.file_loading.specs.declared.ending.End.{End}
 use Rattle.file_loading.specs.declared.ending.End.TheVariants.{Quiet, Failed}
 use Rattle.file_loading.specs.declared.failure.Failure.{Failure}
@@ -20,8 +22,8 @@ pub data IsTeamAnswer (met : Met) (names : TeamNamed) (workers : ℕ) (text : Li
   AllEnded : (files : TeamFiles) (team : TeamSeen) (pairs : List DictionaryFiles)
       → AreTeamFiles met.folder names files → team_due files ≡ Ok team
       → ArePairs met.folder team.script.pairs pairs → pairs_failure pairs ≡ None
-      → IsTeamPrinted met.folder workers team met.closed text → end ≡ Quiet
-      → IsTeamAnswer met names workers text end
+      → IsTeamPrinted (named_files team.script.pairs pairs) workers team met.closed text
+      → end ≡ Quiet → IsTeamAnswer met names workers text end
   TeamRefused : (files : TeamFiles) (failure : Failure) → AreTeamFiles met.folder names files
       → team_due files ≡ Err failure → end ≡ Failed failure → text ≡ []
       → IsTeamAnswer met names workers text end
@@ -41,12 +43,18 @@ pub record IsTeamFit (met : Met) (names : TeamNamed) (team : TeamSeen) : Type 0 
   pub is_due : team_due (team_found_in folder names) ≡ Ok team
   pub pairs : pairs_failure (pairs_found_in folder team.script.pairs) ≡ None
 
+-- the pairs that the script loads, as the folder has them
+abbrev pub pairs_of_fit : {met : Met} {names : TeamNamed} {team : TeamSeen}
+    → IsTeamFit met names team → List NamedFiles
+pairs_of_fit {team = team} fit =
+    named_files team.script.pairs (pairs_found_in fit.folder team.script.pairs)
+
 -- all is printed, or memory was wanting
-pub data IsWholeTeam (met : Met) (workers : ℕ) (team : TeamSeen) (text : List ℕ) (end : End) : Type
-    0 where
-  AllOfThem : end ≡ Quiet → IsTeamPrinted met.folder workers team met.closed text
-      → IsWholeTeam met workers team text end
-  NoneOfThem : end ≡ Failed NoMemory → text ≡ [] → IsWholeTeam met workers team text end
+pub data IsWholeTeam (met : Met) (workers : ℕ) (team : TeamSeen) (pairs : List NamedFiles)
+    (text : List ℕ) (end : End) : Type 0 where
+  AllOfThem : end ≡ Quiet → IsTeamPrinted pairs workers team met.closed text
+      → IsWholeTeam met workers team pairs text end
+  NoneOfThem : end ≡ Failed NoMemory → text ≡ [] → IsWholeTeam met workers team pairs text end
 
 abbrev pub team_form : TeamNamed → ℕ → Form
 team_form names workers = record {
@@ -54,6 +62,7 @@ team_form names workers = record {
   reads_input = false;
   opens_desk = true;
   answers = λ met text end. IsTeamAnswer met names workers text end;
-  whole = λ met text end. (team : TeamSeen) → IsTeamFit met names team
-      → met.files_after ≡ met.files_before → IsWholeTeam met workers team text end;
+  whole = λ met text end. (team : TeamSeen) (fit : IsTeamFit met names team)
+      → met.files_after ≡ met.files_before
+      → IsWholeTeam met workers team (pairs_of_fit fit) text end;
 }

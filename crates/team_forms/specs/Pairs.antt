@@ -1,11 +1,10 @@
 -- The pairs of dictionary files that sessions load, as they were loaded before.
-use Rattle.std.specs.Prelude.{◌≡◌, ℕ, Bool, List, map, Option, Result, Ok, Err}
+use Rattle.std.specs.Prelude.{◌≡◌, ℕ, Bool, List, map, Contains, Result, Ok, Err}
 use Rattle.std.specs.Arc.{arc_value}
-use Rattle.outside.specs.Files.{Folder}
 use Rattle.mark_types.specs.spell_types.declared.Lexicon.{Lexicon}
 use Rattle.own_dictionary.specs.dictionary_swap.Loads.{DictionaryFiles, lexicon_due}
 use Rattle.own_dictionary.specs.dictionary_swap.declared.fault.LoadFault.{LoadFault}
-use Rattle.console_board.specs.Transcripts.{IsThere}
+use Rattle.team_history.specs.ToldBy.{NamedFiles}
 use Rattle.team_script.specs.Pairs.{LoadsAmong, is_same}
 use Rattle.team_script.specs.declared.pairs.Pair.{Pair}
 use Rattle.team_forms.specs.declared.pairs.LoadedPair.{LoadedPair}
@@ -17,12 +16,11 @@ Holds lexicon_of (Ok lexicon) (Ok held) = lexicon_of held ≡ lexicon
 Holds lexicon_of (Err fault) (Err held) = held ≡ fault
 Holds lexicon_of due held = ⊥
 
--- a pair was loaded: what is held of it is due of some files, which are those of the folder that is
--- told, where one is
-pub record IsLoaded {J : Type 0} (lexicon_of : J → Lexicon) (folder : Option Folder)
+-- a pair was loaded: what is held of it is due of its files, which are among these
+pub record IsLoaded {J : Type 0} (lexicon_of : J → Lexicon) (pairs : List NamedFiles)
     (pair : LoadedPair J) : Type 0 where
   pub there : DictionaryFiles
-  pub is_there : IsThere folder pair.aff pair.dic there
+  pub is_there : Contains pairs (record { aff = pair.aff; dic = pair.dic; there = there })
   pub holds : Holds (λ judge. lexicon_of (arc_value judge)) (lexicon_due there) pair.loaded
 
 -- the names of a pair

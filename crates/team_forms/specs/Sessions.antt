@@ -35,7 +35,7 @@ line_asks line = option_map without_own (asked_for (line_says line))
 pub record IsOf {J : Type 0} (lexicon_of : J → Lexicon) (pairs : List (LoadedPair J)) (number : ℕ)
     (session : Session) : Type 0 where
   pub number_is : session.number ≡ number
-  pub loaded : All (IsLoaded lexicon_of session.folder) pairs
+  pub loaded : All (IsLoaded lexicon_of session.pairs) pairs
 
 -- what is asked for was replied to, and the reply was added to a text
 pub record IsSessionReplied {J : Type 0} (lexicon_of : J → Lexicon) (pairs : List (LoadedPair J))

@@ -16,7 +16,7 @@ use Rattle.file_loading.specs.Due.{MayCome}
 use Rattle.file_loading.specs.Failures.{failure_of}
 use Rattle.team_forms.specs.Operands.{TeamNamed}
 use Rattle.team_forms.specs.Teams.{ArePairs, AreTeamFiles, TeamFiles, TeamSeen, pair_failure}
-use Rattle.team_forms.specs.Teams.{pairs_failure, team_due}
+use Rattle.team_forms.specs.Teams.{named_files, pairs_failure, team_due}
 use Rattle.file_loading.specs.declared.failure.Failure.{Failure}
 
 -- why a pair that was refused ends the call: a fault in a line of it does not
@@ -52,7 +52,7 @@ pub record AreLoaded (told : Option Folder) (pairs : List Pair)
   pub are_there : ArePairs told pairs there
   pub go_on : pairs_failure there ≡ None
   pub names : map names_of loaded ≡ pairs
-  pub each : All (IsLoaded (λ lexicon. lexicon) told) loaded
+  pub each : All (IsLoaded (λ lexicon. lexicon) (named_files pairs there)) loaded
 
 -- why pairs are not loaded
 pub data AreNotLoaded (told : Option Folder) (pairs : List Pair) (failure : Failure) : Type 0 where

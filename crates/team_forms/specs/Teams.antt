@@ -20,6 +20,7 @@ use Rattle.board_share.specs.edit_core.Runs.{Run}
 use Rattle.board_share.specs.edit_core.Seen.{opening_of}
 use Rattle.board_share.specs.Eyes.{last_of}
 use Rattle.console_board.specs.Transcripts.{IsThere}
+use Rattle.team_history.specs.ToldBy.{NamedFiles}
 use Rattle.team_script.specs.Due.{script_due}
 use Rattle.team_script.specs.Told.{ScriptTold}
 use Rattle.team_script.specs.declared.pairs.Pair.{Pair}
@@ -95,14 +96,21 @@ team_found_in folder names = record {
 abbrev pub pairs_found_in : Folder → List Pair → List DictionaryFiles
 pairs_found_in folder pairs = map (λ pair. found_in folder pair.aff pair.dic) pairs
 
+-- the pairs with what there is of them
+abbrev pub named_files : List Pair → List DictionaryFiles → List NamedFiles
+named_files [] files = []
+named_files (pair ∷ pairs) [] = []
+named_files (pair ∷ pairs) (there ∷ files) =
+    record { aff = pair.aff; dic = pair.dic; there = there } ∷ named_files pairs files
+
 -- What is printed of a team beside so many workers: the replies of each session behind its number,
--- and last the versions of the last board. One history tells all of it. Where a history is given
--- back, it is that one.
-pub record IsTeamPrinted (folder : Option Folder) (workers : ℕ) (team : TeamSeen)
+-- and last the versions of the last board. One history tells all of it, by what there is of each
+-- pair that the script loads. Where a history is given back, it is that one.
+pub record IsTeamPrinted (pairs : List NamedFiles) (workers : ℕ) (team : TeamSeen)
     (closed : Option Run) (text : List ℕ) : Type 0 where
   pub history : Run
   pub texts : List (List ℕ)
-  pub work : IsTeamwork folder workers (opening_of team.lexicon []) (scripts_in team.script.lines)
+  pub work : IsTeamwork pairs workers (opening_of team.lexicon []) (scripts_in team.script.lines)
       history texts
   pub text_is : text ≡ flat_map (λ one. one) texts ++ total_line (last_of history)
   pub closed_is : IfSome closed (λ run. run ≡ history)

@@ -1,12 +1,12 @@
 //! What `team` is asked for, and what it does: the sessions of a script edit one text at once,
 //! beside workers.
 
-ghost use Rattle.std.specs.Prelude.{◌≡◌, ◌==◌, ◌<◌, ◌≤◌, ◌++◌, [], All, map, Option, Some, None};
+ghost use Rattle.std.specs.Prelude.{◌≡◌, ◌==◌, ◌<◌, ◌≤◌, ◌++◌, [], All, List, map, Some, None};
 ghost use Rattle.std.specs.Prelude.{IfErr, IfOk, IfSome, IsErrOf, OnErr, OnOk, false, true, length};
 ghost use Rattle.std.specs.Arc.{arc_value};
 ghost use Rattle.std.specs.List.{flat_map};
 ghost use Rattle.std.specs.String.{string_bytes};
-ghost use Rattle.outside.specs.Files.{Folder};
+ghost use Rattle.team_history.specs.ToldBy.{NamedFiles};
 ghost use Rattle.outside.specs.Sink.{Appends, AppendsFront};
 ghost use Rattle.own_dictionary.specs.dictionary_swap.declared.fault.LoadFault.TheVariants.{Failed as FailedLoad};
 ghost use Rattle.own_dictionary.specs.dictionary_swap.declared.limits.TheConstants.{SIZE_LIMIT};
@@ -28,7 +28,9 @@ use crate::scripts::scripts_of;
 use crate::teamwork::{Teamed, answer_at_once};
 use board_share::Closed;
 use board_share::edit_core::Versions;
-use file_loading::{End, Ended, Failure, SINK_FAILED, Workers, load_base_judge, load_speller, put_end};
+use file_loading::{
+    End, Ended, Failure, SINK_FAILED, Workers, load_base_judge, load_speller, put_end,
+};
 use outside::lists::{Copied, NoMemory};
 use outside::{Failed, Files, Gate, Sink};
 use own_dictionary::dictionary_swap::LoadFault;
@@ -243,9 +245,9 @@ where
     G: Gate + Sync,
     requires pairs { map names_of team.now.pairs.items ≡ team.now.script.pairs }
     requires few { length team.now.script.lines ≤ SIZE_LIMIT }
-    ensures work { IfOk result (λ done. (folder : Option Folder)
-        → All (IsLoaded (λ lexicon. lexicon) folder) team.now.pairs.items
-        → IsTeamwork folder workers (opening_of (arc_value team.now.judge) [])
+    ensures work { IfOk result (λ done. (files : List NamedFiles)
+        → All (IsLoaded (λ lexicon. lexicon) files) team.now.pairs.items
+        → IsTeamwork files workers (opening_of (arc_value team.now.judge) [])
         (scripts_in team.now.script.lines) done.closed (map string_bytes done.texts.items)) }
     ensures total { IfOk result
         (λ done. string_bytes done.total ≡ total_line (last_of done.closed)) }

@@ -1,10 +1,10 @@
 //! Sessions at once, from the start of their desk to its end.
 
-ghost use Rattle.std.specs.Prelude.{◌≡◌, ◌+◌, ◌<◌, ◌≤◌, ◌++◌, ℕ, [], All, IfOk, OnOk, Option, None};
+ghost use Rattle.std.specs.Prelude.{◌≡◌, ◌+◌, ◌<◌, ◌≤◌, ◌++◌, ℕ, [], All, IfOk, List, OnOk, None};
 ghost use Rattle.std.specs.Prelude.{Some, length, map};
 ghost use Rattle.std.specs.Arc.{arc_value};
 ghost use Rattle.std.specs.String.{string_bytes};
-ghost use Rattle.outside.specs.Files.{Folder};
+ghost use Rattle.team_history.specs.ToldBy.{NamedFiles};
 ghost use Rattle.board_share.specs.edit_core.Seen.{opening_of};
 ghost use Rattle.board_share.specs.Namings.{IsNamed};
 ghost use Rattle.input_lines.specs.Answers.{HasNoBreak};
@@ -70,9 +70,9 @@ where
     requires whole { All (λ script. All HasNoBreak script.lines) scripts.now }
     requires held { All (λ script. All (LoadsHeld pairs.now) script.lines) scripts.now }
     // The history of the desk tells what is to be printed, by the dictionaries that were loaded.
-    ensures { IfOk result (λ done. (folder : Option Folder)
-        → All (IsLoaded J.lexicon folder) pairs.now
-        → IsTeamwork folder workers (opening_of (J.lexicon (arc_value judge)) []) scripts.now
+    ensures { IfOk result (λ done. (files : List NamedFiles)
+        → All (IsLoaded J.lexicon files) pairs.now
+        → IsTeamwork files workers (opening_of (J.lexicon (arc_value judge)) []) scripts.now
         done.closed (map string_bytes done.texts.items)) }
 {
     let opening = empty_board(place.alloc, judge)?;
@@ -113,9 +113,9 @@ where
     requires opens { opening ≡ opening_of opening.lexicon [] }
     requires named { IsNamed blank opening D.name D.parts D.book D.opening }
     requires parts { blank.parts ≡ workers + length scripts.now + 1 }
-    ensures { IfOk result (λ done. (folder : Option Folder)
-        → All (IsLoaded J.lexicon folder) pairs.now
-        → IsTeamwork folder workers opening scripts.now done.closed
+    ensures { IfOk result (λ done. (files : List NamedFiles)
+        → All (IsLoaded J.lexicon files) pairs.now
+        → IsTeamwork files workers opening scripts.now done.closed
         (map string_bytes done.texts.items)) }
 {
     let eyes = workers + scripts.len() as u32 + 1;
@@ -146,9 +146,9 @@ where
         ≡ fresh_eyes D.opening 0 (workers + length scripts.now + 1) }
     requires parts { D.parts ≡ workers + length scripts.now + 1 }
     requires empty { D.opening.paragraphs ≡ [] }
-    ensures { IfOk result (λ done. (folder : Option Folder)
-        → All (IsLoaded J.lexicon folder) pairs.now
-        → IsTeamwork folder workers D.opening scripts.now done.closed
+    ensures { IfOk result (λ done. (files : List NamedFiles)
+        → All (IsLoaded J.lexicon files) pairs.now
+        → IsTeamwork files workers D.opening scripts.now done.closed
         (map string_bytes done.texts.items)) }
 {
     closed_sessions_are_not_spent();

@@ -1,7 +1,7 @@
 -- How far sessions get that ask for little.
 use Rattle.std.proofs.Common.{◌≡◌, ◌∙◌, refl, sym, ap, subst, ℕ, zero, suc, ◌+◌, ◌*◌, ◌^◌, ◌<◌, ◌≤◌}
 use Rattle.std.proofs.Common.{◌==◌, Bool, true, false, not, ◌&&◌, cond, nat_lt, List, [], ◌∷◌, ◌++◌}
-use Rattle.std.proofs.Common.{None, Some, length, map, arith}
+use Rattle.std.proofs.Common.{Some, length, map, arith}
 use Rattle.std.proofs.Math.Nat.{suc-mul}
 use Rattle.std.specs.List.{All, AllByRecursion, count_by, range_with_len}
 use Rattle.std.specs.List.Sorted.{IsPermutation}
@@ -43,7 +43,7 @@ step-asks session old new command reply step = record {
 
 -- a session whose number is that of the eye
 abbrev of-eye : ℕ → EyeSeen → Session
-of-eye number eye = record { by = eye.number; number = number; folder = None }
+of-eye number eye = record { by = eye.number; number = number; pairs = [] }
 
 pub plain-asks : LastGoesOn → EventsAsked → (number : ℕ) (command : Command) (old new : EyeSeen)
     (reply : Reply) → HasWholeText command → IsPlainTold number command old new reply

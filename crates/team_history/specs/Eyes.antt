@@ -1,7 +1,7 @@
 -- What a session is told through its eye. Each of its commands takes the eye from one state to a
 -- later one.
 use Rattle.std.specs.Prelude.{◌≡◌, ℕ, ◌+◌, ◌^◌, ◌≤◌, List, [], ◌∷◌, ◌++◌, Option, None, Some}
-use Rattle.std.specs.Prelude.{Result, Ok, Err}
+use Rattle.std.specs.Prelude.{Contains, Result, Ok, Err}
 use Rattle.spell_types.specs.declared.Lexicon.{Lexicon}
 use Rattle.dictionary_swap.specs.Loads.{DictionaryFiles, lexicon_due}
 use Rattle.dictionary_swap.specs.declared.fault.LoadFault.{LoadFault}
@@ -13,7 +13,7 @@ use Rattle.console_lang.specs.declared.command.Command.TheVariants.{Load}
 use Rattle.console_lang.specs.declared.reply.Reply.{Reply}
 use Rattle.console_lang.specs.declared.reply.Reply.TheVariants.{NoCommand}
 use Rattle.console_board.specs.OwnConsoles.{fault_reply}
-use Rattle.console_board.specs.Transcripts.{HasWholeText, IsThere}
+use Rattle.console_board.specs.Transcripts.{HasWholeText}
 use Rattle.console_history.specs.Told.{IsLexiconTold, IsPlainTold}
 use Rattle.team_history.specs.ToldBy.{IsOneToldIn, Session, taken_in}
 
@@ -35,11 +35,11 @@ abbrev pub IsLoadedTold : Result Lexicon LoadFault → EyeSeen → EyeSeen → R
 IsLoadedTold (Ok lexicon) old new reply = IsLexiconTold lexicon old new reply
 IsLoadedTold (Err fault) old new reply = (new ≡ old) × (reply ≡ fault_reply fault)
 
--- `load`: the two files are those of the folder that is told, where one is
+-- `load`: the two files are a pair of those that were loaded
 pub record IsPairTold (session : Session) (aff dic : List ℕ) (old new : EyeSeen) (reply : Reply) :
     Type 0 where
   pub there : DictionaryFiles
-  pub is_there : IsThere session.folder aff dic there
+  pub is_there : Contains session.pairs (record { aff = aff; dic = dic; there = there })
   pub done : IsLoadedTold (lexicon_due there) old new reply
 
 -- what is replied to what is asked for

@@ -1,9 +1,8 @@
 -- The replies of a session, told by a history that many sessions make at once.
 use Rattle.std.specs.Prelude.{◌≡◌, ℕ, ◌+◌, ◌<◌, ◌≤◌, ◌⊎◌, ◌++◌, ◌&&◌, Bool, true, false, not, List}
 use Rattle.std.specs.Prelude.{[], ◌∷◌, length, map, Option, None, Some, Result, Ok, Err}
-use Rattle.std.specs.Prelude.{if◌then◌else◌}
+use Rattle.std.specs.Prelude.{Contains, if◌then◌else◌}
 use Rattle.std.specs.List.{AllByRecursion}
-use Rattle.outside.specs.Files.{Folder}
 use Rattle.spell_types.specs.declared.Lexicon.{Lexicon}
 use Rattle.dictionary_swap.specs.Loads.{DictionaryFiles, lexicon_due}
 use Rattle.dictionary_swap.specs.declared.fault.LoadFault.{LoadFault}
@@ -19,14 +18,20 @@ use Rattle.console_lang.specs.declared.reply.Reply.{Reply}
 use Rattle.console_lang.specs.declared.reply.Reply.TheVariants.{Done, Dict, NoCommand, NoPlace}
 use Rattle.console_board.specs.BoardAnswers.{PutsWhole, event_for, look_reply, reply_for}
 use Rattle.console_board.specs.OwnConsoles.{fault_reply}
-use Rattle.console_board.specs.Transcripts.{IsThere, commands_asked_by, lines_before_quit}
+use Rattle.console_board.specs.Transcripts.{commands_asked_by, lines_before_quit}
+
+-- two files by their names, and what there is of them
+pub record NamedFiles : Type 0 where
+  pub aff : List ℕ
+  pub dic : List ℕ
+  pub there : DictionaryFiles
 
 -- a session: the number that its entries in the history have, the number that its events name, and
--- the folder of which its dictionaries were loaded, if one is told
+-- the pairs of files that its dictionaries were loaded of
 pub record Session : Type 0 where
   pub by : ℕ
   pub number : ℕ
-  pub folder : Option Folder
+  pub pairs : List NamedFiles
 
 -- ---- what its lines ask for
 
@@ -102,11 +107,11 @@ abbrev pub IsLoadDone : ℕ → Result Lexicon LoadFault → List Entry → Repl
 IsLoadDone by (Ok lexicon) part reply = IsBroughtIn by lexicon part reply
 IsLoadDone by (Err fault) part reply = (part ≡ []) × (reply ≡ fault_reply fault)
 
--- the two files are those of the folder that is told, where one is
+-- the two files are a pair of those that were loaded
 pub record IsLoadToldIn (session : Session) (aff dic : List ℕ) (part : List Entry)
     (reply : Reply) : Type 0 where
   pub there : DictionaryFiles
-  pub is_there : IsThere session.folder aff dic there
+  pub is_there : Contains session.pairs (record { aff = aff; dic = dic; there = there })
   pub done : IsLoadDone session.by (lexicon_due there) part reply
 
 -- ---- what is settled
