@@ -78,6 +78,19 @@ static void measure_memory(void) {
     most("what closed handles have", held - before, 0);
 }
 
+/* A blank line adds nothing, and what the handle remembers stays. */
+static void keep_what_is_remembered(void) {
+    affedit_dictionary dictionary = AFFEDIT_CLOSED_HANDLE;
+    affedit_fault fault = {0, 0, 0};
+    NEED(affedit_open(BYTES("SET UTF-8\n"), BYTES("1\nword\n"), &dictionary, &fault), AFFEDIT_DONE);
+    NEED(affedit_add(&dictionary, BYTES("wurk")), AFFEDIT_DONE);
+    NEED(affedit_word(&dictionary, BYTES("wurk")), AFFEDIT_KNOWN);
+    size_t before = held;
+    NEED(affedit_add(&dictionary, BYTES("  ")), AFFEDIT_BLANK);
+    most("what a blank line gives up", before - held, 0);
+    affedit_close(&dictionary);
+}
+
 /* Words of 100 characters that are broken at each, which go deepest. */
 static const char DEEP_AFF[] = "SET UTF-8\nWORDCHARS -.\nCOMPOUNDFLAG C\nCOMPOUNDMIN 1\nBREAK 4\nBREAK ^a\nBREAK -\nBREAK ^-\nBREAK .\nSFX S Y 1\nSFX S 0 a/C .\n";
 static const char DEEP_DIC[] = "2\na-b/S\nb/CS\n";
@@ -104,6 +117,7 @@ static void go_deep(void) {
 
 static void *run(void *unused) {
     measure_memory();
+    keep_what_is_remembered();
     go_deep();
     return unused;
 }
