@@ -61,7 +61,7 @@ fn derivations_of_homonyms(alloc: Global) -> Result<Vec<Derivation>, Fail> {
 fn each_homonym_gives_a_derivation(rt: HostRuntime) -> Result<(), Fail> {
     let found = derivations_of_homonyms(rt.alloc())?;
     assert_eq!(rt; found.len(), HOMONYMS as usize);
-    let mut entry = 0;
+    let mut entry = 0u32;
     for d in &found {
         let wanted = Derivation {
             entry,
@@ -70,7 +70,7 @@ fn each_homonym_gives_a_derivation(rt: HostRuntime) -> Result<(), Fail> {
             second: None,
         };
         assert_eq!(rt; *d, wanted);
-        entry += 1;
+        entry = entry.wrapping_add(1);
     }
     Ok(())
 }
