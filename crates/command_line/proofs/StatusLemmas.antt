@@ -12,7 +12,7 @@ use Rattle.command_line.specs.Forms.{IsAnswerTo}
 use Rattle.file_loading.specs.Forms.{Form, IsAnswerBy, Met, is_the_only_line}
 use Rattle.command_line.specs.declared.requests.Request.{Request}
 use Rattle.file_loading.specs.declared.ending.End.{End}
-use Rattle.file_loading.specs.declared.ending.End.TheVariants.{Failed}
+use Rattle.file_loading.specs.declared.ending.End.TheVariants.{Failed, Quiet, Marked}
 use Rattle.file_loading.specs.declared.failure.Failure.TheVariants.{Words, Load, Document, Input}
 use Rattle.std.specs.Prelude.{is_some, Some}
 
@@ -58,10 +58,10 @@ due-told : {answers : List ℕ → End → Type 0} {sink_failed : Type 0} {befor
     → Tells meant ends.due × Appends before now (ends.text ++ tail_of ends.due)
 due-told meant not_sink not_memory ends is = by ends.text ends.due ends.end ends.end_is ends.put is
   where
-    as_due : {before now : Option (List ℕ)} {status : ℕ} (text : List ℕ) (due end : End)
+    as_due : {status : ℕ} (before now : Option (List ℕ)) (text : List ℕ) (due end : End)
         → due ≡ end → status ≡ status_at end → Appends before now (text ++ tail_of end)
         → status ≡ meant → Tells meant due × Appends before now (text ++ tail_of due)
-    as_due {before = before} {now = now} text due end same told_as put is = (
+    as_due before now text due end same told_as put is = (
       subst (λ n. Tells n due) (ap status_at same ∙ sym told_as ∙ is) (told due),
       subst (λ end. Appends before now (text ++ tail_of end)) (sym same) put,
     )
@@ -71,12 +71,14 @@ due-told meant not_sink not_memory ends is = by ends.text ends.due ends.end ends
         → IsPut (status_at end) (text ++ tail_of end) sink_failed before now status → status ≡ meant
         → Tells meant due × Appends before now (text ++ tail_of due)
     by text due end end_is (Cut failed six put) is = absurd (not_sink (sym is ∙ six))
-    by text Quiet end same (Whole told_as put) is = as_due text Quiet end (sym same) told_as put is
-    by text Marked end same (Whole told_as put) is = as_due text Marked end (sym same) told_as put is
+    by {before = before} {now = now} text Quiet end same (Whole told_as put) is =
+        as_due before now text Quiet end (sym same) told_as put is
+    by {before = before} {now = now} text Marked end same (Whole told_as put) is =
+        as_due before now text Marked end (sym same) told_as put is
     by text (Failed failure) end (inl wanting) (Whole told_as put) is =
         absurd (not_memory (sym is ∙ told_as ∙ ap status_at wanting))
-    by text (Failed failure) end (inr found) (Whole told_as put) is =
-        as_due text (Failed failure) end (cc) told_as put is
+    by {before = before} {now = now} text (Failed failure) end (inr found) (Whole told_as put) is =
+        as_due before now text (Failed failure) end (cc) told_as put is
 
 has-no-form : (asked : Option Request) → is_some asked ≡ false → asked ≡ None
 has-no-form None none = refl

@@ -2,11 +2,14 @@
 use Rattle.std.proofs.Common.{[], arith, refl}
 use Rattle.outside.specs.Laws.{appends-none}
 use Rattle.file_loading.specs.EndLaws.{ends-behind}
+use Rattle.file_loading.specs.declared.ending.End.TheVariants.{Failed}
+use Rattle.file_loading.specs.declared.failure.Failure.TheVariants.{Words}
 use Rattle.command_line.proofs.top_call.tell_words.Goals as goal
 
 pub returns-clause-due : goal.returns-clause-due
 returns-clause-due g c = λ folder files reading untouched.
-    ends-behind [] _ (λ failed. failed) (appends-none (g.K.Sink.written c.args.out.now)) (record {
+    ends-behind [] (Failed Words) (λ failed. failed)
+    (appends-none (g.K.Sink.written c.args.out.now)) (record {
       answer = refl;
       caused = record {
         words = λ is. refl;
@@ -20,5 +23,5 @@ returns-clause-due g c = λ folder files reading untouched.
 
 pub returns-clause-complete : goal.returns-clause-complete
 returns-clause-complete g c = λ met same.
-    ends-behind [] _ (λ failed. omega (arith, failed, same))
+    ends-behind [] (Failed Words) (λ failed. omega (arith, failed, same))
     (appends-none (g.K.Sink.written c.args.out.now)) tt c.put_end.ensures.puts
