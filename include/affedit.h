@@ -35,6 +35,23 @@
  * its answer. Beside the dictionary and personal words that takes 1.6 MB at most. A call takes less
  * than 64 kB of stack. Both figures are measured (tests/c/limits.c), and not proved.
  *
+ * What stays under the name libaffedit.so.1, so that a program that was compiled with an older header
+ * of that name runs with a newer library:
+ *
+ *  - A program allocates three structs: affedit_dictionary, affedit_fault and affedit_mark, and arrays
+ *    of the last. Each keeps its size, its alignment, and the names, types and places of its fields.
+ *  - The fields of affedit_dictionary are the library's. A program neither reads nor writes them, and
+ *    what they hold may change. AFFEDIT_CLOSED_HANDLE stays a closed handle.
+ *  - Each constant keeps its value. Each function keeps its parameters, and answers nothing that is
+ *    not said of it here. New causes of faults may come, with numbers above those of their file.
+ *  - What a later version has to tell beyond this comes by a new function, with a struct of its own.
+ *    What cannot come so gets another name, libaffedit.so.2: programs are compiled anew for it.
+ *
+ * AFFEDIT_VERSION is the version of the header that a program was compiled with. The archive is of
+ * the version of the header beside it. No function tells the version of a shared library that a
+ * program runs with. If that library is older and lacks a function, the dynamic linker ends the
+ * program, at its start or at the call. All sizes are those of x86-64 (tests/c/layout.c).
+ *
  * Which words are known follows from the dictionary. Where it says nothing else:
  *
  *  - affedit_word takes its bytes as one word, and cuts nothing off. No bytes are known. So is a
@@ -69,7 +86,7 @@
 extern "C" {
 #endif
 
-/* A handle on a dictionary, or a closed one. Its fields are the library's. */
+/* A handle on a dictionary, or a closed one. Its fields are the library's, and its size stays. */
 typedef struct affedit_dictionary {
     void *held;
     bool is_open;

@@ -2,7 +2,7 @@
 # Whether a program in C is answered as it has to be by the library for C that tests/program finds: 102,000 words of three made languages, of which is known
 # which are generated; the marks of the same words, with a personal list, beside those of `check`; each cause of a fault; bytes of all kinds as words,
 # texts and files; handles; 8 threads with a handle each; and each allocation refused in turn. Then what affedit.h says of words, texts, memory and the
-# stack (tests/c/meaning.c, tests/c/limits.c). The program is built with the sanitizers of addresses and
+# stack (tests/c/meaning.c, tests/c/limits.c), and of what stays from version to version (tests/c/layout.c). The program is built with the sanitizers of addresses and
 # of undefined behaviour, and run once more by valgrind, if they are installed. Prints what differs, and what was skipped; the status is 0 if nothing
 # differs.
 set -euo pipefail
@@ -37,6 +37,38 @@ if has 'the header in C++' c++; then
     c++ -std=c++17 -I"$top/include" -Wall -Wextra -Werror -fsyntax-only -x c++ "$top/include/affedit.hpp"
 fi
 cc -std=c99 -Wall -Wextra -Wpedantic -Werror -fsyntax-only -x c "$top/include/affedit.h"
+
+# ---- what stays under the name libaffedit.so.1: the layout of structs, constants and functions
+
+# has_layout FOLDER: whether the header of this folder has the layout that stands in tests/c/layout.c.
+has_layout() { cc -std=c11 -Wall -Wextra -Wpedantic -Werror "-I$1" "$top/tests/c/layout.c" "$library" -o layout && ./layout; }
+has_layout "$top/include" || { echo 'affedit.h has another layout than tests/c/layout.c'; failed=1; }
+# Each constant with its value, and each function, of the header and of the test.
+grep -oE '^    AFFEDIT_[A-Z0-9_]+ = [0-9]+|^(uint32_t|void) affedit_[a-z_]+' "$top/include/affedit.h" | sed 's/^ *//; s/.* affedit_/affedit_/' | sort > wanted
+sed -nE 's/^CONSTANT\((AFFEDIT_[A-Z0-9_]+), ([0-9]+)\);/\1 = \2/p; s/^FUNCTION\((affedit_[a-z_]+),.*/\1/p' "$top/tests/c/layout.c" | sort > got
+diff wanted got || { echo 'tests/c/layout.c lacks a name of affedit.h, or has one more'; failed=1; }
+mkdir other
+# Each of these edits of the header changes what stays.
+while IFS= read -r edit; do
+    sed -E "$edit" "$top/include/affedit.h" > other/affedit.h
+    ! cmp -s "$top/include/affedit.h" other/affedit.h || { echo "the header has not what this edits: $edit"; failed=1; }
+    ! has_layout other 2> said || { echo "another layout passes: $edit"; failed=1; }
+done << 'EDITS'
+s/^    bool is_open;/&\n    bool is_shared;/
+s/^    void \*held;/&\n    void *more;/
+s/^    bool is_open;/    uint32_t is_open;/
+s/^#define AFFEDIT_CLOSED_HANDLE .*/#define AFFEDIT_CLOSED_HANDLE { NULL, true }/
+s/^    uint32_t cause;/&\n    uint32_t column;/
+s/^    uint64_t line;/    uint32_t line;/
+s/^    uint32_t file;/    uint32_t cause_;/; s/^    uint32_t cause;/    uint32_t file;/; s/cause_;/cause;/
+s/^    uint32_t to;/&\n    uint32_t kind;/
+s/^    uint32_t from;/    uint32_t to_;/; s/^    uint32_t to;/    uint32_t from;/; s/to_;/to;/
+s/^    uint32_t (from|to);/    uint64_t \1;/
+s/AFFEDIT_CLOSED = 9,/AFFEDIT_CLOSED = 11,/
+s/AFFEDIT_OWN_FILE = 3/AFFEDIT_OWN_FILE = 4/
+s/size_t room,/uint32_t room,/
+s/^void affedit_close/uint32_t affedit_close/
+EDITS
 
 # same WHAT WANTED GOT: the files are the same.
 same() { cmp "$2" "$3" || { echo "$1 differs"; failed=1; }; }
