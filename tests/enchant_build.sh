@@ -68,13 +68,14 @@ expect 'an installation' 0 "installed: $there" "DESTDIR=$tree" "$build" install
 [ "$(stat -c %a "$there")" = 644 ] || { echo "the module has the mode $(stat -c %a "$there")"; failed=1; }
 touch "${there%/*}/enchant_hunspell.so"
 expect 'a second installation' 0 "installed: $there" "DESTDIR=$tree" "$build" install
+[ ! -e "$copy/out" ] || { echo "an installation leaves in the checkout: $(ls "$copy/out")"; failed=1; }
 expect 'a removal' 0 "removed: $there" "DESTDIR=$tree" "$build" uninstall
 [ "$(ls "${there%/*}")" = enchant_hunspell.so ] || { echo "a removal leaves: $(ls "${there%/*}")"; failed=1; }
 expect 'a second removal' 1 "bindings/enchant/build: there is no $there; nothing is removed" "DESTDIR=$tree" "$build" uninstall
 
 expect 'a wrong word' 2 'usage: bindings/enchant/build [install | uninstall]' "$build" remove
 expect 'two words' 2 'usage: bindings/enchant/build [install | uninstall]' "$build" install uninstall
-expect 'no compiler' 1 'bindings/enchant/build: there is no command no-cc' CC=no-cc "$build"
-expect 'no headers' 1 'bindings/enchant/build: the headers of Enchant 2 are not installed' NO_ENCHANT=1 "$build"
-expect 'no Enchant' 1 'bindings/enchant/build: pkg-config does not know where Enchant 2 is' NO_ENCHANT=1 "$build" uninstall
+expect 'no compiler' 127 'bindings/enchant/build: there is no command no-cc' CC=no-cc "$build"
+expect 'no headers' 127 'bindings/enchant/build: the headers of Enchant 2 are not installed' NO_ENCHANT=1 "$build"
+expect 'no Enchant' 127 'bindings/enchant/build: pkg-config does not know where Enchant 2 is' NO_ENCHANT=1 "$build" uninstall
 exit "$failed"
