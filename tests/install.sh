@@ -20,8 +20,8 @@ version=$(cat "$top/VERSION")
 bare=(env -i PATH=/usr/bin:/bin)
 # shellcheck source=tests/install/checks.bash
 . "$top/tests/install/checks.bash"
-# shellcheck source=tests/install/package.bash
-. "$top/tests/install/package.bash"
+# shellcheck source=tests/install/packages.bash
+. "$top/tests/install/packages.bash"
 
 # The copy, with the builds of these sources, which are made first if there are none.
 copy_checkout() {
@@ -147,18 +147,12 @@ chmod 555 "$copy"
 whole 'from a checkout that cannot be written' "$work/open/prefix"
 chmod 755 "$copy"
 
-# Without a C compiler all but the shared library is installed, and there is no package.
+# Without a C compiler all but the shared library is installed.
 expect 'without a C compiler' 0 "${bare[@]}" CC=no-such-compiler "$copy/tools/install" "$work/no compiler" << SAID
 without libaffedit.so.1: tools/shared-library: there is no C compiler no-such-compiler
 installed: $work/no compiler/bin/affedit
 SAID
 ! files_below "$work/no compiler" | grep -q '\.so' || wrong 'without a C compiler a shared library is installed'
-if has 'the package' dpkg dpkg-deb; then
-    expect 'a package without a C compiler' 1 "${bare[@]}" CC=no-such-compiler "$copy/tools/package" "$work" << SAID
-without libaffedit.so.1: tools/shared-library: there is no C compiler no-such-compiler
-tools/package: libaffedit.so.1 belongs in a package
-SAID
-fi
 
 # The plugins in the checkout, as their README.md has it, and the provider for Enchant.
 printf "vim.opt.runtimepath:append('%s/editors/nvim')\nrequire('affedit').setup({})\n" "$copy" > init.lua
@@ -172,7 +166,7 @@ if has_compiler 'the provider for Enchant'; then
     fi
 fi
 
-try_package
+try_packages
 
 # Without a build of these sources, and without the kit, nothing is installed.
 if [ -z "$("${bare[@]}" bash -c 'command -v rt')" ]; then

@@ -39,7 +39,8 @@ expect() {
 # files_below FOLDER: what is there, but for folders.
 files_below() { (cd "$1" && find . ! -type d -printf '%P\n') | LC_ALL=C sort; }
 
-# runs WHAT PREFIX: what is installed there runs from another folder, and no command but those of the system and its own is found.
+# runs WHAT PREFIX [LIBRARIES EXAMPLES]: what is installed there runs from another folder, and no command but those of the system and its own is found. The
+# library for C and the examples in C are in these folders, or where tools/install has them.
 runs() {
     local page quoted what=$1 sample=$2/lib/affedit/examples/sample PATH=$2/bin:/usr/bin:/bin
     ! grep -rqIF -e "$top" -e "$copy" "$2" || wrong "$what: it names the folder of the sources"
@@ -67,7 +68,7 @@ SAID
     expect "$what: the version" 0 affedit --version < <(echo "affedit $version"; grep -E '^(kit|sources) ' "$copy/dist/MADE")
     scripts "$1" "$sample"
     if has_compiler 'a C program by pkg-config'; then
-        links "$1" "$2" "$sample"
+        links "$1" "${3:-$2/lib}" "${4:-$2/lib/affedit/examples/c}" "$sample"
     fi
     if has 'the manual pages that are installed' mandoc mandoc; then
         for page in affedit affedit-check; do
@@ -79,16 +80,17 @@ SAID
     editors "$1" "$2" "$sample"
 }
 
-# links WHAT PREFIX SAMPLE: a program in C links either library by pkg-config, which tells the version that the header has, and the examples are built.
+# links WHAT LIBRARIES EXAMPLES SAMPLE: a program in C links either library by pkg-config, which tells the version that the header has, and the examples are
+# built.
 links() {
-    local -x PKG_CONFIG_PATH=$2/lib/pkgconfig
-    local sample=$3 examples=$2/lib/affedit/examples/c
+    local -x PKG_CONFIG_PATH=$2/pkgconfig
+    local examples=$3 sample=$4
     # pkg-config writes words as a shell reads them.
     local flags shared archive
     eval "flags=($(pkg-config --cflags affedit)) shared=($(pkg-config --libs affedit)) archive=$(pkg-config --variable=archive affedit)"
     cc example.c "${flags[@]}" "${shared[@]}" -o example
     cc example.c "${flags[@]}" "$archive" -o alone
-    expect "$1: a program in C" 0 env "LD_LIBRARY_PATH=$2/lib" ./example "$sample.aff" "$sample.dic" city citys <<< $'city: generated\ncitys: not generated'
+    expect "$1: a program in C" 0 env "LD_LIBRARY_PATH=$2" ./example "$sample.aff" "$sample.dic" city citys <<< $'city: generated\ncitys: not generated'
     expect "$1: a program in C with the archive" 0 ./alone "$sample.aff" "$sample.dic" city citys <<< $'city: generated\ncitys: not generated'
     [[ $(readelf -d example) == *'[libaffedit.so.1]'* && $(readelf -d alone) != *libaffedit* ]] || wrong "$1: the wrong library is linked"
     expect "$1: the version of the library" 0 pkg-config --modversion affedit <<< "$version"
@@ -101,7 +103,7 @@ links() {
         expect "$1: an example in C++" 1 ./example "$sample.aff" "$sample.dic" "$sample.txt" <<< '2:31: citys'
     fi
     if has 'an example in Python' python3 python3; then
-        expect "$1: an example in Python" 1 python3 "$examples/check_file.py" "$2/lib/libaffedit.so.1" "$sample.aff" "$sample.dic" "$sample.txt" <<< '2:31: citys'
+        expect "$1: an example in Python" 1 python3 "$examples/check_file.py" "$2/libaffedit.so.1" "$sample.aff" "$sample.dic" "$sample.txt" <<< '2:31: citys'
     fi
 }
 
