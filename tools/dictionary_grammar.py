@@ -4,6 +4,8 @@ docs/DICTIONARIES.md tells the same to readers. tools/prepare-dictionary and too
 """
 
 import codecs
+import functools
+import itertools
 import re
 
 FILE_MOST = 16_777_216
@@ -164,11 +166,17 @@ def is_value(text, name, kind):
     return is_decimal(text) if name in NUMBER_OPTIONS else text.upper() in ('UTF-8', 'LONG', 'NUM')
 
 
+@functools.cache
+def number_flag(item):
+    """The flag of an item of a list of numbers, or None. Items recur often."""
+    found = DECIMAL.match(item)
+    return found and str(number_of(found.group()))
+
+
 def flags_of(text, kind):
     """The flags of a flag field, as hunspell reads them: what stands behind the digits of a number is none of it."""
     if kind == 'num':
-        found = [DECIMAL.match(item) for item in text.split(',')]
-        return [str(number_of(item.group())) for item in found if item]
+        return [flag for flag in map(number_flag, text.split(',')) if flag is not None]
     if kind == 'long':
         return [text[place:place + 2] for place in range(0, len(text) - 1, 2)]
     return list(text)
@@ -178,10 +186,9 @@ def pieces_of(fields, kind):
     """The different pieces of some flag fields. Each stands for one flag at most."""
     if kind == 'char':
         return set(''.join(fields))
-    found = set()
-    for field in fields:
-        found.update(field.split(',') if kind == 'num' else PAIR.findall(field))
-    return found
+    if kind == 'num':
+        return set(','.join(fields).split(',')) if fields else set()
+    return set(itertools.chain.from_iterable(map(PAIR.findall, fields)))
 
 
 def join_flags(flags, kind):

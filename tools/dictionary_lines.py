@@ -10,6 +10,10 @@ MARK = b'\xef\xbb\xbf'
 SET_LINE = re.compile(rb'^[ \t]*SET[ \t]+([^ \t\r\n]+)', re.MULTILINE)
 FLAG_LINE = re.compile(rb'^[ \t]*FLAG[ \t]', re.MULTILINE)
 COUNT = re.compile(r'([0-9]+)(#.*)?')
+# A line behind a line feed whose entry has flags, and its flags: nothing in it is a blank, a backslash or a carriage return.
+PLAIN = re.compile(r'\n[^\n\t\r \\][^\n\t\r /\\]*/([^\n\t\r \\]*)(?=\r?\n|\t)')
+# The first character of a line for which PLAIN may not hold, and the rest of the line.
+ODD = re.compile(r'[ \\\r][^\n]*')
 
 
 class Line:
@@ -41,61 +45,160 @@ class Changes:
             yield f'{names[file]}:{line}: {message}{more}'
 
 
-def split_lines(text):
-    """The lines of a text; a last piece without characters is none."""
+def line_of(number, piece):
+    """A line, whose carriage return is none of its text."""
+    return Line(number, piece[:-1], '\r') if piece.endswith('\r') else Line(number, piece)
+
+
+def split_lines(text, numbers=None):
+    """The lines of a text; a last piece without characters is none. NUMBERS are those of the lines, else from 1 on."""
     pieces = text.split('\n')
     if not pieces[-1]:
         pieces.pop()
-    if '\r' not in text:
-        return list(map(Line, itertools.count(1), pieces))
-    return [Line(number, piece[:-1], '\r') if piece.endswith('\r') else Line(number, piece) for number, piece in enumerate(pieces, 1)]
+    return list(map(line_of if '\r' in text else Line, numbers or itertools.count(1), pieces))
+
+
+def text_of(lines):
+    """The text of a file with these lines."""
+    return ''.join([f'{line.text}{line.end}\n' for line in lines])
 
 
 def bytes_of(lines):
     """The bytes of a file with these lines."""
-    return ''.join([f'{line.text}{line.end}\n' for line in lines]).encode()
+    return text_of(lines).encode()
+
+
+class DicText:
+    """A .dic file as one text. Lines that stay as they are, as most do, are never looked at one by one."""
+
+    def __init__(self, text):
+        first, feed, rest = text.partition('\n')
+        self.first = line_of(1, first)
+        # The lines behind the first one: a line feed stands before each, and behind the last.
+        self.rest = '\n' + rest
+        if not self.rest.endswith('\n'):
+            self.rest += '\n'
+        self.is_empty = not first and not feed
+        # How many lines were put in at the start, and the numbers of those that were left out.
+        self.put_in, self.gone = 0, set()
+
+    def put_first(self, text):
+        """Puts in a first line."""
+        self.rest = f'\n{self.first.text}{self.first.end}{self.rest}'
+        self.first = Line(1, text, self.first.end)
+        self.put_in += 1
+
+    def count(self):
+        """How many lines there are."""
+        return self.rest.count('\n')
+
+    def text(self):
+        return f'{self.first.text}{self.first.end}{self.rest}'
+
+    def lines(self):
+        """All lines, with the numbers that they had."""
+        numbers = (number for number in itertools.count(2 - self.put_in) if number not in self.gone)
+        return [self.first, *split_lines(self.rest[1:], numbers)]
+
+    def odd(self):
+        """Where each line starts that has a blank, a backslash or another carriage return than its last before any tab."""
+        for found in ODD.finditer(self.rest):
+            start = self.rest.rfind('\n', 0, found.start()) + 1
+            if found.group() != '\r' and self.rest.find('\t', start, found.start()) < 0:
+                yield start
+
+    def line_at(self, start, number=0):
+        """The line that starts at a place."""
+        return line_of(number, self.rest[start:self.rest.index('\n', start)])
+
+    def fields(self):
+        """The different texts of flags, without that of the first line."""
+        found = set(PLAIN.findall(self.rest))
+        for start in self.odd():
+            text = self.line_at(start).text
+            entry = grammar.entry_of(text)
+            if entry and entry[1] < entry[2]:
+                found.add(text[entry[1] + 1:entry[2]])
+        return found
+
+    def suspects(self, ignored, changed):
+        """Where each line starts that may not stay: an odd one, one that starts with one of IGNORED, and one with flags of CHANGED."""
+        starts = set(self.odd())
+        if ignored:
+            starts.update(found.start() + 1 for found in re.finditer(f'\n[{re.escape(ignored)}]', self.rest))
+        if changed:
+            starts.update(found.start() + 1 for found in PLAIN.finditer(self.rest) if found[1] in changed)
+        return sorted(starts)
+
+    def change(self, starts, stays):
+        """Asks STAYS of each line that starts at one of STARTS, in their order, whether it stays. Its text may become another one."""
+        pieces, place, counted, number = [], 0, 0, 1 - self.put_in
+        for start in starts:
+            number += self.rest.count('\n', counted, start)
+            counted = start
+            line = self.line_at(start, number)
+            before, end = line.text, start + len(line.text)
+            if not stays(line):
+                self.gone.add(number)
+                pieces.append(self.rest[place:start - 1])
+                place = end + len(line.end)
+            elif line.text != before:
+                pieces += [self.rest[place:start], line.text]
+                place = end
+        self.rest = ''.join(pieces) + self.rest[place:]
 
 
 def roles_of(lines):
     """Each line of an option with the name that it is read by, its fields, and whether it is the first line of a table or a class."""
     seen = set()
+    search, fields_of = grammar.FIELD.search, grammar.FIELD.findall
     for line in lines:
-        found = grammar.FIELD.search(line.text)
+        found = search(line.text)
         name = found and found.group()
         if name not in grammar.READ:
             continue
-        spans = grammar.fields_of(line.text)
-        fields = [line.text[start:end] for start, end in spans]
-        key = (name, fields[1] if name in grammar.CLASSES and len(fields) > 1 else None)
-        first = key not in seen and len(fields) > 1
-        if len(fields) > 1:
+        fields = fields_of(line.text)
+        if len(fields) == 1:
+            yield line, name, fields, False
+            continue
+        key = (name, fields[1] if name in grammar.CLASSES else None)
+        first = key not in seen
+        if first:
             seen.add(key)
-        if first and name in grammar.TABLES:
-            first = COUNT.fullmatch(fields[1]) is not None
-        yield line, name, spans, fields, first
+            if name in grammar.TABLES:
+                first = COUNT.fullmatch(fields[1]) is not None
+        yield line, name, fields, first
 
 
-def flag_spans(text, name, spans, first):
-    """START, END and sort of each text with flags in a line: `one` flag, a `set` of them, those of a `rule`, or a `row` of AF."""
-    if len(spans) < 2 or (first and name in grammar.TABLES):
+def flag_parts(name, fields, first):
+    """Each text with flags in a line: the place of its field, where it starts in it, and `one` flag, a `set`, a `rule`, or a `row` of AF."""
+    if len(fields) < 2 or (first and name in grammar.TABLES):
         return []
-    start, end = spans[1]
-    if name in grammar.FLAG_OPTIONS:
-        return [(start, end, 'one')]
-    if name in ('AF', 'COMPOUNDRULE'):
-        return [(start, end, 'row' if name == 'AF' else 'rule')]
     if name in grammar.CLASSES:
-        found = [(start, end, 'one')]
-        if not first and len(spans) > 3:
-            start, end = spans[3]
-            slash = start + grammar.slash_of(text[start:end])
-            if slash < end:
-                found.append((slash + 1, end, 'set'))
-        return found
+        if not first and len(fields) > 3 and '/' in fields[3]:
+            slash = grammar.slash_of(fields[3])
+            if slash < len(fields[3]):
+                return [(1, 0, 'one'), (3, slash + 1, 'set')]
+        return [(1, 0, 'one')]
+    if name in grammar.FLAG_OPTIONS:
+        return [(1, 0, 'one')]
+    if name in ('AF', 'COMPOUNDRULE'):
+        return [(1, 0, 'row' if name == 'AF' else 'rule')]
     if name == 'CHECKCOMPOUNDPATTERN':
-        slashes = [(text.find('/', start, end), end) for start, end in spans[1:3]]
-        return [(slash + 1, end, 'one') for slash, end in slashes if slash >= 0]
+        return [(place, field.index('/') + 1, 'one') for place, field in enumerate(fields[1:3], 1) if '/' in field]
     return []
+
+
+def flag_texts(name, fields, first):
+    """Each text with flags in a line."""
+    return [fields[place][start:] for place, start, _ in flag_parts(name, fields, first)]
+
+
+def flag_spans(text, name, fields, first):
+    """START, END and sort of each text with flags in a line."""
+    parts = flag_parts(name, fields, first)
+    spans = grammar.fields_of(text) if parts else []
+    return [(spans[place][0] + start, spans[place][1], sort) for place, start, sort in parts]
 
 
 class Decoding:
@@ -124,27 +227,33 @@ class Decoding:
             return False
 
     def lines(self):
-        """The lines of both files, decoded."""
-        if self.codec == 'utf-8' and not FLAG_LINE.search(self.files['aff']) and self.has_byte_flags():
-            return self.byte_flags()
-        both = []
-        for file, data in self.files.items():
-            if not self.is_whole(data, self.codec):
-                both.append(self.mixed(file, data))
-                continue
+        """The lines of the .aff file, and the .dic file as one text, decoded."""
+        if self.codec == 'utf-8' and not FLAG_LINE.search(self.files['aff']):
+            if not all(self.is_whole(data, 'utf-8') for data in self.files.values()):
+                aff = split_lines(self.files['aff'].decode('latin-1'))
+                if self.has_byte_flags(aff):
+                    return self.byte_flags_in_aff(aff), self.byte_flags_in_dic()
+        return split_lines(self.text('aff')), DicText(self.text('dic'))
+
+    def text(self, file):
+        """The text of a file, decoded, of which some lines may not be of its encoding."""
+        data = self.files[file]
+        try:
+            text = data.decode(self.codec)
             if self.codec != 'utf-8' and not data.isascii():
                 self.changes.add(file, 1, f'converted from {self.name} to UTF-8')
-            both.append(split_lines(data.decode(self.codec)))
-        return both
+            return text
+        except UnicodeDecodeError:
+            return self.mixed(file, data)
 
     def mixed(self, file, data):
-        """The lines of a file in which some are not of its encoding."""
+        """The text of a file in which some lines are not of its encoding."""
         if self.codec != 'utf-8':
             self.changes.add(file, 1, f'converted from {self.name} to UTF-8')
         lines = split_lines(data.decode('latin-1'))
         for line in lines:
             line.text = self.decoded(file, line.number, line.text)
-        return lines
+        return text_of(lines)
 
     def decoded(self, file, number, text):
         """A text of which each character is a byte so far, decoded; bytes that the encoding has not are those of Latin-1."""
@@ -156,37 +265,54 @@ class Decoding:
             self.changes.add(file, number, f'bytes that are not {self.name} replaced: read as Latin-1')
         return text
 
-    def has_byte_flags(self):
+    def has_byte_flags(self, aff):
         """Whether flags are single bytes: some flag field is not UTF-8. Characters of one byte each stand for them then."""
-        if all(self.is_whole(data, 'utf-8') for data in self.files.values()):
-            return False
-        for line, name, spans, _, first in roles_of(split_lines(self.files['aff'].decode('latin-1'))):
-            if line.text.isascii():
-                continue
-            for start, end, _ in flag_spans(line.text, name, spans, first):
-                if not self.is_whole(line.text[start:end].encode('latin-1'), 'utf-8'):
+        for line, *role in roles_of(aff):
+            if not line.text.isascii():
+                if not all(self.is_whole(text.encode('latin-1'), 'utf-8') for text in flag_texts(*role)):
                     return True
         lines = split_lines(self.files['dic'].decode('latin-1'))
         entries = ((line.text, grammar.entry_of(line.text)) for line in lines[1:] if not line.text.isascii())
         return any(found and not self.is_whole(text[found[1]:found[2]].encode('latin-1'), 'utf-8') for text, found in entries)
 
-    def byte_flags(self):
-        """The lines of both files, where flags are single bytes in a file that is UTF-8 elsewhere."""
-        aff = split_lines(self.files['aff'].decode('latin-1'))
-        kept = {line.number: flag_spans(line.text, name, spans, first) for line, name, spans, _, first in roles_of(aff)}
+    def byte_flags_in_aff(self, aff):
+        """The lines of the .aff file, where flags are single bytes in a file that is UTF-8 elsewhere."""
+        roles = {line.number: role for line, *role in roles_of(aff)}
         for line in aff:
-            self.decode_around('aff', line, kept.get(line.number, ()))
-        dic = split_lines(self.files['dic'].decode('latin-1'))
-        for line in dic[1:]:
+            if not line.text.isascii():
+                role = roles.get(line.number)
+                if not self.is_decoded(line, role):
+                    self.decode_around('aff', line, flag_spans(line.text, *role) if role else ())
+        return aff
+
+    @staticmethod
+    def is_decoded(line, role):
+        """Whether a line was decoded as a whole: it is UTF-8, and its flags are ASCII."""
+        if role and not all(map(str.isascii, flag_texts(*role))):
+            return False
+        try:
+            line.text = line.text.encode('latin-1').decode()
+            return True
+        except UnicodeDecodeError:
+            return False
+
+    def byte_flags_in_dic(self):
+        """The text of the .dic file, where flags are single bytes in a file that is UTF-8 elsewhere. Its first line stays as it is."""
+        data = self.files['dic']
+        if self.is_whole(data, 'utf-8'):
+            dic = DicText(data.decode())
+            if all(map(str.isascii, dic.fields())):
+                dic.first.text = dic.first.text.encode().decode('latin-1')
+                return dic
+        lines = split_lines(data.decode('latin-1'))
+        for line in lines[1:]:
             if not line.text.isascii():
                 found = grammar.entry_of(line.text)
                 self.decode_around('dic', line, [(found[1], found[2])] if found else ())
-        return [aff, dic]
+        return DicText(text_of(lines))
 
     def decode_around(self, file, line, kept):
         """Decodes a line but for the texts from START to END, whose bytes are flags."""
-        if line.text.isascii():
-            return
         pieces, place = [], 0
         for start, end, *_ in kept:
             pieces += [self.decoded(file, line.number, line.text[place:start]), line.text[start:end]]

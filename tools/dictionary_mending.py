@@ -1,11 +1,10 @@
 """Mends a dictionary by the grammar of hunspell(5), so that the program reads it. Nothing is read or written here."""
 
-import itertools
 import re
 
 import dictionary_grammar as grammar
 from dictionary_grammar import Refused
-from dictionary_lines import COUNT, Changes, Decoding, Line, bytes_of, flag_spans, roles_of
+from dictionary_lines import COUNT, Changes, Decoding, Line, bytes_of, flag_parts, roles_of
 from dictionary_shrinking import Shrinking
 
 ADDRESS = re.compile(r'[a-z]://')
@@ -25,20 +24,22 @@ class Flags:
         self.used, self.known, self.renamed = set(), set(), {}
         # Pieces of flag fields that stay as they are, and what becomes of each field.
         self.plain, self.sets = set(), {}
+        # What becomes of each text that is to be one flag.
+        self.ones = {}
         # A flag that stands in neither file, once it is asked for.
         self.free = None
 
     def collect(self, aff, roles, fields):
         """Finds the flags of both files, and gives new names to those that the type cannot have. FIELDS are those of entries."""
         bad, known = {}, set()
-        if any(name == 'AF' for _, name, _, _, _ in roles):
-            self.aliases = sum(name == 'AF' and not first for _, name, _, _, first in roles)
-        for line, name, spans, _, first in roles:
-            for start, end, sort in flag_spans(line.text, name, spans, first):
+        if any(name == 'AF' for _, name, _, _ in roles):
+            self.aliases = sum(name == 'AF' and not first for _, name, _, first in roles)
+        for _, name, fields_of_line, first in roles:
+            for place, start, sort in flag_parts(name, fields_of_line, first):
                 if sort == 'rule':
-                    self.collect_rule(line.text[start:end], bad)
+                    self.collect_rule(fields_of_line[place][start:], bad)
                 elif sort != 'set' or self.aliases is None:
-                    known.add(line.text[start:end])
+                    known.add(fields_of_line[place][start:])
         pieces = grammar.pieces_of(known, self.kind)
         self.known.update(self.flags_of_pieces(pieces))
         if self.aliases is None:
@@ -58,9 +59,9 @@ class Flags:
     def passed_over(self, aff):
         """The flags of options that are passed over, which no other flag may take."""
         for line in aff:
-            words = line.text.split()
-            if len(words) > 1 and words[0] in grammar.FLAGS_PASSED_OVER:
-                yield from grammar.flags_of(words[1], self.kind)
+            name, *words = line.text.split(None, 2) or ['']
+            if words and name in grammar.FLAGS_PASSED_OVER:
+                yield from grammar.flags_of(words[0], self.kind)
 
     def collect_rule(self, text, bad):
         for start, end, in_parentheses in grammar.rule_flags(text, self.kind) or ():
@@ -75,23 +76,39 @@ class Flags:
             self.free = next(grammar.free_flags(self.used | set(self.renamed.values()), self.kind))
         return self.free
 
-    def name_of(self, file, number, flag):
-        """The name that a flag has in what is written."""
-        new = self.renamed.get(flag)
-        if new is None:
-            return flag
-        self.changes.add(file, number, f'the flag {flag} renamed to {new}', ('renamed', flag))
-        return new
+    def new_name(self, file, number, flag):
+        """The name in what is written of a flag that is renamed."""
+        message, key = self.renaming(flag)
+        self.changes.add(file, number, message, key)
+        return self.renamed[flag]
 
     def one(self, file, number, text):
         """The one flag that a text stands for, mended; None where it stands for none."""
+        known = self.ones.get(text)
+        if known is None:
+            known = self.ones[text] = self.mend_one(text)
+        new, messages = known
+        for message, key in messages:
+            self.changes.add(file, number, message, key)
+        return new
+
+    def mend_one(self, text):
+        """The one flag that a text stands for, mended, with messages and the kinds of change that they are of."""
         flags = grammar.flags_of(text, self.kind)
         if not flags:
-            return None
-        if not grammar.is_flag(text, self.kind):
-            self.changes.add(file, number, f'text behind the flag {flags[0]} dropped: `{shown(text)}`')
-        name = self.name_of(file, number, flags[0])
-        return text if name == flags[0] and grammar.is_flag(text, self.kind) else name
+            return None, []
+        flag, messages = flags[0], []
+        is_flag = grammar.is_flag(text, self.kind)
+        if not is_flag:
+            messages.append((f'text behind the flag {flag} dropped: `{shown(text)}`', None))
+        if flag in self.renamed:
+            messages.append(self.renaming(flag))
+            return self.renamed[flag], messages
+        return text if is_flag else flag, messages
+
+    def renaming(self, flag):
+        """The message on a flag that is renamed, and the kind of change."""
+        return f'the flag {flag} renamed to {self.renamed[flag]}', ('renamed', flag)
 
     def set_of(self, file, number, text, is_row=False):
         """The flags of a field, mended."""
@@ -133,7 +150,7 @@ class Flags:
         messages = [] if is_whole else [dropped(text)]
         for flag in flags:
             if flag in self.renamed:
-                messages.append((f'the flag {flag} renamed to {self.renamed[flag]}', ('renamed', flag)))
+                messages.append(self.renaming(flag))
         if not messages:
             return text, messages
         return grammar.join_flags([self.renamed.get(flag, flag) for flag in flags], self.kind), messages
@@ -182,7 +199,7 @@ class AffMending:
     def __init__(self, lines, roles, flags, changes, losses):
         self.lines, self.roles, self.flags, self.changes, self.losses = lines, roles, flags, changes, losses
         # Whether COMPOUNDWORDMAX is set.
-        self.has_most = any(name == 'COMPOUNDWORDMAX' for _, name, _, _, _ in roles)
+        self.has_most = any(name == 'COMPOUNDWORDMAX' for _, name, _, _ in roles)
         self.values, self.edits, self.before = {}, {}, {}
         # Lines that are left out, and those that end at a comment.
         self.gone, self.cut = set(), set()
@@ -205,19 +222,25 @@ class AffMending:
         if line.text[start:end] != new:
             self.edits.setdefault(line, []).append((start, end, new))
 
+    def edit_field(self, line, place, text, new):
+        """Puts a text in place of one that a field ends with."""
+        if text != new:
+            end = grammar.fields_of(line.text)[place][1]
+            self.edit(line, end - len(text), end, new)
+
     def mend(self):
         """The lines, mended."""
         tables, classes = {}, {}
-        for line, name, spans, fields, first in self.roles:
+        for line, name, fields, first in self.roles:
             if name in grammar.TABLES:
-                tables.setdefault(name, []).append((line, spans, fields, first))
+                tables.setdefault(name, []).append((line, fields, first))
             elif name in grammar.CLASSES:
                 flag = next(iter(grammar.flags_of(fields[1], self.flags.kind)), None) if len(fields) > 1 else None
-                classes.setdefault((name, flag), []).append((line, spans, fields))
+                classes.setdefault((name, flag), []).append((line, fields))
             elif name in grammar.LEFT_OUT:
                 self.mend_left_out(line, name)
             elif name not in grammar.SWITCHES:
-                self.mend_option(line, name, spans, fields)
+                self.mend_option(line, name, fields)
         for name, rows in tables.items():
             self.mend_table(name, rows)
         for (name, flag), lines in classes.items():
@@ -242,7 +265,7 @@ class AffMending:
         else:
             self.lose(line, name, 'is not judged', grammar.LEFT_OUT[name])
 
-    def mend_option(self, line, name, spans, fields):
+    def mend_option(self, line, name, fields):
         """An option with one value, SET and FLAG too."""
         if len(fields) < 2:
             self.drop(line, f'{name} left out: nothing stands behind it')
@@ -256,21 +279,22 @@ class AffMending:
             else:
                 self.lose(line, name, f'has another value than line {number}', f'line {number} counts')
             return
-        value = self.value_of(line, name, self.without_comment(line, name, spans[1], fields[1]))
+        start, end = grammar.fields_of(line.text)[1]
+        value = self.value_of(line, name, self.without_comment(line, name, start, fields[1]))
         if value is None:
             self.drop(line, f'{name} left out: `{shown(fields[1])}` is nothing that it may have')
         else:
-            self.edit(line, spans[1][0], spans[1][0] + len(fields[1].split('#')[0]) if line in self.cut else spans[1][1], value)
+            self.edit(line, start, start + len(fields[1].split('#')[0]) if line in self.cut else end, value)
             self.values[option] = line, fields[1]
 
-    def without_comment(self, line, name, span, text):
+    def without_comment(self, line, name, start, text):
         """A text without the comment that stands directly behind it, where the text is nothing with it; the line ends there then."""
         front = text.split('#')[0]
         if name in grammar.TEXT_OPTIONS or name == 'SET' or grammar.is_value(text, name, self.flags.kind):
             return text
         if not grammar.is_value(front, name, self.flags.kind):
             return text
-        self.cut_comment(line, span[0] + len(front))
+        self.cut_comment(line, start + len(front))
         return front
 
     def cut_comment(self, line, start):
@@ -300,80 +324,82 @@ class AffMending:
     def mend_table(self, name, rows):
         """A table: its rows, and the number that its header announces."""
         if any(first for *_, first in rows):
-            place = next(place for place, row in enumerate(rows) if len(row[2]) > 1)
+            place = next(place for place, row in enumerate(rows) if len(row[1]) > 1)
             for line, *_ in rows[:place]:
                 self.drop(line, f'a line of {name} before its header left out, which lacks a text')
             rows = rows[place:]
-        header = rows.pop(0) if rows[0][3] else None
-        kept = sum(self.mend_row(name, *row[:3]) for row in rows)
+        header = rows.pop(0) if rows[0][2] else None
+        kept = sum(self.mend_row(name, *row[:2]) for row in rows)
         if header is None:
             if kept:
                 self.before.setdefault(rows[0][0], []).append(Line(rows[0][0].number, f'{name} {kept}', rows[0][0].end))
                 self.told(rows[0][0], f'{name} {kept} put in, which announces the rows')
             return
-        line, spans, fields, _ = header
+        line, fields, _ = header
         said, comment = COUNT.fullmatch(fields[1]).groups()
+        start = grammar.fields_of(line.text)[1][0]
         if comment:
-            self.cut_comment(line, spans[1][0] + len(said))
+            self.cut_comment(line, start + len(said))
         if grammar.number_of(said) != kept:
             self.told(line, f'{name} announces {said} rows and has {kept}: the count mended')
-            self.edit(line, spans[1][0], spans[1][0] + len(said), str(kept))
+            self.edit(line, start, start + len(said), str(kept))
 
-    def mend_row(self, name, line, spans, fields):
+    def mend_row(self, name, line, fields):
         """Whether a row of a table stays."""
         if len(fields) <= grammar.TABLES[name] and name != 'AF':
             self.drop(line, f'a row of {name} left out, which lacks a text', f'short {name}')
             return False
         if len(fields) == 1:
             self.told(line, 'a row of AF without flags gets one that stands nowhere')
-            self.edit(line, spans[0][1], spans[0][1], ' ' + self.flags.unused())
+            self.edit_field(line, 0, '', ' ' + self.flags.unused())
         if name == 'COMPOUNDRULE':
-            return self.mend_rule(line, *spans[1])
-        for start, end, sort in flag_spans(line.text, name, spans, False):
+            return self.mend_rule(line, fields[1])
+        for place, start, sort in flag_parts(name, fields, False):
+            text = fields[place][start:]
             if sort == 'row':
                 # A row keeps its number, so one without flags gets one that stands nowhere.
-                self.edit(line, start, end, self.flags.set_of('aff', line.number, line.text[start:end], True) or self.flags.unused())
+                self.edit_field(line, place, text, self.flags.set_of('aff', line.number, text, True) or self.flags.unused())
             else:
-                flag = self.flags.one('aff', line.number, line.text[start:end])
-                self.edit(line, start - (flag is None), end, flag or '')
+                flag = self.flags.one('aff', line.number, text)
+                self.edit_field(line, place, text if flag else '/' + text, flag or '')
         return True
 
-    def mend_rule(self, line, start, end):
+    def mend_rule(self, line, text):
         """Whether a compound rule stays."""
-        text = line.text[start:end]
         flags = grammar.rule_flags(text, self.flags.kind)
         if flags is None:
             self.lose(line, f'the compound rule `{shown(text)}`', 'is none of hunspell(5)', RULE_EFFECT)
             return False
+        start = grammar.fields_of(line.text)[1][0]
         for first, last, _ in flags:
             name = text[first:last]
             name = str(grammar.number_of(name)) if self.flags.kind == 'num' else name
             if name in self.flags.renamed:
-                self.edit(line, start + first, start + last, self.flags.name_of('aff', line.number, name))
+                self.edit(line, start + first, start + last, self.flags.new_name('aff', line.number, name))
         return True
 
     def mend_class(self, side, flag, lines):
         """A class: its flag, its header, and its rules."""
         if flag is None:
-            for line, _, _ in lines:
+            for line, _ in lines:
                 self.drop(line, f'a line of {side} left out, which has no flag', f'no flag {side}')
             return
-        for line, spans, fields in lines:
-            self.edit(line, *spans[1], self.flags.one('aff', line.number, fields[1]))
+        for line, fields in lines:
+            self.edit_field(line, 1, fields[1], self.flags.one('aff', line.number, fields[1]))
         rules = self.without_headers(lines[0], lines[1:])
         self.mend_header(lines[0], sum([self.mend_affix(*rule) for rule in rules]))
 
     def without_headers(self, header, rules):
         """The rules of a class without further headers of it, which have the cross of the first."""
-        fields = header[2]
+        fields = header[1]
         place = grammar.number_of(fields[3]) if len(fields) > 3 and grammar.is_decimal(fields[3]) else len(rules)
         found = rules[:place]
         while place < len(rules):
-            line, _, fields = rules[place]
+            line, fields = rules[place]
             is_header = len(fields) > 3 and fields[2] in ('Y', 'N') and grammar.is_decimal(fields[3])
             if not is_header or (len(fields) > 4 and fields[4][0] != '#'):
                 return found + rules[place:]
-            if fields[2] == header[2][2]:
+            if fields[2] == header[1][2]:
                 self.drop(line, 'a further header of a class left out: its rules join those above')
             else:
                 self.lose(line, 'a further header of a class', 'has another cross', 'its rules have the cross of the first')
@@ -384,9 +410,10 @@ class AffMending:
 
     def mend_header(self, header, kept):
         """The cross of a class and the number of rules that it announces."""
-        line, spans, fields = header
+        line, fields = header
         if len(fields) < 3 or (fields[2] not in 'YN' and (len(fields) < 4 or not COUNT.fullmatch(fields[3]))):
             return
+        spans = grammar.fields_of(line.text)
         if fields[2] not in 'YN':
             cross = 'Y' if fields[2][0] == 'Y' else 'N'
             self.told(line, f'the cross `{shown(fields[2])}` of a class is {cross}')
@@ -404,48 +431,47 @@ class AffMending:
             self.told(line, f'a class announces {shown(line.text[start:end])} rules and has {kept}: the count mended')
             self.edit(line, start, end, str(kept))
 
-    def mend_affix(self, line, spans, fields):
+    def mend_affix(self, line, fields):
         """Whether a rule of a class stays."""
         if len(fields) < 4:
             self.drop(line, 'a rule left out, which lacks a text', 'short rule')
             return False
-        if ADDRESS.search(fields[3]) or ADDRESS.search(fields[2]):
+        if '://' in line.text and (ADDRESS.search(fields[3]) or ADDRESS.search(fields[2])):
             self.drop(line, f'a rule left out, into which an address was pasted: `{shown(fields[3])}`')
             return False
-        for start, end, sort in flag_spans(line.text, fields[0], spans, False):
+        for place, start, sort in flag_parts(fields[0], fields, False):
             if sort == 'set':
-                self.edit(line, start, end, self.flags.set_of('aff', line.number, line.text[start:end]))
+                text = fields[place][start:]
+                self.edit_field(line, place, text, self.flags.set_of('aff', line.number, text))
         return True
 
 
 class DicMending:
     """Mends the lines of the .dic file."""
 
-    def __init__(self, lines, flags, changes):
-        self.lines, self.flags, self.changes = lines, flags, changes
-        self.entries = [grammar.entry_of(line.text) for line in lines]
+    def __init__(self, dic, flags, changes):
+        self.dic, self.flags, self.changes = dic, flags, changes
         # The different texts of flags, without that of the first line.
-        found = itertools.islice(zip(lines, self.entries), 1, None)
-        self.fields = {line.text[entry[1] + 1:entry[2]] for line, entry in found if entry and entry[1] < entry[2]}
+        self.fields = dic.fields()
 
     def mend(self, ignored):
-        """The lines, mended. IGNORED are the characters of IGNORE."""
-        first = self.lines[0]
-        found = zip(self.lines, self.entries)
-        fields = self.fields
-        if grammar.DECIMAL.match(first.text.lstrip(' ')):
-            head = next(found)[0]
-        else:
-            self.changes.add('dic', 1, f'a first line {len(self.lines)} put in, the count')
-            head = Line(1, str(len(self.lines)), first.end)
-            fields = fields | {first.text[entry[1] + 1:entry[2]] for entry in self.entries[:1] if entry}
+        """Mends the lines. IGNORED are the characters of IGNORE."""
+        first, fields = self.dic.first, self.fields
+        if not grammar.DECIMAL.match(first.text.lstrip(' ')):
+            count = str(self.dic.count())
+            self.changes.add('dic', 1, f'a first line {count} put in, the count')
+            self.dic.put_first(count)
+            fields = self.dic.fields()
         changed = self.flags.changed(fields)
-        return [head] + [line for line, entry in found if entry is None or self.stays(line, entry, ignored, changed)]
+        self.dic.change(self.dic.suspects(ignored, changed), lambda line: self.stays(line, ignored, changed))
 
-    def stays(self, line, entry, ignored, changed):
+    def stays(self, line, ignored, changed):
         """Whether a line stays. Its flags are mended if they are in CHANGED."""
-        start, slash, end = entry
         text = line.text
+        entry = grammar.entry_of(text)
+        if entry is None:
+            return True
+        start, slash, end = entry
         if start == slash or (ignored and not text[start:slash].strip(ignored)):
             self.changes.add('dic', line.number, 'an entry without a word left out', 'no word')
             return False
@@ -460,15 +486,15 @@ class DicMending:
 
 
 class Prepared:
-    """A dictionary that was mended: both files, the changes, the reasons why words are judged otherwise, and the lines with their old numbers."""
+    """A dictionary that was mended: both files, the changes, the reasons why words are judged otherwise, and the old numbers of lines."""
 
-    def __init__(self, aff, dic, files, changes, reasons):
+    def __init__(self, aff, shrinking, files, changes, reasons):
         self.files, self.changes, self.reasons = files, changes, reasons
-        self.lines = {'aff': aff, 'dic': dic}
+        self.aff, self.shrinking = aff, shrinking
 
     def number_of(self, file, place):
         """The number that a line had before, by its place from 0; that of the last line, if there is no such place."""
-        lines = self.lines[file]
+        lines = self.aff if file == 'aff' else self.shrinking.dic_lines()
         return lines[place].number if place < len(lines) else len(lines)
 
 
@@ -477,24 +503,24 @@ def prepare(aff, dic):
     changes, losses = Changes(), Losses()
     decoding = Decoding(aff, dic, changes)
     aff, dic = decoding.lines()
-    if not dic:
+    if dic.is_empty:
         raise Refused('the .dic file has no lines')
     roles = list(roles_of(aff))
-    kinds = [grammar.flag_kind(fields[1]) for _, name, _, fields, _ in roles if name == 'FLAG' and len(fields) > 1]
+    kinds = [grammar.flag_kind(fields[1]) for _, name, fields, _ in roles if name == 'FLAG' and len(fields) > 1]
     flags = Flags(next(filter(None, kinds), 'char'), changes)
     dic_mending = DicMending(dic, flags, changes)
     flags.collect(aff, roles, dic_mending.fields)
-    has_set = any(name == 'SET' and len(fields) > 1 for _, name, _, fields, _ in roles)
+    has_set = any(name == 'SET' and len(fields) > 1 for _, name, fields, _ in roles)
     aff_mending = AffMending(aff, roles, flags, changes, losses)
     aff = aff_mending.mend()
     if decoding.name != 'UTF-8' and not has_set:
         aff.insert(0, Line(0, 'SET UTF-8', aff[0].end if aff else ''))
         changes.add('aff', 1, 'SET UTF-8 put in')
-    dic = dic_mending.mend(aff_mending.values.get('IGNORE', (None, ''))[1])
+    dic_mending.mend(aff_mending.values.get('IGNORE', (None, ''))[1])
     shrinking = Shrinking(aff, dic, flags, changes)
     files = shrinking.shrink()
-    aff, dic = shrinking.aff, shrinking.dic
+    aff = shrinking.aff
     if losses.effects:
         aff.insert(0, Line(0, LOSSY + '; '.join(losses.effects)))
         files['aff'] = bytes_of(aff)
-    return Prepared(aff, dic, files, changes, losses.reasons)
+    return Prepared(aff, shrinking, files, changes, losses.reasons)

@@ -13,11 +13,15 @@ class Shrinking:
     """Makes files smaller that would be larger than may be read, without a change of the words that they accept."""
 
     def __init__(self, aff, dic, flags, changes):
-        self.aff, self.dic, self.flags, self.changes = aff, dic, flags, changes
+        self.aff, self.flags, self.changes = aff, flags, changes
+        # The .dic file as one text, and its lines if there was need of them.
+        self.text, self.dic = dic, None
 
     def shrink(self):
         """Takes one step after the other, until the files are small enough or nothing is left to do. Both files come back."""
-        dic = bytes_of(self.dic)
+        dic = self.text.text().encode()
+        if len(dic) > grammar.FILE_MOST:
+            self.dic = self.text.lines()
         if len(bytes_of(self.aff)) > grammar.FILE_MOST:
             self.drop_passed_over()
         for step in (self.drop_morphology, self.drop_equal, self.fold, self.number_flags):
@@ -30,6 +34,10 @@ class Shrinking:
             if len(data) > grammar.FILE_MOST:
                 raise Refused(f'the .{file} file has {len(data):,} bytes in UTF-8, and {grammar.FILE_MOST:,} may be read')
         return files
+
+    def dic_lines(self):
+        """The lines of the .dic file as it was written."""
+        return self.text.lines() if self.dic is None else self.dic
 
     def drop_passed_over(self):
         before = len(self.aff)
@@ -97,8 +105,8 @@ class Shrinking:
 
     def places_of_flags(self):
         """Each line with START and END of its flags, in both files."""
-        for line, name, spans, _, first in roles_of(self.aff):
-            for start, end, sort in flag_spans(line.text, name, spans, first):
+        for line, *role in roles_of(self.aff):
+            for start, end, sort in flag_spans(line.text, *role):
                 if sort == 'set':
                     yield line, start, end
         for line in self.dic[1:]:
