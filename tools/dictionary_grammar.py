@@ -50,6 +50,7 @@ DECIMAL = re.compile(r'[0-9]+')
 MORPHOLOGY = re.compile(r'(?<! ) +[a-z][a-z]:')
 # The slash before flags: not the first character, and no backslash before it.
 SLASH = re.compile(r'(?<=[^\\])/', re.DOTALL)
+AFFIX_SLASH = re.compile(r'(?<!\\)/')
 PAIR = re.compile('..', re.DOTALL)
 
 
@@ -124,7 +125,10 @@ def entry_of(line):
 
 def slash_of(text):
     """The place of the slash before the flags of an affix, or the text's length."""
-    found = re.search(r'(?<!\\)/', text)
+    if '\\' not in text:
+        place = text.find('/')
+        return place if place >= 0 else len(text)
+    found = AFFIX_SLASH.search(text)
     return found.start() if found else len(text)
 
 

@@ -10,6 +10,7 @@ from dictionary_shrinking import Shrinking
 ADDRESS = re.compile(r'[a-z]://')
 # The first line of a file that was prepared with a loss begins so.
 LOSSY = '# prepared with --lossy: '
+PASSED_OVER = tuple(grammar.FLAGS_PASSED_OVER)
 RULE_EFFECT = 'compounds of that rule alone are marked'
 
 
@@ -22,10 +23,10 @@ class Flags:
         self.aliases = None
         # The flags of both files, those of the .aff file alone, and new names of those that the type cannot have.
         self.used, self.known, self.renamed = set(), set(), {}
-        # Pieces of flag fields that stay as they are, and what becomes of each field.
-        self.plain, self.sets = set(), {}
-        # What becomes of each text that is to be one flag.
-        self.ones = {}
+        # Pieces of flag fields that are numbers, those that stay as they are, and what becomes of each field.
+        self.numbers, self.plain, self.sets = set(), set(), {}
+        # What becomes of each text that is to be one flag, and the flag that it stands for.
+        self.ones, self.firsts = {}, {}
         # A flag that stands in neither file, once it is asked for.
         self.free = None
 
@@ -50,7 +51,8 @@ class Flags:
         free = grammar.free_flags(self.used | set(bad), self.kind)
         self.renamed = {flag: next(free) for flag in bad}
         if self.kind == 'num':
-            self.plain = {piece for piece in pieces if grammar.is_decimal(piece) and str(grammar.number_of(piece)) not in self.renamed}
+            self.numbers = set(filter(grammar.is_decimal, pieces))
+            self.plain = {piece for piece in self.numbers if grammar.number_flag(piece) not in self.renamed}
 
     def flags_of_pieces(self, pieces):
         """The flags that pieces of flag fields stand for."""
@@ -59,9 +61,10 @@ class Flags:
     def passed_over(self, aff):
         """The flags of options that are passed over, which no other flag may take."""
         for line in aff:
-            name, *words = line.text.split(None, 2) or ['']
-            if words and name in grammar.FLAGS_PASSED_OVER:
-                yield from grammar.flags_of(words[0], self.kind)
+            if line.text.lstrip().startswith(PASSED_OVER):
+                words = line.text.split()
+                if len(words) > 1 and words[0] in grammar.FLAGS_PASSED_OVER:
+                    yield from grammar.flags_of(words[1], self.kind)
 
     def collect_rule(self, text, bad):
         for start, end, in_parentheses in grammar.rule_flags(text, self.kind) or ():
@@ -92,12 +95,17 @@ class Flags:
             self.changes.add(file, number, message, key)
         return new
 
+    def first(self, text):
+        """The flag that a text stands for, as it is read; None where it stands for none."""
+        if text not in self.firsts:
+            self.firsts[text] = next(iter(grammar.flags_of(text, self.kind)), None)
+        return self.firsts[text]
+
     def mend_one(self, text):
         """The one flag that a text stands for, mended, with messages and the kinds of change that they are of."""
-        flags = grammar.flags_of(text, self.kind)
-        if not flags:
-            return None, []
-        flag, messages = flags[0], []
+        flag, messages = self.first(text), []
+        if flag is None:
+            return None, messages
         is_flag = grammar.is_flag(text, self.kind)
         if not is_flag:
             messages.append((f'text behind the flag {flag} dropped: `{shown(text)}`', None))
@@ -146,7 +154,8 @@ class Flags:
         flags = grammar.flags_of(text, self.kind)
         is_whole = len(text) % 2 == 0 if self.kind == 'long' else True
         if self.kind == 'num':
-            is_whole = all(map(grammar.is_decimal, text.split(',')))
+            items = text.split(',')
+            is_whole = self.numbers.issuperset(items) or all(map(grammar.is_decimal, items))
         messages = [] if is_whole else [dropped(text)]
         for flag in flags:
             if flag in self.renamed:
@@ -235,7 +244,7 @@ class AffMending:
             if name in grammar.TABLES:
                 tables.setdefault(name, []).append((line, fields, first))
             elif name in grammar.CLASSES:
-                flag = next(iter(grammar.flags_of(fields[1], self.flags.kind)), None) if len(fields) > 1 else None
+                flag = self.flags.first(fields[1]) if len(fields) > 1 else None
                 classes.setdefault((name, flag), []).append((line, fields))
             elif name in grammar.LEFT_OUT:
                 self.mend_left_out(line, name)
