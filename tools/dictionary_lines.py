@@ -79,8 +79,8 @@ class DicText:
         if not self.rest.endswith('\n'):
             self.rest += '\n'
         self.is_empty = not first and not feed
-        # How many lines were put in at the start, and the numbers of those that were left out.
-        self.put_in, self.gone = 0, set()
+        # How many lines were put in at the start, and by number each line with another text, or None for one that was left out.
+        self.put_in, self.changed = 0, {}
 
     def put_first(self, text):
         """Puts in a first line."""
@@ -97,8 +97,9 @@ class DicText:
 
     def lines(self):
         """All lines, with the numbers that they had."""
-        numbers = (number for number in itertools.count(2 - self.put_in) if number not in self.gone)
-        return [self.first, *split_lines(self.rest[1:], numbers)]
+        numbers = (number for number in itertools.count(2 - self.put_in) if self.changed.get(number, True))
+        # The end of a text that was changed may be a carriage return.
+        return [self.first, *(self.changed.get(line.number, line) for line in split_lines(self.rest[1:], numbers))]
 
     def odd(self):
         """Where each line starts that has a blank, a backslash or another carriage return than its last before any tab."""
@@ -141,10 +142,11 @@ class DicText:
             line = self.line_at(start, number)
             before, end = line.text, start + len(line.text)
             if not stays(line):
-                self.gone.add(number)
+                self.changed[number] = None
                 pieces.append(self.rest[place:start - 1])
                 place = end + len(line.end)
             elif line.text != before:
+                self.changed[number] = line
                 pieces += [self.rest[place:start], line.text]
                 place = end
         self.rest = ''.join(pieces) + self.rest[place:]
