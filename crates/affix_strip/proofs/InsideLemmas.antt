@@ -1,19 +1,19 @@
--- A text that is not made of one of the words is no form of a derivation that stands before another
--- part.
+-- Each derivation that stands before another part is made of a known word by affixes that are noted.
 use Rattle.std.proofs.Common.{◌≡◌, ◌∙◌, ◌↔◌, ◌⊎◌, inl, inr, refl, sym, ap, ℕ, suc, ◌-◌, Bool}
 use Rattle.std.proofs.Common.{true, false, true≢false, not, cond, ◌&&◌, ◌||◌, IsTrue, List, [], ◌∷◌}
-use Rattle.std.proofs.Common.{◌++◌, append-nil, append_assoc, length, take, drop, take_all, nat_eq}
+use Rattle.std.proofs.Common.{◌++◌, append-nil, length, take, drop, take_all}
 use Rattle.std.proofs.Common.{slice_get, Contains, Option, None, Some, is_none}
-use Rattle.std.proofs.Common.{option_and_then, if◌then◌else◌, length-append, arith}
-use Rattle.std.specs.List.{list_any, ends_with}
+use Rattle.std.proofs.Common.{option_and_then, if◌then◌else◌, arith}
+use Rattle.std.proofs.Common.{◌<◌}
+use Rattle.std.proofs.Common.{length-take-le}
+use Rattle.std.proofs.Common.{length-drop}
+use Rattle.std.proofs.Common.{◌+◌}
+use Rattle.std.proofs.Common.{take-append-drop}
+use Rattle.std.specs.List.{list_any}
 use Rattle.std.specs.Option.{option_map, option_map_or}
-use Rattle.std.proofs.Math.Seq.{drop-append_seam}
-use Rattle.std.proofs.lemmas.Bool.{and_parts, and_from, false_from_ne_true, or_cases, or_left}
-use Rattle.std.proofs.lemmas.Bool.{or_right}
+use Rattle.std.proofs.lemmas.Bool.{and_parts, and_from, or_cases}
 use Rattle.std.proofs.lemmas.Option.{option_and_then_some, same_Some}
-use Rattle.std.proofs.lemmas.Slice.Eq.{bytes_eq-Decides}
-use Rattle.key_filter.specs.Filter.{may_have}
-use Rattle.spell_types.specs.lists.Laws.{any-at, any-contains}
+use Rattle.spell_types.specs.lists.Laws.{any-contains}
 use Rattle.spell_types.specs.declared.Entry.{Entry}
 use Rattle.spell_types.specs.declared.Lexicon.{Lexicon}
 use Rattle.spell_types.specs.declared.derivations.Derivation.{Derivation}
@@ -34,6 +34,11 @@ use Rattle.spell_types.specs.Laws.{own_side}
 use Rattle.spell_types.specs.Licences.{holds_of, carried_by, is_affix_without, is_allowed}
 use Rattle.spell_types.specs.Licences.{is_licensed, some_affix_carries, some_carry, has_some_with}
 use Rattle.spell_types.specs.Licences.{has_prefix_without, has_suffix_without, has_affix_with}
+use Rattle.spell_types.specs.Licences.{is_second_allowed}
+use Rattle.spell_types.specs.Licences.{allows}
+use Rattle.spell_types.specs.Licences.{is_prefix_allowed}
+use Rattle.spell_types.specs.Licences.{is_first_allowed}
+use Rattle.spell_types.specs.Licences.{is_crossing_right}
 use Rattle.spell_types.specs.Parts.{is_last, stands_at, stands_in_rule}
 use Rattle.spell_types.specs.Parts.{is_allowed_at, has_right_entry, is_not_forbidden_at}
 use Rattle.spell_types.specs.Parts.{are_affixes_permitted_at, are_suffixes_few_at}
@@ -42,17 +47,19 @@ use Rattle.affix_strip.specs.declared.edges.Edge.{Edge}
 use Rattle.affix_strip.specs.declared.inside.Inside.{Inside}
 use Rattle.affix_strip.specs.declared.edges.Those.{Those}
 use Rattle.affix_strip.specs.declared.edges.Those.TheVariants.{All, Carrying}
-use Rattle.affix_strip.specs.Edges.{is_rule_among, IsSilent, IsNoted, IsEdge, IsBegun}
-use Rattle.affix_strip.specs.Edges.{Silent, Before}
-use Rattle.affix_strip.specs.Hashes.{hash_of}
+use Rattle.affix_strip.specs.Edges.{is_rule_among, IsNoted, IsEdge}
+use Rattle.affix_strip.specs.Edges.{IsNotedChange}
 use Rattle.affix_strip.specs.Inside.{one_fits, has_step, StandsInside, ByFlags, InRule}
-use Rattle.affix_strip.specs.Inside.{carries_sign, HasGiven, HasInnerFlags, IsInsideOfLexicon}
-use Rattle.affix_strip.specs.Inside.{IsUnmade}
-use Rattle.affix_strip.specs.Classes.{HasClasses}
-use Rattle.affix_strip.specs.Tables.{AllowsNone}
-use Rattle.affix_strip.proofs.BarringLemmas.{no-affixes}
+use Rattle.affix_strip.specs.Inside.{HasGiven, HasInnerFlags, IsInsideOfLexicon}
+use Rattle.affix_strip.specs.Inside.{ReachesParts}
+use Rattle.affix_strip.specs.Inside.{front_exchanged}
+use Rattle.affix_strip.specs.Inside.{end_exchanged}
+use Rattle.affix_strip.specs.Inside.{ReachesEnds}
 use Rattle.affix_strip.proofs.InverseLemmas.{rule_on-side}
 use Rattle.affix_strip.proofs.TableLemmas.{on-rule}
+use Rattle.affix_strip.specs.Reaching.{ReachesAll}
+use Rattle.affix_strip.specs.Reaching.{piece_between}
+use Rattle.affix_strip.specs.Reaching.{is_reached}
 
 -- ---- what a licence names
 -- a derivation names an entry and affixes, which are allowed
@@ -98,13 +105,12 @@ module _ (lexicon : Lexicon) (d : Derivation) (names : Names lexicon d) where
   own-flags = ap (λ found. option_map_or (λ (e : Entry). e.flags) found []) names.at
 
 -- ---- affixes that stand there
--- each affix is one of those of its side
-pub record Wants (lexicon : Lexicon) (those : Those) (n : Named) : Type 0 where
+-- each affix is one of those of its side, and there is one suffix at most
+pub record Wants (lexicon : Lexicon) (those : Those) (d : Derivation) (n : Named) : Type 0 where
   pub prefix : (rule : Rule) → n.prefix ≡ Some rule → is_rule_among those rule ≡ true
   pub first : (rule : Rule) → n.first ≡ Some rule
       → has rule.carried lexicon.affixes.signs.permit ≡ true
-  pub second : (rule : Rule) → n.second ≡ Some rule
-      → has rule.carried lexicon.affixes.signs.permit ≡ true
+  pub second : d.second ≡ None
 
 carried-with : (flag : Option Flag) (affix : Option Rule) → is_affix_without flag affix ≡ false
     → (rule : Rule) → affix ≡ Some rule → has rule.carried flag ≡ true
@@ -150,6 +156,7 @@ module _ (lexicon : Lexicon) (d : Derivation) (names : Names lexicon d) where
   record ByFlagsAt (place : Place) : Type 0 where
     allowed : is_allowed_at lexicon d place ≡ true
     permitted : are_affixes_permitted_at lexicon d place ≡ true
+    few : are_suffixes_few_at lexicon d place ≡ true
 
   flags-parts : (place : Place) → stands_at lexicon d place ≡ true → ByFlagsAt place
   unfolding stands_at
@@ -164,11 +171,9 @@ module _ (lexicon : Lexicon) (d : Derivation) (names : Names lexicon d) where
       one.1 in
       let three = and_parts (is_not_forbidden_at lexicon d place)
       (are_affixes_permitted_at lexicon d place && are_suffixes_few_at lexicon d place) two.1 in
-      record {
-        allowed = one.0;
-        permitted = (and_parts (are_affixes_permitted_at lexicon d place)
-            (are_suffixes_few_at lexicon d place) three.1).0;
-      }
+      let four = and_parts (are_affixes_permitted_at lexicon d place)
+      (are_suffixes_few_at lexicon d place) three.1 in
+      record { allowed = one.0; permitted = four.0; few = four.1 }
 
   -- what stands in a rule, before another part, has no affix
   record Bare : Type 0 where
@@ -199,40 +204,55 @@ module _ (lexicon : Lexicon) (d : Derivation) (names : Names lexicon d) where
         second = is-none d.second four.1;
       }
 
-  bare-wants : (those : Those) → Bare → Wants lexicon those (own lexicon d names)
+  bare-wants : (those : Those) → Bare → Wants lexicon those d (own lexicon d names)
   bare-wants those bare = record {
     prefix = λ rule. no-rule (own lexicon d names).prefix
         (ap (affix_on lexicon.affixes.rules Prefix) bare.prefix) rule;
     first = λ rule. no-rule (own lexicon d names).first
         (ap (affix_on lexicon.affixes.rules Suffix) bare.first) rule;
-    second = λ rule. no-rule (own lexicon d names).second
-        (ap (affix_on lexicon.affixes.rules Suffix) bare.second) rule;
+    second = bare.second;
   }
 
-  pub wants-first : StandsInside lexicon First d → Wants lexicon All (own lexicon d names)
-  wants-first (ByFlags stands) =
+  -- before another part there is no second suffix, unless each part may have one
+  one-suffix : (place : Place) → lexicon.affixes.options.more_suffixes ≡ false
+      → is_last place ≡ false → are_suffixes_few_at lexicon d place ≡ true → d.second ≡ None
+  one-suffix place one inner few = by (or_cases (is_none d.second)
+      (is_last place || lexicon.affixes.options.more_suffixes) few)
+    where
+      by : (is_none d.second ≡ true)
+          ⊎ ((is_last place || lexicon.affixes.options.more_suffixes) ≡ true) → d.second ≡ None
+      by (inl none) = is-none d.second none
+      by (inr more) =
+          absurd (true≢false (sym more
+          ∙ ap (λ b. b || lexicon.affixes.options.more_suffixes) inner ∙ one))
+
+  pub wants-first : lexicon.affixes.options.more_suffixes ≡ false → StandsInside lexicon First d
+      → Wants lexicon All d (own lexicon d names)
+  wants-first one (ByFlags stands) =
       let both = flags-parts First stands in
       let ends = permitted-ends (not-so (has_suffix_without permit lexicon d) both.permitted) in
       record {
         prefix = λ rule is. refl;
         first = carried-with permit (own lexicon d names).first ends.0;
-        second = carried-with permit (own lexicon d names).second ends.1;
+        second = one-suffix First one refl both.few;
       }
-  wants-first (InRule stands step) = bare-wants All (rule-parts First refl stands)
+  wants-first one (InRule stands step) = bare-wants All (rule-parts First refl stands)
 
-  pub wants-middle : StandsInside lexicon Middle d
-      → Wants lexicon (Carrying permit) (own lexicon d names)
-  wants-middle (ByFlags stands) =
+  pub wants-middle : lexicon.affixes.options.more_suffixes ≡ false → StandsInside lexicon Middle d
+      → Wants lexicon (Carrying permit) d (own lexicon d names)
+  wants-middle one (ByFlags stands) =
+      let parts = flags-parts Middle stands in
       let both = and_parts (not (has_prefix_without permit lexicon d))
-      (not (has_suffix_without permit lexicon d)) (flags-parts Middle stands).permitted in
+      (not (has_suffix_without permit lexicon d)) parts.permitted in
       let ends = permitted-ends (not-so (has_suffix_without permit lexicon d) both.1) in
       record {
         prefix = carried-with permit (own lexicon d names).prefix
             (permitted-front (not-so (has_prefix_without permit lexicon d) both.0));
         first = carried-with permit (own lexicon d names).first ends.0;
-        second = carried-with permit (own lexicon d names).second ends.1;
+        second = one-suffix Middle one refl parts.few;
       }
-  wants-middle (InRule stands step) = bare-wants (Carrying permit) (rule-parts Middle refl stands)
+  wants-middle one (InRule stands step) =
+      bare-wants (Carrying permit) (rule-parts Middle refl stands)
 
 -- ---- the flags of the entry
 module _ (told : (set : List Flag) (flag : Flag) → IsTrue (has set (Some flag))
@@ -241,11 +261,11 @@ module _ (told : (set : List Flag) (flag : Flag) → IsTrue (has set (Some flag)
   abbrev flags : List Flag
   flags = names.entry.flags
 
-  -- one that the entry has, and the set has
-  common : (flag : Flag) → has flags (Some flag) ≡ true → has set (Some flag) ≡ true
-      → has_flag_of set flags ≡ true
-  common flag own there =
-      any-contains (λ f. has set (Some f)) flags flag ((told flags flag).0 own) there
+  -- one that is in both
+  common : (own : List Flag) (flag : Flag) → has own (Some flag) ≡ true
+      → has set (Some flag) ≡ true → has_flag_of set own ≡ true
+  common own flag has_it there =
+      any-contains (λ f. has set (Some f)) own flag ((told own flag).0 has_it) there
 
   by-steps : (steps : List PatternStep)
       → ((place : ℕ) (step : PatternStep) → slice_get steps place ≡ Some step
@@ -259,7 +279,7 @@ module _ (told : (set : List Flag) (flag : Flag) → IsTrue (has set (Some flag)
       either : (one_fits flags more ≡ true → has_flag_of set flags ≡ true)
           → (fits_step step flags ≡ true) ⊎ (one_fits flags more ≡ true)
           → has_flag_of set flags ≡ true
-      either later (inl fits) = common step.flag fits (all 0 step refl)
+      either later (inl fits) = common flags step.flag fits (all 0 step refl)
       either later (inr any) = later any
 
   by-patterns : (patterns : List (List PatternStep))
@@ -278,138 +298,137 @@ module _ (told : (set : List Flag) (flag : Flag) → IsTrue (has set (Some flag)
       either later (inl fits) = by-steps steps (all 0 steps refl) fits
       either later (inr any) = later any
 
-  -- an entry with an affix has the flag of a class
   abbrev n : Named
   n = own lexicon d names
 
-  none-allowed : HasClasses lexicon.affixes.rules set → has_flag_of set flags ≡ false
-      → AllowsNone lexicon.affixes.rules names.entry
-  none-allowed classes none place rule at =
-      false_from_ne_true (has flags (Some rule.flag)) (λ holds.
-      true≢false (sym (common rule.flag holds (classes.flags place rule at)) ∙ none))
+  -- the flag of the affix's class is in the set
+  abbrev IsInSet : Option Rule → Type 0
+  IsInSet None = ⊥
+  IsInSet (Some rule) = has set (Some rule.flag) ≡ true
 
-  no-carrier : (flag : Option Flag) → HasClasses lexicon.affixes.rules set
-      → has_flag_of set flags ≡ false → some_affix_carries flag n ≡ true → ⊥
-  no-carrier flag classes none carried =
-      let bare =
-      no-affixes lexicon.affixes.rules d names.entry (none-allowed classes none) names.allowed
-      names.ordered in
-      true≢false (sym carried ∙ nothing flag bare.0 bare.1.0 bare.1.1)
+  -- that of an affix is there that carries a flag of the set
+  carrier-in : (side : Side) (named : Option ℕ) (affix : Option Rule)
+      → affix_on lexicon.affixes.rules side named ≡ affix → (flag : Flag)
+      → has (carried_by affix) (Some flag) ≡ true → has set (Some flag) ≡ true → IsInSet affix
+  carrier-in side named None at flag carries there = absurd (true≢false (sym carries))
+  carrier-in side named (Some rule) at flag carries there =
+      option_and_then_some (rule_on lexicon.affixes.rules side) named rule at (λ place is on.
+      are.closed place rule (on-rule lexicon.affixes.rules side place rule on)
+      (common rule.carried flag carries there))
+
+  -- and that of one that allows such an affix
+  allowing-in : (side : Side) (named : Option ℕ) (affix allowed : Option Rule)
+      → affix_on lexicon.affixes.rules side named ≡ affix → IsInSet allowed
+      → allows (carried_by affix) allowed ≡ true → IsInSet affix
+  allowing-in side named affix None at is allows_it = absurd is
+  allowing-in side named affix (Some rule) at is allows_it =
+      carrier-in side named affix at rule.flag allows_it is
+
+  -- the entry has a flag of the set that allows such an affix
+  by-entry : (affix : Option Rule) → IsInSet affix → allows flags affix ≡ true
+      → has_flag_of set flags ≡ true
+  by-entry None is allows_it = absurd is
+  by-entry (Some rule) is allows_it = common flags rule.flag allows_it is
+
+  first-allowed : is_first_allowed n ≡ true
+  first-allowed =
+      (and_parts (is_first_allowed n)
+      (is_second_allowed n && (is_prefix_allowed n && is_crossing_right n)) names.allowed).0
+
+  later-allowed : (is_second_allowed n && (is_prefix_allowed n && is_crossing_right n)) ≡ true
+  later-allowed =
+      (and_parts (is_first_allowed n)
+      (is_second_allowed n && (is_prefix_allowed n && is_crossing_right n)) names.allowed).1
+
+  second-allowed : is_second_allowed n ≡ true
+  second-allowed =
+      (and_parts (is_second_allowed n) (is_prefix_allowed n && is_crossing_right n)
+      later-allowed).0
+
+  prefix-allowed : is_prefix_allowed n ≡ true
+  prefix-allowed =
+      (and_parts (is_prefix_allowed n) (is_crossing_right n)
+      (and_parts (is_second_allowed n) (is_prefix_allowed n && is_crossing_right n)
+      later-allowed).1).0
+
+  by-first : IsInSet n.first → has_flag_of set flags ≡ true
+  by-first is =
+      by (or_cases (allows flags n.first)
+      (allows flags n.prefix && allows (carried_by n.prefix) n.first) first-allowed)
     where
-      silent : (f : Option Flag) → has [] f ≡ false
-      silent None = refl
-      silent (Some f) = refl
+      by : (allows flags n.first ≡ true)
+          ⊎ ((allows flags n.prefix && allows (carried_by n.prefix) n.first) ≡ true)
+          → has_flag_of set flags ≡ true
+      by (inl entry) = by-entry n.first is entry
+      by (inr prefix) =
+          let both = and_parts (allows flags n.prefix) (allows (carried_by n.prefix) n.first)
+          prefix in
+          by-entry n.prefix (allowing-in Prefix d.prefix n.prefix n.first refl is both.1) both.0
 
-      nothing : (f : Option Flag) → d.prefix ≡ None → d.first ≡ None → d.second ≡ None
-          → some_affix_carries f n ≡ false
-      nothing f prefix first second =
-          ap (λ p. has (carried_by (affix_on lexicon.affixes.rules Prefix p)) f
-          || (has (carried_by n.first) f || has (carried_by n.second) f)) prefix
-          ∙ ap (λ p. has [] f || (has (carried_by (affix_on lexicon.affixes.rules Suffix p)) f
-          || has (carried_by n.second) f)) first
-          ∙ ap (λ p. has [] f || (has [] f
-          || has (carried_by (affix_on lexicon.affixes.rules Suffix p)) f)) second
-          ∙ ap (λ b. b || (b || b)) (silent f)
+  by-second : IsInSet n.second → has_flag_of set flags ≡ true
+  by-second is = by-first (allowing-in Suffix d.first n.first n.second refl is second-allowed)
 
-  -- the rule that carries the flag is one of the dictionary
-  record Carrier (flag : Option Flag) : Type 0 where
-    place : ℕ
-    rule : Rule
-    at : slice_get lexicon.affixes.rules place ≡ Some rule
-    carries : has rule.carried flag ≡ true
-
-  carrier-on : (flag : Option Flag) (side : Side) (named : Option ℕ)
-      → has (carried_by (affix_on lexicon.affixes.rules side named)) flag ≡ true → Carrier flag
-  carrier-on flag side None holds = absurd (none flag holds)
+  by-prefix : IsInSet n.prefix → has_flag_of set flags ≡ true
+  by-prefix is =
+      by (or_cases (allows flags n.prefix)
+      (allows (carried_by n.first) n.prefix || allows (carried_by n.second) n.prefix)
+      prefix-allowed)
     where
-      none : (f : Option Flag) → has [] f ≡ true → ⊥
-      none None holds = true≢false (sym holds)
-      none (Some f) holds = true≢false (sym holds)
-  carrier-on flag side (Some place) holds = by (rule_on lexicon.affixes.rules side place) refl holds
-    where
-      none : (f : Option Flag) → has [] f ≡ true → ⊥
-      none None holds = true≢false (sym holds)
-      none (Some f) holds = true≢false (sym holds)
+      suffix : (allows (carried_by n.first) n.prefix ≡ true)
+          ⊎ (allows (carried_by n.second) n.prefix ≡ true) → has_flag_of set flags ≡ true
+      suffix (inl first) =
+          by-first (allowing-in Suffix d.first n.first n.prefix refl is first)
+      suffix (inr second) =
+          by-second (allowing-in Suffix d.second n.second n.prefix refl is second)
 
-      by : (found : Option Rule) → rule_on lexicon.affixes.rules side place ≡ found
-          → has (carried_by found) flag ≡ true → Carrier flag
-      by None there holds = absurd (none flag holds)
-      by (Some rule) there holds = record {
-        place = place;
-        rule = rule;
-        at = on-rule lexicon.affixes.rules side place rule there;
-        carries = holds;
-      }
+      by : (allows flags n.prefix ≡ true)
+          ⊎ ((allows (carried_by n.first) n.prefix || allows (carried_by n.second) n.prefix)
+          ≡ true) → has_flag_of set flags ≡ true
+      by (inl entry) = by-entry n.prefix is entry
+      by (inr either) =
+          suffix (or_cases (allows (carried_by n.first) n.prefix)
+          (allows (carried_by n.second) n.prefix) either)
 
-  carrier : (flag : Option Flag) → some_affix_carries flag n ≡ true → Carrier flag
-  carrier flag holds =
-      either (or_cases (has (carried_by n.prefix) flag)
-      (has (carried_by n.first) flag || has (carried_by n.second) flag) holds)
-    where
-      suffix : (has (carried_by n.first) flag ≡ true) ⊎ (has (carried_by n.second) flag ≡ true)
-          → Carrier flag
-      suffix (inl first) = carrier-on flag Suffix d.first first
-      suffix (inr second) = carrier-on flag Suffix d.second second
-
-      either : (has (carried_by n.prefix) flag ≡ true)
-          ⊎ ((has (carried_by n.first) flag || has (carried_by n.second) flag) ≡ true)
-          → Carrier flag
-      either (inl prefix) = carrier-on flag Prefix d.prefix prefix
-      either (inr later) =
-          suffix (or_cases (has (carried_by n.first) flag) (has (carried_by n.second) flag) later)
-
-  by-sign : (flag : Option Flag) → HasGiven set flag
-      → ((rule : Rule) → has rule.carried flag ≡ true
-      → carries_sign lexicon.affixes.signs rule ≡ true)
-      → has_some_with flag lexicon d ≡ true → has_flag_of set flags ≡ true
+  -- one that has a flag of the set, itself or by an affix, has an entry with one
+  by-sign : (flag : Option Flag) → HasGiven set flag → has_some_with flag lexicon d ≡ true
+      → has_flag_of set flags ≡ true
   unfolding has_some_with
-  by-sign flag given sign holds =
-      either (or_cases (has flags flag) (some_affix_carries flag n)
-      (sym (ap (holds_of (some_carry flag)) (own-named lexicon d names)) ∙ holds))
+  by-sign None given holds =
+      absurd (true≢false
+      (sym (sym (ap (holds_of (some_carry None)) (own-named lexicon d names)) ∙ holds)))
+  by-sign (Some flag) given holds =
+      either (or_cases (has flags (Some flag)) (some_affix_carries (Some flag) n)
+      (sym (ap (holds_of (some_carry (Some flag))) (own-named lexicon d names)) ∙ holds))
     where
-      own-flag : (f : Option Flag) → HasGiven set f → has flags f ≡ true
+      suffix : (has (carried_by n.first) (Some flag) ≡ true)
+          ⊎ (has (carried_by n.second) (Some flag) ≡ true) → has_flag_of set flags ≡ true
+      suffix (inl first) =
+          by-first (carrier-in Suffix d.first n.first refl flag first given)
+      suffix (inr second) =
+          by-second (carrier-in Suffix d.second n.second refl flag second given)
+
+      affix : (has (carried_by n.prefix) (Some flag) ≡ true)
+          ⊎ ((has (carried_by n.first) (Some flag) || has (carried_by n.second) (Some flag))
+          ≡ true) → has_flag_of set flags ≡ true
+      affix (inl prefix) =
+          by-prefix (carrier-in Prefix d.prefix n.prefix refl flag prefix given)
+      affix (inr later) =
+          suffix (or_cases (has (carried_by n.first) (Some flag))
+          (has (carried_by n.second) (Some flag)) later)
+
+      either : (has flags (Some flag) ≡ true) ⊎ (some_affix_carries (Some flag) n ≡ true)
           → has_flag_of set flags ≡ true
-      own-flag None given holds = absurd (true≢false (sym holds))
-      own-flag (Some f) given holds = common f holds given
-
-      classes : Carrier flag → HasClasses lexicon.affixes.rules set
-      classes c =
-          are.classes (any-at (carries_sign lexicon.affixes.signs) lexicon.affixes.rules c.place
-          c.rule c.at (sign c.rule c.carries))
-
-      by : (b : Bool) → has_flag_of set flags ≡ b → some_affix_carries flag n ≡ true → b ≡ true
-      by true is carried = refl
-      by false is carried =
-          absurd (no-carrier flag (classes (carrier flag carried)) is carried)
-
-      either : (has flags flag ≡ true) ⊎ (some_affix_carries flag n ≡ true)
-          → has_flag_of set flags ≡ true
-      either (inl holds) = own-flag flag given holds
-      either (inr carried) = by (has_flag_of set flags) refl carried
+      either (inl entry) = common flags flag entry given
+      either (inr carried) =
+          affix (or_cases (has (carried_by n.prefix) (Some flag))
+          (has (carried_by n.first) (Some flag) || has (carried_by n.second) (Some flag)) carried)
 
   abbrev signs : Signs
   signs = lexicon.affixes.signs
 
-  by-compound : has_some_with signs.compound lexicon d ≡ true → has_flag_of set flags ≡ true
-  by-compound = by-sign signs.compound are.compound
-      (λ rule carries. or_left (has rule.carried signs.compound)
-      (has rule.carried signs.begin || has rule.carried signs.middle) carries)
-
-  by-begin : has_some_with signs.begin lexicon d ≡ true → has_flag_of set flags ≡ true
-  by-begin = by-sign signs.begin are.begin
-      (λ rule carries. or_right (has rule.carried signs.compound)
-      (has rule.carried signs.begin || has rule.carried signs.middle)
-      (or_left (has rule.carried signs.begin) (has rule.carried signs.middle) carries))
-
-  by-middle : has_some_with signs.middle lexicon d ≡ true → has_flag_of set flags ≡ true
-  by-middle = by-sign signs.middle are.middle
-      (λ rule carries. or_right (has rule.carried signs.compound)
-      (has rule.carried signs.begin || has rule.carried signs.middle)
-      (or_right (has rule.carried signs.begin) (has rule.carried signs.middle) carries))
-
   by-rule : has_step lexicon d ≡ true → has_flag_of set flags ≡ true
   by-rule holds =
-      by-patterns lexicon.affixes.patterns are.steps
+      by-patterns lexicon.affixes.patterns are.own.steps
       (sym (ap (λ fs. list_any (one_fits fs) lexicon.affixes.patterns) (own-flags lexicon d names))
       ∙ holds)
 
@@ -420,8 +439,8 @@ module _ (told : (set : List Flag) (flag : Flag) → IsTrue (has set (Some flag)
     where
       either : (has_some_with signs.compound lexicon d ≡ true)
           ⊎ (has_some_with signs.begin lexicon d ≡ true) → has_flag_of set flags ≡ true
-      either (inl holds) = by-compound holds
-      either (inr holds) = by-begin holds
+      either (inl holds) = by-sign signs.compound are.own.compound holds
+      either (inr holds) = by-sign signs.begin are.own.begin holds
   inner-first (InRule stands step) = by-rule step
 
   pub inner-middle : StandsInside lexicon Middle d → has_flag_of set flags ≡ true
@@ -431,8 +450,8 @@ module _ (told : (set : List Flag) (flag : Flag) → IsTrue (has set (Some flag)
     where
       either : (has_some_with signs.compound lexicon d ≡ true)
           ⊎ (has_some_with signs.middle lexicon d ≡ true) → has_flag_of set flags ≡ true
-      either (inl holds) = by-compound holds
-      either (inr holds) = by-middle holds
+      either (inl holds) = by-sign signs.compound are.own.compound holds
+      either (inr holds) = by-sign signs.middle are.own.middle holds
   inner-middle (InRule stands step) = by-rule step
 
 -- ---- the form
@@ -452,12 +471,6 @@ sided rules side named rule is =
     option_and_then_some (rule_on rules side) named rule is
     (λ place there on. rule_on-side rules side place rule on)
 
-ends-append : (front back : List ℕ) → ends_with nat_eq (front ++ back) back ≡ true
-ends-append front back =
-    (bytes_eq-Decides back (drop (length (front ++ back) - length back) (front ++ back))).1
-    (sym (ap (λ n. drop n (front ++ back)) (omega (arith, length-append front back))
-    ∙ drop-append_seam front back))
-
 -- what attaching a rule of a side gives
 pub on-side : (full_strip : Bool) (side : Side) (rule : Rule) (word made : List ℕ) → rule.side ≡ side
     → attached full_strip rule word ≡ Some made → attached_on side full_strip rule word ≡ Some made
@@ -470,142 +483,158 @@ pub if-some : {X : Type 0} (b : Bool) (x made : X) → (if b then Some x else No
 if-some true x made is = sym (same_Some x made is)
 if-some false x made is = absurd (cc)
 
--- the rules of a dictionary that are noted, and a text that is made of none of the words by them
-module _ (full_strip : Bool) (inside : Inside) (fronts : Edge) (text : List ℕ)
-    (unmade : IsUnmade inside fronts text) where
-  -- a suffix at the end of the text leaves the word as it is
-  suffix-silent : (front : List ℕ) (affix : Option Rule)
-      → ((rule : Rule) → affix ≡ Some rule → IsNoted inside.ends rule × (rule.side ≡ Suffix))
-      → (word made : List ℕ) → with_affix full_strip affix word ≡ Some made
-      → text ≡ front ++ made → made ≡ word
-  suffix-silent front None known word made is whole = sym (same_Some word made is)
-  suffix-silent front (Some rule) known word made is whole =
-      let kept = take (length word - length rule.strip) word in
-      let made-is : made ≡ kept ++ rule.add =
-      if-some (takes_suffix full_strip rule word) (kept ++ rule.add) made
-      (on-side full_strip Suffix rule word made (known rule refl).1 is) in
-      let quiet : IsSilent rule =
-      unmade.ends rule (known rule refl).0
-      (ap (λ t. ends_with nat_eq t rule.add)
-      (whole ∙ ap (λ m. front ++ m) made-is ∙ sym (append_assoc front kept rule.add))
-      ∙ ends-append (front ++ kept) rule.add) in
-      made-is ∙ ap (λ a. kept ++ a) quiet.0 ∙ append-nil kept
-      ∙ take_all (length word - length rule.strip) word (omega (arith, ap length quiet.1))
+-- what an affix changes, if there is one
+abbrev added_by : Option Rule → List ℕ
+added_by None = []
+added_by (Some rule) = rule.add
 
-  -- what stands behind the prefix: an end of the text, which is none of the words
-  record Behind (word : List ℕ) : Type 0 where
-    front : List ℕ
-    whole : text ≡ front ++ word
-    none : may_have inside.words (hash_of word) ≡ false
+abbrev stripped_by : Option Rule → ℕ
+stripped_by None = 0
+stripped_by (Some rule) = length rule.strip
 
-  behind-prefix : (affix : Option Rule)
-      → ((rule : Rule) → affix ≡ Some rule → IsNoted fronts rule × (rule.side ≡ Prefix))
-      → (word : List ℕ) → with_affix full_strip affix word ≡ Some text → Behind word
-  behind-prefix None known word is =
-      let same : text ≡ word = sym (same_Some word text is) in
-      record {
-        front = [];
-        whole = same;
-        none = ap (λ t. may_have inside.words (hash_of t)) (sym same) ∙ unmade.word;
-      }
-  behind-prefix (Some rule) known word is =
-      by (unmade.begins rule (drop (length rule.strip) word) (known rule refl).0 made)
-    where
-      made : text ≡ rule.add ++ drop (length rule.strip) word
-      made =
-          if-some (takes_prefix full_strip rule word)
-          (rule.add ++ drop (length rule.strip) word) text
-          (on-side full_strip Prefix rule word text (known rule refl).1 is)
+noted-by : (edge : Edge) (affix : Option Rule)
+    → ((rule : Rule) → affix ≡ Some rule → IsNoted edge rule)
+    → IsNotedChange edge (added_by affix) (stripped_by affix)
+noted-by edge None known = record {
+  within = omega arith;
+  shortens = λ nothing some. absurd (omega (arith, some));
+  plain = λ some none. absurd (omega (arith, some));
+  exchanged = λ some strips. absurd (omega (arith, some));
+  exchanges = λ some strips. absurd (omega (arith, some));
+}
+noted-by edge (Some rule) known = known rule refl
 
-      left : rule.strip ≡ [] → drop (length rule.strip) word ≡ word
-      left nothing = ap (λ s. drop (length s) word) nothing
+ended : (full_strip : Bool) (affix : Option Rule)
+    → ((rule : Rule) → affix ≡ Some rule → rule.side ≡ Suffix) → (word made : List ℕ)
+    → with_affix full_strip affix word ≡ Some made
+    → made ≡ end_exchanged word (stripped_by affix) (added_by affix)
+ended full_strip None side word made is =
+    sym (same_Some word made is) ∙ sym (take_all (length word - 0) word (omega arith))
+    ∙ sym (append-nil (take (length word - 0) word))
+ended full_strip (Some rule) side word made is =
+    if-some (takes_suffix full_strip rule word)
+    (take (length word - length rule.strip) word ++ rule.add) made
+    (on-side full_strip Suffix rule word made (side rule refl) is)
 
-      by : IsBegun inside.words rule (drop (length rule.strip) word) → Behind word
-      by (Silent quiet) =
-          let same : text ≡ word =
-          made ∙ ap (λ a. a ++ drop (length rule.strip) word) quiet.0 ∙ left quiet.1 in
-          record {
-            front = [];
-            whole = same;
-            none = ap (λ t. may_have inside.words (hash_of t)) (sym same) ∙ unmade.word;
-          }
-      by (Before nothing none) = record {
-        front = rule.add;
-        whole = made ∙ ap (λ w. rule.add ++ w) (left nothing);
-        none = ap (λ t. may_have inside.words (hash_of t)) (sym (left nothing)) ∙ none;
-      }
+begun : (full_strip : Bool) (affix : Option Rule)
+    → ((rule : Rule) → affix ≡ Some rule → rule.side ≡ Prefix) → (word made : List ℕ)
+    → with_affix full_strip affix word ≡ Some made
+    → made ≡ front_exchanged (added_by affix) (stripped_by affix) word
+begun full_strip None side word made is = sym (same_Some word made is)
+begun full_strip (Some rule) side word made is =
+    if-some (takes_prefix full_strip rule word) (rule.add ++ drop (length rule.strip) word) made
+    (on-side full_strip Prefix rule word made (side rule refl) is)
 
-  -- the word of the entry is none of the words
-  none-formed : (n : Named)
-      → ((rule : Rule) → n.prefix ≡ Some rule → IsNoted fronts rule × (rule.side ≡ Prefix))
-      → ((rule : Rule) → n.first ≡ Some rule → IsNoted inside.ends rule × (rule.side ≡ Suffix))
-      → ((rule : Rule) → n.second ≡ Some rule → IsNoted inside.ends rule × (rule.side ≡ Suffix))
-      → formed full_strip n ≡ Some text
-      → may_have inside.words (hash_of n.entry.word) ≡ false
-  none-formed n prefix first second is =
-      one (with_affix full_strip n.first n.entry.word) refl is
-    where
-      two : (stem : List ℕ) → with_affix full_strip n.first n.entry.word ≡ Some stem
-          → (found : Option (List ℕ)) → with_affix full_strip n.second stem ≡ found
-          → option_and_then (with_affix full_strip n.prefix) found ≡ Some text
-          → may_have inside.words (hash_of n.entry.word) ≡ false
-      two stem inner None at is = absurd (cc)
-      two stem inner (Some longer) at is =
-          let behind = behind-prefix n.prefix prefix longer is in
-          let outer : longer ≡ stem =
-          suffix-silent behind.front n.second second stem longer at behind.whole in
-          let whole : text ≡ behind.front ++ stem =
-          behind.whole ∙ ap (λ w. behind.front ++ w) outer in
-          let same : stem ≡ n.entry.word =
-          suffix-silent behind.front n.first first n.entry.word stem inner whole in
-          ap (λ w. may_have inside.words (hash_of w)) (sym (outer ∙ same)) ∙ behind.none
-
-      one : (found : Option (List ℕ)) → with_affix full_strip n.first n.entry.word ≡ found
-          → option_and_then (with_affix full_strip n.prefix)
-          (option_and_then (with_affix full_strip n.second) found) ≡ Some text
-          → may_have inside.words (hash_of n.entry.word) ≡ false
-      one None at is = absurd (cc)
-      one (Some stem) at is = two stem at (with_affix full_strip n.second stem) refl is
+-- the form of a derivation with one suffix at most
+formed-is : (full_strip : Bool) (n : Named) (text : List ℕ)
+    → ((rule : Rule) → n.prefix ≡ Some rule → rule.side ≡ Prefix)
+    → ((rule : Rule) → n.first ≡ Some rule → rule.side ≡ Suffix) → n.second ≡ None
+    → formed full_strip n ≡ Some text
+    → text ≡ front_exchanged (added_by n.prefix) (stripped_by n.prefix)
+    (end_exchanged n.entry.word (stripped_by n.first) (added_by n.first))
+formed-is full_strip n text prefix first second is =
+    one (with_affix full_strip n.first n.entry.word) refl
+    (sym (ap (λ affix. option_and_then (with_affix full_strip n.prefix)
+    (option_and_then (with_affix full_strip affix)
+    (with_affix full_strip n.first n.entry.word))) second) ∙ is)
+  where
+    one : (found : Option (List ℕ)) → with_affix full_strip n.first n.entry.word ≡ found
+        → option_and_then (with_affix full_strip n.prefix)
+        (option_and_then (with_affix full_strip None) found) ≡ Some text
+        → text ≡ front_exchanged (added_by n.prefix) (stripped_by n.prefix)
+        (end_exchanged n.entry.word (stripped_by n.first) (added_by n.first))
+    one None at made = absurd (cc)
+    one (Some stem) at made =
+        begun full_strip n.prefix prefix stem text made
+        ∙ ap (front_exchanged (added_by n.prefix) (stripped_by n.prefix))
+        (ended full_strip n.first first n.entry.word stem at)
 
 -- ---- all of it
 module _ (told : (set : List Flag) (flag : Flag) → IsTrue (has set (Some flag))
-    ↔ Contains set flag) (lexicon : Lexicon) (inside : Inside) (is : IsInsideOfLexicon lexicon inside)
-    (text : List ℕ) (d : Derivation) (licensed : is_licensed lexicon d ≡ true)
-    (form : form_of lexicon d ≡ Some text) where
-  abbrev names : Names lexicon d
-  names = names-of lexicon d licensed
+    ↔ Contains set flag) (lexicon : Lexicon) (inside : Inside)
+    (is : IsInsideOfLexicon lexicon inside) (word : List ℕ) (from : ℕ) where
+  -- where the places behind the parts of a text are told, that behind a derivation is
+  reached-by : (those : Those) (fronts : Edge) → IsEdge lexicon.affixes.rules Prefix those fronts
+      → {before now : List Bool}
+      → ReachesParts inside.known fronts inside.ends (drop from word) from before now
+      → (to : ℕ) (d : Derivation) → from < to → to < length word
+      → (licensed : is_licensed lexicon d ≡ true)
+      → form_of lexicon d ≡ Some (piece_between word from to)
+      → Wants lexicon those d (own lexicon d (names-of lexicon d licensed))
+      → has_flag_of is.flags (names-of lexicon d licensed).entry.flags ≡ true
+      → is_reached now to ≡ true
+  reached-by those fronts edge {before} {now} reaches to d behind within licensed form wants flagged =
+      ap (is_reached now) place
+      ∙ reaches.told (added_by n.prefix) n.entry.word (added_by n.first) rest
+      (stripped_by n.prefix) (stripped_by n.first)
+      (is.known d.entry names.entry names.at flagged)
+      (noted-by fronts n.prefix (λ rule at.
+      noted lexicon.affixes.rules Prefix those fronts edge d.prefix rule at (wants.prefix rule at)))
+      (noted-by inside.ends n.first (λ rule at.
+      noted lexicon.affixes.rules Suffix (Carrying lexicon.affixes.signs.permit) inside.ends
+      is.ends d.first rule at (wants.first rule at)))
+      (sym (take-append-drop (to - from) (drop from word)) ∙ ap (λ t. t ++ rest) text) left
+    where
+      names : Names lexicon d
+      names = names-of lexicon d licensed
 
-  none-by : (those : Those) (fronts : Edge) → IsEdge lexicon.affixes.rules Prefix those fronts
-      → IsUnmade inside fronts text → Wants lexicon those (own lexicon d names)
-      → has_flag_of is.flags names.entry.flags ≡ true → ⊥
-  none-by those fronts edge unmade wants flagged =
-      true≢false (sym (is.words d.entry names.entry names.at flagged)
-      ∙ none-formed lexicon.affixes.options.full_strip inside fronts text unmade
-      (own lexicon d names)
-      (λ rule at. (
-        noted lexicon.affixes.rules Prefix those fronts edge d.prefix rule at
-            (wants.prefix rule at),
-        sided lexicon.affixes.rules Prefix d.prefix rule at,
-      ))
-      (λ rule at. (
-        noted lexicon.affixes.rules Suffix (Carrying lexicon.affixes.signs.permit) inside.ends
-            is.ends d.first rule at (wants.first rule at),
-        sided lexicon.affixes.rules Suffix d.first rule at,
-      ))
-      (λ rule at. (
-        noted lexicon.affixes.rules Suffix (Carrying lexicon.affixes.signs.permit) inside.ends
-            is.ends d.second rule at (wants.second rule at),
-        sided lexicon.affixes.rules Suffix d.second rule at,
-      ))
-      (sym (own-form lexicon d names) ∙ form))
+      n : Named
+      n = own lexicon d names
 
-  pub none-first : IsUnmade inside inside.begins text → StandsInside lexicon First d → ⊥
-  none-first unmade stands =
-      none-by All inside.begins is.begins unmade (wants-first lexicon d names stands)
-      (inner-first told lexicon is.flags is.has d names stands)
+      made : List ℕ
+      made =
+          front_exchanged (added_by n.prefix) (stripped_by n.prefix)
+          (end_exchanged n.entry.word (stripped_by n.first) (added_by n.first))
 
-  pub none-middle : IsUnmade inside inside.fronts text → StandsInside lexicon Middle d → ⊥
-  none-middle unmade stands =
-      none-by (Carrying lexicon.affixes.signs.permit) inside.fronts is.fronts unmade
-      (wants-middle lexicon d names stands)
-      (inner-middle told lexicon is.flags is.has d names stands)
+      rest : List ℕ
+      rest = drop (to - from) (drop from word)
+
+      text : piece_between word from to ≡ made
+      text =
+          formed-is lexicon.affixes.options.full_strip n (piece_between word from to)
+          (λ rule at. sided lexicon.affixes.rules Prefix d.prefix rule at)
+          (λ rule at. sided lexicon.affixes.rules Suffix d.first rule at)
+          (ap (affix_on lexicon.affixes.rules Suffix) wants.second)
+          (sym (own-form lexicon d names) ∙ form)
+
+      count : length made ≡ to - from
+      count =
+          ap length (sym text)
+          ∙ length-take-le (to - from) (drop from word)
+          (omega (arith, behind, within, length-drop from word))
+
+      place : to ≡ from + length made
+      place = omega (arith, count, behind)
+
+      left : 0 < length rest
+      left =
+          omega (
+            arith,
+            behind,
+            within,
+            length-drop (to - from) (drop from word),
+            length-drop from word,
+          )
+
+  pub ends-first : lexicon.affixes.options.more_suffixes ≡ false → {before now : List Bool}
+      → ReachesParts inside.known inside.begins inside.ends (drop from word) from before now
+      → ReachesEnds lexicon First word from before now
+  ends-first one reaches = record {
+    kept = reaches.kept;
+    told = λ to d behind within licensed form stands.
+        reached-by All inside.begins is.begins reaches to d behind within licensed form
+        (wants-first lexicon d (names-of lexicon d licensed) one stands)
+        (inner-first told lexicon is.flags is.has d (names-of lexicon d licensed) stands);
+  }
+
+  pub ends-middle : lexicon.affixes.options.more_suffixes ≡ false → {before now : List Bool}
+      → ReachesParts inside.known inside.fronts inside.ends (drop from word) from before now
+      → ReachesEnds lexicon Middle word from before now
+  ends-middle one reaches = record {
+    kept = reaches.kept;
+    told = λ to d behind within licensed form stands.
+        reached-by (Carrying lexicon.affixes.signs.permit) inside.fronts is.fronts reaches to d behind
+        within licensed form
+        (wants-middle lexicon d (names-of lexicon d licensed) one stands)
+        (inner-middle told lexicon is.flags is.has d (names-of lexicon d licensed) stands);
+  }

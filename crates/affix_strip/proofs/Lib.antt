@@ -5,10 +5,13 @@ pub mod EdgeLemmas
 pub mod EntryLemmas
 pub mod FoundLemmas
 pub mod HeadLemmas
+pub mod InnerFlagLemmas
 pub mod InsideLemmas
 pub mod InverseLemmas
+pub mod KnownLemmas
 pub mod LengthLemmas
 pub mod LicenceLemmas
+pub mod ReachingLemmas
 pub mod MemberLemmas
 pub mod OrderLemmas
 pub mod PeelLemmas

@@ -17,7 +17,7 @@ use Rattle.affix_strip.specs.Tables.{HasCarried, AreSeconds, carried_by_suffix}
 
 -- ---- the flags that are listed are in their set
 -- an item with a place is in its list
-get-contains : {X : Type 0} (xs : List X) (place : ℕ) (x : X) → slice_get xs place ≡ Some x
+pub get-contains : {X : Type 0} (xs : List X) (place : ℕ) (x : X) → slice_get xs place ≡ Some x
     → Contains xs x
 get-contains xs place x at =
     (place, slice_get_within xs place x at, get_or_from_slice_get xs place x x at)
@@ -30,7 +30,7 @@ TellsMembers =
 abbrev pub TellsHas : Type 0
 TellsHas = (set : List Flag) (flag : Flag) → IsTrue (has set (Some flag)) ↔ Contains set flag
 
-listed-has : TellsMembers → TellsHas → (flags set : List Flag) → set ≡ put_all [] flags
+pub listed-has : TellsMembers → TellsHas → (flags set : List Flag) → set ≡ put_all [] flags
     → (flag : Flag) → Contains flags flag → has set (Some flag) ≡ true
 listed-has members told flags set is flag among =
     subst (λ fs. has fs (Some flag) ≡ true) (sym is)

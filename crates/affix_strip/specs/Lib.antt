@@ -6,6 +6,7 @@ pub mod Hashes
 pub mod Heads
 pub mod Inside
 pub mod Lengths
+pub mod Reaching
 pub mod Parts
 pub mod Peeling
 pub mod Tables

@@ -1,15 +1,12 @@
 //! What rules add at one end of words, by hashes: most texts end and begin with nothing of that.
 
-ghost use Rattle.std.specs.Prelude.{◌≡◌, ◌++◌, ◌&&◌, ℕ, List, false, true, nat_eq, IfOk};
-ghost use Rattle.std.specs.List.{ends_with};
-ghost use Rattle.key_filter.specs.Filter.{may_have};
-ghost use Rattle.spell_types.specs.declared.rules.Rule.{Rule};
+ghost use Rattle.std.specs.Prelude.{◌≡◌, ◌+◌, false, true, length, IfOk};
 ghost use Rattle.spell_types.specs.Derivations.{is_same_side};
-ghost use Rattle.affix_strip.specs.Edges.{is_wanted, IsNoted, KeepsNoted, IsEdge, IsSilent};
-ghost use Rattle.affix_strip.specs.Edges.{IsBegun, NoneBegin};
-ghost use Rattle.affix_strip.specs.Hashes.{hash_of};
+ghost use Rattle.affix_strip.specs.Edges.{adds, is_wanted, IsNoted, KeepsNoted, IsEdge};
+ghost use Rattle.affix_strip.specs.Edges.{ReachesAdded, ReachesEndings, NoneBegin};
 
 use crate::hashed::{START, fold};
+use crate::reaching::reach;
 use key_filter::KeyFilter;
 use spell_types::lists::NoMemory;
 use spell_types::{Flag, Rule, Side, has};
@@ -27,13 +24,15 @@ pub(crate) enum Those {
 #[derive(Drop)]
 pub(crate) struct Edge {
     /// What rules add that strip nothing off.
-    plain: KeyFilter,
+    pub(crate) plain: KeyFilter,
     /// What rules add that strip something off.
-    exchanged: KeyFilter,
+    pub(crate) exchanged: KeyFilter,
     /// None of them adds more characters.
-    longest: usize,
+    pub(crate) longest: usize,
     /// Whether one of them adds nothing and strips something off.
-    shortens: bool,
+    pub(crate) shortens: bool,
+    /// Whether one of them adds something and strips something off.
+    exchanges: bool,
 }
 
 impl Edge {
@@ -51,6 +50,7 @@ impl Edge {
             exchanged: KeyFilter::new(alloc, rules.len())?,
             longest: 0,
             shortens: false,
+            exchanges: false,
         };
         for rule in rules {
             edge.note_wanted(side, those, rule);
@@ -83,25 +83,42 @@ impl Edge {
         if rule.strip.is_empty() {
             self.plain.insert(key);
         } else {
+            self.exchanges = true;
             self.exchanged.insert(key);
         }
     }
 
-    /// Whether a text may end with what one of the rules adds.
-    pub(crate) fn ends(&self, text: &[char]) -> bool
-        ensures { result ≡ false → (rule : Rule) → IsNoted self.now rule
-            → ends_with nat_eq text.now rule.add ≡ true → IsSilent rule }
+    /// Tells of the places before the end of a text to which a suffix may lead that begins there. The
+    /// text is the rest of a word from the place `at` on. What stands before it may be a `whole` word,
+    /// and otherwise is one that a suffix may have stripped something off.
+    pub(crate) fn reach_endings(&self, text: &[char], at: usize, whole: bool, reached: &mut [bool])
+        requires { at + length text.now ≡ length reached.old }
+        ensures { ReachesEndings self.now text.now at whole reached.old reached.new }
     {
-        if self.shortens {
-            return true;
+        reach(reached, at, whole || self.shortens);
+        if whole || self.exchanges {
+            self.reach_added(text, at, whole, reached);
         }
+    }
+
+    /// Tells of the places behind what a suffix may add at the front of a text.
+    fn reach_added(&self, text: &[char], at: usize, whole: bool, reached: &mut [bool])
+        requires { at + length text.now ≡ length reached.old }
+        ensures { ReachesAdded self.now text.now at whole reached.old reached.new }
+    {
+        let mut key = START;
         for count in 0..self.longest.min(text.len()) {
-            let key = fold(START, &text[text.len() - (count + 1)..]);
-            if self.plain.may_have(key) || self.exchanged.may_have(key) {
-                return true;
-            }
+            key = fold(key, &text[count..count + 1]);
+            reach(reached, at + count + 1, self.adds(whole, key));
         }
-        false
+    }
+
+    /// Whether the text with this hash may be added, by a rule that strips something off, or behind
+    /// a whole word.
+    fn adds(&self, whole: bool, key: u64) -> bool
+        ensures { result ≡ adds self.now whole key }
+    {
+        (whole && self.plain.may_have(key)) || (self.exchanges && self.exchanged.may_have(key))
     }
 
     /// Whether a text may begin with what one of the rules adds.
@@ -119,33 +136,6 @@ impl Edge {
             }
         }
         false
-    }
-
-    /// Whether a text may begin with what one of the rules adds, and go on with one of these words
-    /// where the rule strips nothing off.
-    pub(crate) fn begins(&self, text: &[char], words: &KeyFilter) -> bool
-        ensures { result ≡ false → (rule : Rule) (rest : List ℕ) → IsNoted self.now rule
-            → text.now ≡ rule.add ++ rest → IsBegun words.now rule rest }
-    {
-        if self.shortens {
-            return true;
-        }
-        let mut key = START;
-        for count in 0..self.longest.min(text.len()) {
-            key = fold(key, &text[count..count + 1]);
-            if self.exchanged.may_have(key) || self.goes_on(key, &text[count + 1..], words) {
-                return true;
-            }
-        }
-        false
-    }
-
-    /// Whether what has this hash may be added by a rule that strips nothing off, and one of these
-    /// words may stand behind it.
-    fn goes_on(&self, key: u64, rest: &[char], words: &KeyFilter) -> bool
-        ensures { result ≡ (may_have self.now.plain key && may_have words.now (hash_of rest.now)) }
-    {
-        self.plain.may_have(key) && words.may_have(fold(START, rest))
     }
 }
 

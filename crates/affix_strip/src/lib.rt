@@ -3,6 +3,7 @@
 
 ghost use Rattle.std.specs.Prelude.{◌≡◌, ◌↔◌, ℕ, ◌<◌, List, Some, true, false, length, Contains};
 ghost use Rattle.std.specs.Prelude.{IfOk};
+ghost use Rattle.std.specs.Prelude.{◌≤◌};
 ghost use Rattle.spell_types.specs.declared.Lexicon.{Lexicon};
 ghost use Rattle.spell_types.specs.declared.derivations.Derivation.{Derivation};
 ghost use Rattle.spell_types.specs.Derivations.{form_of};
@@ -10,7 +11,7 @@ ghost use Rattle.spell_types.specs.Bases.{is_alone_in_case};
 ghost use Rattle.spell_types.specs.Licences.{is_licensed, is_derived, is_barred};
 ghost use Rattle.spell_types.specs.Sanity.{IsSane};
 ghost use Rattle.affix_strip.specs.Found.{derivations_of, derivation_cmp, AreDerivationsInOrder};
-ghost use Rattle.affix_strip.specs.Inside.{StandsInside};
+ghost use Rattle.affix_strip.specs.Inside.{ReachesEnds};
 
 mod at_once;
 mod barring;
@@ -19,9 +20,12 @@ mod entry_table;
 mod half;
 mod hashed;
 mod heads;
+mod inner_flags;
 mod inside;
+mod known_words;
 mod lengths;
 mod peeling;
+mod reaching;
 mod rule_flags;
 mod visiting;
 mod walk;
@@ -97,14 +101,17 @@ impl Stems {
         self.dictionary.is_too_long(count)
     }
 
-    /// Whether a text may be a part of a compound that stands at a place before another part. Where
-    /// the answer is no, none of its derivations may stand there, by its flags or in a compound
-    /// rule. It is told by filters, so that most texts need no other look.
-    pub fn may_stand(&self, text: &[char], place: Place) -> bool
-        ensures { result ≡ false → (d : Derivation) → is_licensed self.now d ≡ true
-            → form_of self.now d ≡ Some text.now → ¬ (StandsInside self.now place d) }
+    /// Sets in `reached` the places of a word at which a part of a compound may end that begins at the
+    /// place `from`, and stands at a place of the compound before another part. Places count
+    /// characters from 0. What was set stays, and nothing before `from` changes. Where a place is not
+    /// set, no such part ends there, neither one that stands by its flags nor one of a compound rule.
+    /// It is told by filters, without a look at entries.
+    pub fn reach_ends(&self, word: &[char], from: usize, place: Place, reached: &mut [bool])
+        requires long { length reached.old ≡ length word.now }
+        requires within { from ≤ length word.now }
+        ensures { ReachesEnds self.now place word.now from reached.old reached.new }
     {
-        self.dictionary.may_stand(text, place)
+        self.dictionary.reach_ends(word, from, place, reached);
     }
 
     /// All derivations of a word: those that are licensed and whose form is the word, by entry,

@@ -24,7 +24,7 @@ pub(crate) fn flags_of_classes(alloc: Global, rules: &[Rule]) -> Result<FlagSet,
 }
 
 /// The flag of each rule.
-fn listed_flags(alloc: Global, rules: &[Rule]) -> Result<Vec<Flag>, NoMemory>
+pub(crate) fn listed_flags(alloc: Global, rules: &[Rule]) -> Result<Vec<Flag>, NoMemory>
     ensures { IfOk result (λ flags. flags.items ≡ map (λ rule. rule.flag) rules.now) }
 {
     let flags = rules.iter().map(|rule| rule.flag).collect(alloc)?;

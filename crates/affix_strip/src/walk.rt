@@ -3,6 +3,7 @@
 
 ghost use Rattle.std.specs.Prelude.{◌≡◌, ◌++◌, ◌^◌, ◌<◌, [], ◌∷◌, ℕ, Bool, List, Some, None, true};
 ghost use Rattle.std.specs.Prelude.{◌⊎◌, false, length, map, filter, is_some, Contains, IfOk};
+ghost use Rattle.std.specs.Prelude.{◌≤◌};
 ghost use Rattle.std.specs.List.{list_any};
 ghost use Rattle.spell_types.specs.declared.derivations.Derivation.{Derivation};
 ghost use Rattle.spell_types.specs.Derivations.{form_of};
@@ -10,7 +11,7 @@ ghost use Rattle.spell_types.specs.Licences.{is_licensed, is_forbidden};
 ghost use Rattle.affix_strip.specs.EntryTable.{AreEntriesOf, HasEntries};
 ghost use Rattle.affix_strip.specs.Found.{derivations_of};
 ghost use Rattle.affix_strip.specs.Hashes.{IsHashed};
-ghost use Rattle.affix_strip.specs.Inside.{StandsInside};
+ghost use Rattle.affix_strip.specs.Inside.{ReachesEnds};
 ghost use Rattle.affix_strip.specs.Parts.{stem_of, with_first, with_suffixes, Any, Outside, Passes};
 ghost use Rattle.affix_strip.specs.Parts.{AtSome, Shows, From, FromAll, RuleFrom, Peels};
 ghost use Rattle.affix_strip.specs.Peeling.{may_undo, may_undo_at, fits_on, ArePeeled};
@@ -57,7 +58,7 @@ pub(crate) struct Tables {
     heads: Heads,
     /// How long a form is at most.
     longest: Option<usize>,
-    /// Which texts may be parts of compounds before other parts.
+    /// Where the parts of compounds may end that stand before other parts.
     inside: Inside,
 }
 
@@ -132,14 +133,15 @@ impl IndexedLexicon {
         }
     }
 
-    /// Whether a derivation with this form may stand at a place of a compound before another part.
-    pub(crate) fn may_stand(&self, text: &[char], place: Place) -> bool
-        requires { IsReady self.now }
-        ensures { result ≡ false → (d : Derivation) → is_licensed self.now.lexicon d ≡ true
-            → form_of self.now.lexicon d ≡ Some text.now
-            → ¬ (StandsInside self.now.lexicon place d) }
+    /// Tells of the places of a word where the parts of a compound may end that begin at the place
+    /// `from`, and stand at a place of the compound before another part.
+    pub(crate) fn reach_ends(&self, word: &[char], from: usize, place: Place, reached: &mut [bool])
+        requires ready { IsReady self.now }
+        requires long { length reached.old ≡ length word.now }
+        requires within { from ≤ length word.now }
+        ensures { ReachesEnds self.now.lexicon place word.now from reached.old reached.new }
     {
-        self.tables.inside.may_have(text, place)
+        self.tables.inside.reach_ends(word, from, place, reached);
     }
 
     /// Whether one of the derivations of a word passes a test. The walk ends at the first that

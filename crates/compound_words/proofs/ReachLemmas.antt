@@ -1,18 +1,19 @@
 -- Places to which parts lead from the front of a word.
 use Rattle.std.proofs.Common.{◌≡◌, ◌∙◌, ◌⊎◌, inl, inr, refl, sym, ap, subst, ℕ, zero, suc, ◌+◌, ◌-◌}
 use Rattle.std.proofs.Common.{◌<◌, ◌≤◌, Bool, true, false, true≢false, ◌&&◌, ◌||◌, ◌==◌, List, []}
-use Rattle.std.proofs.Common.{◌∷◌, ◌++◌, append-nil, length, take, drop, get_or, slice_get, nat_eq}
+use Rattle.std.proofs.Common.{◌∷◌, ◌++◌, append-nil, length, take, drop, slice_get, nat_eq}
 use Rattle.std.proofs.Common.{nat_lt, Option}
-use Rattle.std.proofs.Common.{None, Some, is_some, arith, set, length-set, get_or-set_same}
-use Rattle.std.proofs.Common.{get_or-set_other}
+use Rattle.std.proofs.Common.{None, Some, is_some, arith, set}
 use Rattle.std.specs.List.{list_any, ends_with}
 use Rattle.std.specs.Option.{option_map_or}
 use Rattle.std.proofs.Math.Seq.{take-append_seam}
-use Rattle.std.proofs.lemmas.Bool.{and_parts, cases_lt, cases_order, eqb-true, or_cases, or_left}
+use Rattle.std.proofs.lemmas.Bool.{and_parts, cases_lt, eqb-true, or_cases, or_left}
 use Rattle.std.proofs.lemmas.Bool.{or_right}
 use Rattle.std.proofs.lemmas.List.{take_all}
 use Rattle.spell_types.specs.lists.Laws.{any-at, any-contains}
-use Rattle.affix_strip.specs.Inside.{one_fits, has_step, StandsInside, ByFlags, InRule}
+use Rattle.affix_strip.specs.Inside.{one_fits, StandsInside, ByFlags, InRule}
+use Rattle.affix_strip.specs.Inside.{ReachesEnds}
+use Rattle.affix_strip.specs.Reaching.{is_reached, piece_between}
 use Rattle.spell_types.specs.declared.Lexicon.{Lexicon}
 use Rattle.spell_types.specs.declared.derivations.Derivation.{Derivation}
 use Rattle.spell_types.specs.declared.flags.Flag.{Flag}
@@ -32,10 +33,10 @@ use Rattle.spell_types.specs.Parts.{is_long_enough, stands_at, stands_in_rule}
 use Rattle.spell_types.specs.Patterns.{matches, fits_step, is_left_out, steps_after}
 use Rattle.spell_types.specs.Patterns.{MatchesOneByOne}
 use Rattle.compound_words.specs.Pieces.{has_put, is_cut_by, may_begin}
-use Rattle.compound_words.specs.Reach.{has_joints, puts_text, is_reached, IsStartAt, NoneStands}
-use Rattle.compound_words.specs.Reach.{piece_between, AreReached, ReachesFrom}
+use Rattle.compound_words.specs.Reach.{has_joints, puts_text, IsStartAt}
+use Rattle.compound_words.specs.Reach.{AreReached, ReachesFrom}
 use Rattle.compound_words.specs.Rests.{Way, ByFlags, ByRule, matches_from, is_enough, stand_from}
-use Rattle.compound_words.specs.Rests.{holds, AreRest, AreRulesOf, IsFrontOf}
+use Rattle.compound_words.specs.Rests.{holds, AreRest, AreRulesOf}
 use Rattle.compound_words.proofs.LeadLemmas.{matches-nothing}
 use Rattle.compound_words.proofs.NeighbourLemmas.{simplified-points}
 use Rattle.compound_words.proofs.PieceLemmas.{sound-licensed}
@@ -203,8 +204,9 @@ one-lead : MatchesOneByOne → (a : Asked) (rules : List (List PatternStep)) →
     → is_reached now (from + length (stretch part)) ≡ true
 one-lead law a rules are none {word} {from} {before} {now} reaches here part next more way start
     begins rest so =
-    by (reaches.leads to here (omega (arith, given-some a part given))
-    (inside-place a word from part next more rest) start)
+    (reaches.leads here start).told to part.d (omega (arith, given-some a part given))
+    (inside-place a word from part next more rest) (sound-of a part given)
+    (given.form ∙ ap (λ t. Some t) text) (stands-inside law a rules are here way part next more so)
   where
     to : ℕ
     to = from + length (stretch part)
@@ -223,13 +225,6 @@ one-lead law a rules are none {word} {from} {before} {now} reaches here part nex
         sym whole ∙ sym (take-append_seam (stretch part) (written (next ∷ more)))
         ∙ ap (take (length (stretch part))) rest.joined
         ∙ ap (λ n. take n (drop from word)) (omega arith)
-
-    by : (is_reached now to ≡ true) ⊎ NoneStands a.lexicon here (piece_between word from to)
-        → is_reached now to ≡ true
-    by (inl told) = told
-    by (inr stands) =
-        absurd (stands part.d (sound-of a part given) (given.form ∙ ap (λ t. Some t) text)
-        (stands-inside law a rules are here way part next more so))
 
 -- ---- one place after another
 -- what is told of the places before this one, and of all to which parts lead from those
@@ -260,8 +255,8 @@ pub below-more : MatchesOneByOne → {a : Asked} {rules : List (List PatternStep
     → has_joints a.lexicon ≡ false → ReachesFrom a.lexicon word from before now
     → AreReachedBelow a rules word before from → AreReachedBelow a rules word now (from + 1)
 below-more law {a} {rules} {word} {from} {before} {now} are none reaches was = record {
-  long = reaches.long ∙ was.long;
-  start = reaches.kept 0 was.start;
+  long = reaches.kept.long ∙ was.long;
+  start = reaches.kept.kept 0 was.start;
   next = λ here place part next more way below told at begins rest so.
       by here place part next more way told at begins rest so (cases_lt place from) below;
 }
@@ -274,9 +269,9 @@ below-more law {a} {rules} {word} {from} {before} {now} are none reaches was = r
         → (place < from) ⊎ (from ≤ place) → place < from + 1
         → is_reached now (place + length (stretch part)) ≡ true
     by here place part next more way told at begins rest so (inl less) below =
-        reaches.kept (place + length (stretch part))
+        reaches.kept.kept (place + length (stretch part))
         (was.next here place part next more way less
-        (sym (reaches.same place (omega (arith, less))) ∙ told) at begins rest so)
+        (sym (reaches.kept.same place less) ∙ told) at begins rest so)
     by here place part next more way told at begins rest so (inr past) below =
         let same : place ≡ from = omega (arith, past, below) in
         subst (λ p. is_reached now (p + length (stretch part)) ≡ true) (sym same)
@@ -338,33 +333,6 @@ none-reached {a} word reached nothing = record {
 }
 
 -- ---- the places behind one
-pub record ReachesBelow (lexicon : Lexicon) (word : List ℕ) (from : ℕ) (before now : List Bool)
-    (count : ℕ) : Type 0 where
-  pub long : length now ≡ length before
-  pub same : (place : ℕ) → place ≤ from → is_reached now place ≡ is_reached before place
-  pub kept : (place : ℕ) → is_reached before place ≡ true → is_reached now place ≡ true
-  pub leads : (to : ℕ) (here : Place) → from < to → to < count → IsStartAt here from
-      → (is_reached now to ≡ true) ⊎ NoneStands lexicon here (piece_between word from to)
-
-pub reaches-none : {lexicon : Lexicon} {word : List ℕ} (from : ℕ) (before : List Bool)
-    → ReachesBelow lexicon word from before before (from + 1)
-reaches-none from before = record {
-  long = refl;
-  same = λ place within. refl;
-  kept = λ place told. told;
-  leads = λ to here after below at. absurd (omega (arith, after, below));
-}
-
-pub reaches-all : {lexicon : Lexicon} {word : List ℕ} {from count : ℕ} {before now : List Bool}
-    → length word ≤ count → ReachesBelow lexicon word from before now count
-    → ReachesFrom lexicon word from before now
-reaches-all past was = record {
-  long = was.long;
-  same = was.same;
-  kept = was.kept;
-  leads = λ to here after within at. was.leads to here after (omega (arith, within, past)) at;
-}
-
 start-same : (one other : Place) (from : ℕ) → IsStartAt one from → IsStartAt other from
     → one ≡ other
 start-same First First from a b = refl
@@ -375,56 +343,12 @@ start-same Middle Middle from a b = refl
 start-same Middle Last from a b = absurd b
 start-same Last other from a b = absurd a
 
--- one place more is told
-pub reaches-more : {lexicon : Lexicon} {word : List ℕ} {from count : ℕ} {before now : List Bool}
-    (value : Bool) (place : Place) → IsStartAt place from → from < count → count < length now
-    → (is_reached now count ≡ true → value ≡ true)
-    → (value ≡ false → NoneStands lexicon place (piece_between word from count))
-    → ReachesBelow lexicon word from before now count
-    → ReachesBelow lexicon word from before (set now count value) (count + 1)
-reaches-more {lexicon} {word} {from} {count} {before} {now} value place start after within more
-    none was = record {
-      long = length-set now count value ∙ was.long;
-      same = λ p below. other p (omega (arith, below, after)) ∙ was.same p below;
-      kept = λ p told. kept p (was.kept p told) (cases_order p count);
-      leads = λ to here later below at. leads to here later at (cases_lt to count) below;
-    }
-  where
-    here_now : is_reached (set now count value) count ≡ value
-    here_now = get_or-set_same now count value false within
-
-    other : (p : ℕ) → ((p ≡ count) → ⊥) → is_reached (set now count value) p ≡ is_reached now p
-    other p apart = get_or-set_other now count p value false apart
-
-    kept : (p : ℕ) → is_reached now p ≡ true → (p ≡ count) ⊎ ((p < count) ⊎ (count < p))
-        → is_reached (set now count value) p ≡ true
-    kept p told (inl same) =
-        ap (is_reached (set now count value)) same ∙ here_now
-        ∙ more (sym (ap (is_reached now) same) ∙ told)
-    kept p told (inr (inl less)) = other p (λ same. omega (arith, same, less)) ∙ told
-    kept p told (inr (inr above)) = other p (λ same. omega (arith, same, above)) ∙ told
-
-    last : (here : Place) → IsStartAt here from → (b : Bool) → value ≡ b
-        → (is_reached (set now count value) count ≡ true)
-        ⊎ NoneStands lexicon here (piece_between word from count)
-    last here at true is = inl (here_now ∙ is)
-    last here at false is =
-        inr (subst (λ p. NoneStands lexicon p (piece_between word from count))
-        (start-same place here from start at) (none is))
-
-    leads : (to : ℕ) (here : Place) → from < to → IsStartAt here from
-        → (to < count) ⊎ (count ≤ to) → to < count + 1
-        → (is_reached (set now count value) to ≡ true)
-        ⊎ NoneStands lexicon here (piece_between word from to)
-    leads to here later at (inl less) below = by (was.leads to here later less at)
-      where
-        by : (is_reached now to ≡ true) ⊎ NoneStands lexicon here (piece_between word from to)
-            → (is_reached (set now count value) to ≡ true)
-            ⊎ NoneStands lexicon here (piece_between word from to)
-        by (inl told) = inl (other to (λ same. omega (arith, same, less)) ∙ told)
-        by (inr no_one) = inr no_one
-    leads to here later at (inr past) below =
-        let same : to ≡ count = omega (arith, past, below) in
-        subst (λ t. (is_reached (set now count value) t ≡ true)
-        ⊎ NoneStands lexicon here (piece_between word from t)) (sym same)
-        (last here at value refl)
+pub reaches-by : {lexicon : Lexicon} {word : List ℕ} {from : ℕ} {before now : List Bool}
+    (place : Place) → IsStartAt place from → ReachesEnds lexicon place word from before now
+    → ReachesFrom lexicon word from before now
+reaches-by {lexicon} {word} {from} {before} {now} place start marks = record {
+  kept = marks.kept;
+  leads = λ here at.
+      subst (λ p. ReachesEnds lexicon p word from before now) (start-same place here from start at)
+      marks;
+}

@@ -26,7 +26,8 @@ use Rattle.compound_words.specs.Counting.{OneOf}
 use Rattle.compound_words.specs.Rests.{Way, ByFlags, ByRule, matches_from, is_enough, stand_from}
 use Rattle.compound_words.specs.Rests.{holds, AreRest, IsRight, HasPart, IsRow, IsRowAt, AreRows}
 use Rattle.compound_words.specs.Rests.{AreHeads, Grows, HasFirsts, HasInner, Piece}
-use Rattle.compound_words.specs.Reach.{AreReached, IsStartAt, is_reached}
+use Rattle.affix_strip.specs.Reaching.{is_reached}
+use Rattle.compound_words.specs.Reach.{AreReached, IsStartAt}
 use Rattle.compound_words.specs.Pieces.{EndsBefore, Whole, may_begin}
 use Rattle.compound_words.proofs.NeighbourLemmas.{joined-begins, joined-ends, last-whole}
 use Rattle.spell_types.specs.lists.Laws.{each-append, each-weaker}

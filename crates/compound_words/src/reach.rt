@@ -2,8 +2,9 @@
 
 ghost use Rattle.std.specs.Prelude.{◌≡◌, ◌≤◌, ◌<◌, ℕ, true, false, length, IfOk};
 ghost use Rattle.std.specs.List.{list_any};
-ghost use Rattle.compound_words.specs.Reach.{AreReached, IsStartAt, NoneStands, has_joints};
-ghost use Rattle.compound_words.specs.Reach.{is_reached, piece_between, puts_text, ReachesFrom};
+ghost use Rattle.compound_words.specs.Reach.{AreReached, IsStartAt, has_joints};
+ghost use Rattle.affix_strip.specs.Reaching.{is_reached};
+ghost use Rattle.compound_words.specs.Reach.{puts_text, ReachesFrom};
 ghost use Rattle.compound_words.specs.Rests.{asked_by, patterns_of, AreRulesOf};
 
 use crate::search::Search;
@@ -76,10 +77,7 @@ fn reach_from(search: &Search, word: &[char], from: usize, reached: &mut [bool])
     requires inside { from < length word.now }
     ensures { ReachesFrom search.now.stems.now word.now from reached.old reached.new }
 {
-    let place = place_at(from);
-    for to in from + 1..word.len() {
-        reached[to] = reached[to] || search.may_stand(&word[from..to], place);
-    }
+    search.stems.reach_ends(word, from, place_at(from), reached);
 }
 
 /// Where in a compound a part stands that begins at a place of a word and is not the last one.

@@ -9,13 +9,12 @@ ghost use Rattle.affix_strip.specs.Found.{derivations_of};
 ghost use Rattle.spell_types.specs.Compounds.{are_joined, may_be_part, part_with, is_right_in_case};
 ghost use Rattle.spell_types.specs.Compounds.{may_end};
 ghost use Rattle.spell_types.specs.Sanity.{IsSane};
-ghost use Rattle.compound_words.specs.Reach.{NoneStands};
 ghost use Rattle.compound_words.specs.Rests.{asked_by};
 
 use affix_strip::Stems;
 use joint_checks::{is_long_enough, is_plain, is_written_joint};
 use spell_types::lists::{Copied, Items, NoMemory};
-use spell_types::{Derivation, Lexicon, Part, Pattern, Place, WrittenJoint, has_entry_with, sound};
+use spell_types::{Derivation, Lexicon, Part, Pattern, WrittenJoint, has_entry_with, sound};
 use std::alloc::Global;
 
 /// Of what a compound is asked.
@@ -101,13 +100,6 @@ impl Search<'_> {
             → form_of self.now.stems.now d ≡ Some text → length text < count }
     {
         self.stems.is_too_long(count)
-    }
-
-    /// Whether a text may be a part that stands at a place before another part.
-    pub(crate) fn may_stand(&self, text: &[char], place: Place) -> bool
-        ensures { result ≡ false → NoneStands self.now.stems.now place text.now }
-    {
-        !self.is_too_long(text.len()) && self.stems.may_stand(text, place)
     }
 
     /// The derivations whose form is a text.

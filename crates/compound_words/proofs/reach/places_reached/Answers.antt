@@ -1,7 +1,7 @@
 -- Each place is told.
 use Rattle.std.proofs.Common.{◌∙◌, ap, true, false, length}
 use Rattle.std.proofs.lemmas.List.{get_or-replicate}
-use Rattle.compound_words.specs.Reach.{is_reached}
+use Rattle.affix_strip.specs.Reaching.{is_reached}
 use Rattle.compound_words.proofs.ReachLemmas.{all-reached}
 use Rattle.compound_words.proofs.reach.places_reached.Goals as goal
 

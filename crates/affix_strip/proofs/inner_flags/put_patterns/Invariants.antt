@@ -2,7 +2,7 @@
 use Rattle.std.proofs.Common.{◌≡◌, ℕ, ◌<◌, List, slice_get, Some}
 use Rattle.spell_types.specs.declared.patterns.PatternStep.{PatternStep}
 use Rattle.affix_strip.specs.Inside.{HasSteps, KeepsFlags}
-use Rattle.affix_strip.proofs.inside.put_patterns.Given as goal
+use Rattle.affix_strip.proofs.inner_flags.put_patterns.Given as goal
 
 abbrev pub invariant-loop-pattern : goal.invariant-loop-pattern
 invariant-loop-pattern l = record {

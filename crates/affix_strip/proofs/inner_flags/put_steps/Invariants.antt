@@ -3,7 +3,7 @@ use Rattle.std.proofs.Common.{◌≡◌, ℕ, ◌<◌, true, slice_get, Some}
 use Rattle.spell_types.specs.declared.patterns.PatternStep.{PatternStep}
 use Rattle.spell_types.specs.Flags.{has}
 use Rattle.affix_strip.specs.Inside.{KeepsFlags}
-use Rattle.affix_strip.proofs.inside.put_steps.Given as goal
+use Rattle.affix_strip.proofs.inner_flags.put_steps.Given as goal
 
 abbrev pub invariant-loop-step : goal.invariant-loop-step
 invariant-loop-step l = record {
