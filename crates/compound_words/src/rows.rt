@@ -33,8 +33,12 @@ pub(crate) fn is_made_up(alloc: Global, search: &Search, word: &[char]) -> Resul
     ensures { IfOk result (λ answer. answer ≡ is_made_up (asked_by search.now) word.now) }
 {
     compounds_have_parts();
+    patterns_match();
     let reached = places_reached(alloc, search, word)?;
     let rows = rows_of(alloc, search, &reached, word)?;
+    if rows.is_empty() {
+        return Ok(false);
+    }
     let mut firsts = Items::new(alloc);
     let lexicon = search.lexicon();
     let start = Start::new(alloc, lexicon, &word[..0])?;
