@@ -40,8 +40,7 @@ fn loaded(alloc: Global, dic: &str) -> Result<Lexicon, Fail>
 
 /// A .dic file of the same word again and again.
 fn homonyms(alloc: Global) -> Result<String, AllocError> {
-    let mut dic = String::new(alloc);
-    write!(dic, "{HOMONYMS}\n")?;
+    let mut dic = String::from_str(alloc, "1000\n")?;
     for _ in 0..HOMONYMS {
         dic.push_str("foo\n")?;
     }
