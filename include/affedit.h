@@ -81,6 +81,9 @@
 #define AFFEDIT_VERSION_MAJOR 1
 #define AFFEDIT_VERSION_MINOR 0
 #define AFFEDIT_VERSION_PATCH 0
+/* The same as one number, which rises with each version. */
+#define AFFEDIT_VERSION_NUMBER \
+    (AFFEDIT_VERSION_MAJOR * 1000000u + AFFEDIT_VERSION_MINOR * 1000u + AFFEDIT_VERSION_PATCH)
 
 #ifdef __cplusplus
 extern "C" {
@@ -167,6 +170,10 @@ typedef struct affedit_mark {
     uint32_t to;
 } affedit_mark;
 
+/* The version of the library that runs, as AFFEDIT_VERSION_NUMBER is that of this header. A shared
+ * library may be a later one than the header. */
+uint32_t affedit_version(void);
+
 /*
  * Opens the dictionary that the bytes of an .aff file and of a .dic file are. The bytes may be
  * freed or changed afterwards.
@@ -221,6 +228,17 @@ uint32_t affedit_word(affedit_dictionary *dictionary, const uint8_t *word, size_
  */
 uint32_t affedit_marks(affedit_dictionary *dictionary, const uint8_t *text, size_t length,
                        affedit_mark *marks, size_t room, size_t *count);
+
+/*
+ * The characters of WORDCHARS, an option of the .aff file: those that stand in words beside letters
+ * and combining marks, as Unicode's numbers, in the order of the file. As many as `characters` has
+ * room for are written to its front, and nothing behind them.
+ *
+ *  - AFFEDIT_DONE: `count` is how many there are in all, be there room for them or not.
+ *  - AFFEDIT_CLOSED: the handle is closed. `characters` and `count` stay as they were.
+ */
+uint32_t affedit_word_characters(affedit_dictionary *dictionary, uint32_t *characters, size_t room,
+                                 size_t *count);
 
 /*
  * Adds the item of a line to the personal words of this handle: a word, `*WORD` to prohibit one, or

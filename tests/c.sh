@@ -29,8 +29,9 @@ else
     skip 'the library for C with sanitizers' "the package $(sanitizers)"
     cp plain calls
 fi
-cc -Wall -Wextra -Werror -I"$top/include" "$top/tests/c/version.c" -o version
-[ "$(./version)" = "$(cat "$top/VERSION") $(cat "$top/VERSION")" ] || { echo "the versions of the header: $(./version), and of VERSION: $(cat "$top/VERSION")"; failed=1; }
+cc -Wall -Wextra -Werror -I"$top/include" "$top/tests/c/version.c" "$library" -o version
+wanted=$(cat "$top/VERSION")
+[ "$(./version)" = "$wanted $wanted $wanted" ] || { echo "the versions of the header and of the library: $(./version), and of VERSION: $wanted"; failed=1; }
 # Names that C++ keeps, and headers that a header needs.
 if has 'the header in C++' c++; then
     c++ -Wall -Wextra -Werror -fsyntax-only -x c++ "$top/include/affedit.h"

@@ -321,6 +321,10 @@ static void want_closed(affedit_dictionary *dictionary) {
     WANT(affedit_marks(dictionary, BYTES("cat"), &mark, 1, &count), AFFEDIT_CLOSED);
     WANT(count, 7);
     WANT(mark.from, 5);
+    uint32_t character = 8;
+    WANT(affedit_word_characters(dictionary, &character, 1, &count), AFFEDIT_CLOSED);
+    WANT(count, 7);
+    WANT(character, 8);
     WANT(affedit_add(dictionary, BYTES("cat")), AFFEDIT_CLOSED);
     WANT(affedit_list(dictionary, BYTES("cat\n"), &fault), AFFEDIT_CLOSED);
     want_no_fault(__LINE__, fault);
@@ -331,12 +335,41 @@ static void want_closed(affedit_dictionary *dictionary) {
 
 static const char AFF[] = "SET UTF-8\nFORBIDDENWORD !\nSFX S Y 1\nSFX S 0 s .\nWORDCHARS -\n", DIC[] = "2\ncat/S\nhousehold\n";
 
+/* The characters of WORDCHARS, into arrays with room for fewer and for more. */
+static void want_characters(affedit_dictionary *dictionary, const uint32_t *wanted, size_t length) {
+    for (size_t room = 0; room <= length + 1; room++) {
+        uint32_t array[5] = {91, 92, 93, 94, 95};
+        size_t count = 96;
+        WANT(affedit_word_characters(dictionary, array, room, &count), AFFEDIT_DONE);
+        WANT(count, length);
+        for (size_t i = 0; i < 5; i++) WANT(array[i], i < room && i < length ? wanted[i] : 91 + i);
+    }
+}
+
+static void ask_characters(void) {
+    static const char three[] = "SET UTF-8\nWORDCHARS .-\u00df\n", none[] = "SET UTF-8\n";
+    affedit_dictionary one = AFFEDIT_CLOSED_HANDLE, two = AFFEDIT_CLOSED_HANDLE;
+    affedit_fault fault = NO_FAULT;
+    WANT(affedit_open(BYTES(three), BYTES("1\ncat\n"), &one, &fault), AFFEDIT_DONE);
+    want_characters(&one, (const uint32_t[]){'.', '-', 0xdf}, 3);
+    /* Neither personal words nor another handle change them. */
+    WANT(affedit_add(&one, BYTES("dog")), AFFEDIT_DONE);
+    WANT(affedit_share(&one, &two), AFFEDIT_DONE);
+    affedit_close(&one);
+    want_characters(&two, (const uint32_t[]){'.', '-', 0xdf}, 3);
+    WANT(affedit_word(&two, BYTES("dog")), AFFEDIT_KNOWN);
+    WANT(affedit_open(BYTES(none), BYTES("1\ncat\n"), &two, &fault), AFFEDIT_DONE);
+    want_characters(&two, NULL, 0);
+    affedit_close(&two);
+}
+
 #define LONG_WORD "abcdefghijabcdefghijabcdefghijabcdefghijabcdefghijabcdefghijabcdefghij"
 
 static int use_handles(void) {
     affedit_dictionary one = AFFEDIT_CLOSED_HANDLE, two = AFFEDIT_CLOSED_HANDLE;
     affedit_fault fault = NO_FAULT;
     want_closed(&one);
+    ask_characters();
     WANT(affedit_open(BYTES(AFF), BYTES(DIC), &one, &fault), AFFEDIT_DONE);
     want_no_fault(__LINE__, fault);
     WANT(affedit_word(&one, BYTES("cats")), AFFEDIT_KNOWN);

@@ -72,11 +72,13 @@ CONSTANT(AFFEDIT_OWN_TOO_MANY, 3);
 /* A function, by its whole type. */
 #define FUNCTION(name, ...) _Static_assert(_Generic(&name, __VA_ARGS__: 1, default: 0), #name)
 
+FUNCTION(affedit_version, uint32_t (*)(void));
 FUNCTION(affedit_open, uint32_t (*)(const uint8_t *, size_t, const uint8_t *, size_t, affedit_dictionary *, affedit_fault *));
 FUNCTION(affedit_close, void (*)(affedit_dictionary *));
 FUNCTION(affedit_share, uint32_t (*)(affedit_dictionary *, affedit_dictionary *));
 FUNCTION(affedit_word, uint32_t (*)(affedit_dictionary *, const uint8_t *, size_t));
 FUNCTION(affedit_marks, uint32_t (*)(affedit_dictionary *, const uint8_t *, size_t, affedit_mark *, size_t, size_t *));
+FUNCTION(affedit_word_characters, uint32_t (*)(affedit_dictionary *, uint32_t *, size_t, size_t *));
 FUNCTION(affedit_add, uint32_t (*)(affedit_dictionary *, const uint8_t *, size_t));
 FUNCTION(affedit_list, uint32_t (*)(affedit_dictionary *, const uint8_t *, size_t, affedit_fault *));
 

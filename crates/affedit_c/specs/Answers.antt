@@ -9,7 +9,7 @@ use Rattle.personal_words.specs.Lists.{added}
 use Rattle.personal_words.specs.declared.faults.OwnLineWhy.TheVariants as line
 use Rattle.personal_words.specs.declared.items.OwnItem.{OwnItem}
 use Rattle.affedit_c.specs.Dictionaries.{HandleSeen, handle_lexicon}
-use Rattle.affedit_c.specs.Marks.{array_with_marks}
+use Rattle.affedit_c.specs.Marks.{array_with, array_with_marks}
 use Rattle.affedit_c.specs.declared.answers.Answer.{Answer}
 use Rattle.affedit_c.specs.declared.answers.Answer.TheVariants.{Done, Known, Unknown, Faulty}
 use Rattle.affedit_c.specs.declared.answers.Answer.TheVariants.{Blank, EmptyWord, TooMany}
@@ -87,6 +87,15 @@ MarkAnswers (Some seen) text old new before then TooLong =
 MarkAnswers (Some seen) text old new before then NoMemory = (new ≡ old) × (then ≡ before)
 MarkAnswers None text old new before then Closed = (new ≡ old) × (then ≡ before)
 MarkAnswers _ _ _ _ _ _ _ = ⊥
+
+-- ---- the characters of WORDCHARS are asked: what the array has before and then, and the count
+
+unfoldable pub CharacterAnswers : Option HandleSeen → List ℕ → List ℕ → ℕ → ℕ → Answer → Type 0
+CharacterAnswers (Some seen) old new before then Done =
+    (new ≡ array_with seen.base.affixes.wordchars old)
+    × (then ≡ length seen.base.affixes.wordchars)
+CharacterAnswers None old new before then Closed = (new ≡ old) × (then ≡ before)
+CharacterAnswers _ _ _ _ _ _ = ⊥
 
 -- ---- a line is added to the personal words
 

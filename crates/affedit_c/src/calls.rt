@@ -4,9 +4,10 @@ ghost use Rattle.std.specs.Prelude.{◌≡◌, ◌<◌, ◌^◌, length, Option,
 ghost use Rattle.mark_types.specs.lists.Answers.{GivesDue};
 ghost use Rattle.affedit_c.specs.Faults.{MayComeOfCalls, dictionary_read, list_read};
 ghost use Rattle.affedit_c.specs.Answers.{OpenAnswers, ShareAnswers, WordAnswers, MarkAnswers};
-ghost use Rattle.affedit_c.specs.Answers.{AddAnswers, ListAnswers};
+ghost use Rattle.affedit_c.specs.Answers.{CharacterAnswers, AddAnswers, ListAnswers};
 
 use crate::answers::Answer;
+use crate::characters::write_characters;
 use crate::faults::{Fault, Refusal};
 use crate::handle::Dictionary;
 use crate::kept::KeptDictionary;
@@ -147,6 +148,28 @@ fn mark_kept(
     };
     write_marks(&found, marks);
     *count = found.len();
+    Answer::Done
+}
+
+/// Gives the characters of WORDCHARS, as many as there is room for, and how many there are in all.
+#[tactic(auto, unfolding(crate::specs::Answers::CharacterAnswers))]
+pub fn list_characters(
+    alloc: Global,
+    dictionary: &mut Dictionary,
+    characters: &mut [u32],
+    count: &mut usize,
+) -> Answer
+    ensures answer { CharacterAnswers dictionary.old.held.value characters.old characters.new
+        count.old count.new result }
+    ensures same { dictionary.new.held.value ≡ dictionary.old.held.value }
+{
+    let Some(kept) = dictionary.take(alloc) else {
+        return Answer::Closed;
+    };
+    let listed = kept.word_characters();
+    write_characters(listed, characters);
+    *count = listed.len();
+    *dictionary = Dictionary::of(kept);
     Answer::Done
 }
 

@@ -120,6 +120,13 @@ impl KeptDictionary {
         Ok(has_item)
     }
 
+    /// The characters of WORDCHARS.
+    pub fn word_characters(&self) -> &[char]
+        ensures { result.now ≡ self.now.base.affixes.wordchars }
+    {
+        &self.base.stems().lexicon().affixes.wordchars
+    }
+
     /// Takes the personal words of a list in place of those that there are.
     pub fn take_list(&mut self, alloc: Global, bytes: &[u8]) -> Result<(), Refusal>
         ensures due { GivesDue MayComeOfCalls (λ _. self.new.own)

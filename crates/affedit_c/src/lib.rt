@@ -5,11 +5,13 @@
 
 ghost use Rattle.std.specs.Prelude.{◌≡◌, None};
 ghost use Rattle.affedit_c.specs.Answers.{SaysAnswer, OpenAnswers, ShareAnswers, WordAnswers};
-ghost use Rattle.affedit_c.specs.Answers.{MarkAnswers, AddAnswers, ListAnswers};
+ghost use Rattle.affedit_c.specs.Answers.{MarkAnswers, CharacterAnswers, AddAnswers, ListAnswers};
 ghost use Rattle.affedit_c.specs.Faults.{dictionary_read, list_read};
+ghost use Rattle.affedit_c.specs.declared.TheConstants.{VERSION};
 
 mod answers;
 mod calls;
+mod characters;
 mod crossing;
 mod faults;
 mod handle;
@@ -23,6 +25,18 @@ use faults::Fault;
 use handle::Dictionary;
 use marking::MarkSpan;
 use std::alloc::Global;
+
+/// The version of this library.
+const VERSION: u32 = 1_000_000;
+
+/// The version of this library as one number: the major version by 1,000,000, the minor one by 1,000,
+/// and the patch.
+#[unsafe(no_mangle)]
+pub extern "C" fn affedit_version() -> u32
+    ensures { result ≡ VERSION }
+{
+    VERSION
+}
 
 /// Opens the dictionary that the bytes of an .aff file and of a .dic file are. Where they have a
 /// fault it is told, and the handle keeps what it had.
@@ -85,6 +99,22 @@ pub extern "C" fn affedit_marks(
     ensures same { dictionary.new.held.value ≡ dictionary.old.held.value }
 {
     calls::mark(alloc, dictionary, text, marks, count).number()
+}
+
+/// Gives the characters of WORDCHARS of the dictionary, as many as there is room for, and how many
+/// there are in all.
+#[unsafe(no_mangle)]
+pub extern "C" fn affedit_word_characters(
+    alloc: Global,
+    dictionary: &mut Dictionary,
+    characters: &mut [u32],
+    count: &mut usize,
+) -> u32
+    ensures answer { SaysAnswer (CharacterAnswers dictionary.old.held.value characters.old
+        characters.new count.old count.new) result }
+    ensures same { dictionary.new.held.value ≡ dictionary.old.held.value }
+{
+    calls::list_characters(alloc, dictionary, characters, count).number()
 }
 
 /// Adds the item of a line to the personal words of a handle.
