@@ -113,9 +113,17 @@ static char *read_file(EnchantProvider *provider, const char *name, gsize *lengt
 
 /* ---- a dictionary */
 
+/* What is kept of one: WORDCHARS as numbers, and what of it is no letter as Enchant's `extra word characters`. */
+typedef struct {
+    affedit_dictionary dictionary;
+    uint32_t *characters;
+    size_t count;
+    char *extra;
+} kept_dictionary;
+
 /* 0 for a word that the dictionary generates, and 1 for another one; below 0 where it can't be said. */
 static int check(EnchantDict *dict, const char *word, size_t length) {
-    switch (affedit_word(dict->user_data, (const uint8_t *)word, length)) {
+    switch (affedit_word(&((kept_dictionary *)dict->user_data)->dictionary, (const uint8_t *)word, length)) {
     case AFFEDIT_KNOWN:
         return 0;
     case AFFEDIT_UNKNOWN:
@@ -136,11 +144,52 @@ static bool is_plain(const char *word, size_t length) {
 
 /* Enchant keeps the words of a session too, and asks them first. So nothing is lost where one can't be added here. */
 static void add_to_session(EnchantDict *dict, const char *word, size_t length) {
-    if (is_plain(word, length)) affedit_add(dict->user_data, (const uint8_t *)word, length);
+    if (is_plain(word, length)) affedit_add(&((kept_dictionary *)dict->user_data)->dictionary, (const uint8_t *)word, length);
+}
+
+/* An apostrophe stands in a word between two other characters of it. */
+static bool is_apostrophe(uint32_t c) { return c == '\'' || c == 0x2019; }
+
+/* Letters and combining marks, as Affedit cuts words. */
+static bool is_letter(uint32_t c) {
+    return c <= 0x10ffff && (g_unichar_isalpha(c) || g_unichar_ismark(c) || g_unichar_type(c) == G_UNICODE_LETTER_NUMBER);
+}
+
+/* Whether a character stands in words: at their front (0), inside (1) or at their end (2). */
+static int is_word_character(EnchantDict *dict, uint32_t c, size_t place) {
+    const kept_dictionary *kept = dict->user_data;
+    if (place > 2 || c == '\n') return 0;
+    if (is_apostrophe(c)) return place == 1;
+    if (is_letter(c)) return 1;
+    for (size_t i = 0; i < kept->count; i++)
+        if (kept->characters[i] == c) return 1;
+    return 0;
+}
+
+static const char *get_extra_word_characters(EnchantDict *dict) { return ((const kept_dictionary *)dict->user_data)->extra; }
+
+/* Asks for WORDCHARS, once. Enchant wants a dash last. */
+static void keep_characters(kept_dictionary *kept) {
+    GString *extra = g_string_new("'\xe2\x80\x99");
+    bool has_dash = false;
+    uint32_t none;
+    affedit_word_characters(&kept->dictionary, &none, 0, &kept->count);
+    kept->characters = g_new0(uint32_t, kept->count + 1);
+    affedit_word_characters(&kept->dictionary, kept->characters, kept->count, &kept->count);
+    for (size_t i = 0; i < kept->count; i++) {
+        uint32_t c = kept->characters[i];
+        if (c == '-')
+            has_dash = true;
+        else if (!is_letter(c) && !is_apostrophe(c))
+            g_string_append_unichar(extra, c);
+    }
+    if (has_dash) g_string_append_c(extra, '-');
+    kept->extra = g_string_free(extra, FALSE);
 }
 
 static EnchantDict *request_dict(EnchantProvider *provider, const char *tag) {
     EnchantDict *dict = NULL;
+    kept_dictionary *kept;
     char *aff, *dic, *aff_bytes = NULL, *dic_bytes = NULL;
     gsize aff_length, dic_length;
     if (!find(tag, &aff, &dic)) return NULL;
@@ -152,9 +201,13 @@ static EnchantDict *request_dict(EnchantProvider *provider, const char *tag) {
         switch (affedit_open((uint8_t *)aff_bytes, aff_length, (uint8_t *)dic_bytes, dic_length, &dictionary, &fault)) {
         case AFFEDIT_DONE:
             dict = g_new0(EnchantDict, 1);
-            dict->user_data = g_memdup2(&dictionary, sizeof dictionary);
+            dict->user_data = kept = g_new0(kept_dictionary, 1);
+            kept->dictionary = dictionary;
+            keep_characters(kept);
             dict->check = check;
             dict->add_to_session = add_to_session;
+            dict->get_extra_word_characters = get_extra_word_characters;
+            dict->is_word_character = is_word_character;
             break;
         case AFFEDIT_FAULTY:
             tell_fault(provider, aff, dic, fault);
@@ -172,8 +225,11 @@ static EnchantDict *request_dict(EnchantProvider *provider, const char *tag) {
 
 static void dispose_dict(EnchantProvider *provider, EnchantDict *dict) {
     (void)provider;
-    affedit_close(dict->user_data);
-    g_free(dict->user_data);
+    kept_dictionary *kept = dict->user_data;
+    affedit_close(&kept->dictionary);
+    g_free(kept->characters);
+    g_free(kept->extra);
+    g_free(kept);
     g_free(dict);
 }
 

@@ -18,6 +18,13 @@ int main(int count, char **tags) {
         printf("%s:", tags[i]);
         ask(dict, "reorders");
         ask(dict, "citys");
+        printf(" extra %s at", enchant_dict_get_extra_word_characters(dict));
+        for (size_t place = 0; place < 4; place++) {
+            const char *sign = place ? "," : " ";
+            printf("%s", sign);
+            for (const uint32_t *c = (const uint32_t[]){'a', '\'', 0x2019, '-', '.', '7', '\n', 0xe9, 0x301, 0x110000, 0}; *c; c++)
+                printf("%d", enchant_dict_is_word_character(dict, *c, place));
+        }
         /* A word with a byte that is not UTF-8, as no host gives it: Enchant itself refuses it, so the provider is asked. */
         printf(" bytes %d", dict->check(dict, "fo\xff", 3));
         ask(dict, "qat");
