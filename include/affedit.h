@@ -193,7 +193,8 @@ void affedit_close(affedit_dictionary *dictionary);
 
 /*
  * Lets another handle have what a handle has, as one for another thread. Both share the dictionary
- * in memory; each has personal words of its own from then on, and each is closed.
+ * in memory; each has personal words of its own from then on, and each is closed. If `dictionary`
+ * has personal words it is prepared with them first, unless a question did that.
  *
  *  - AFFEDIT_DONE: `other` has it. What it had before is freed.
  *  - AFFEDIT_CLOSED: `dictionary` is closed.

@@ -78,6 +78,24 @@ static void measure_memory(void) {
     most("what closed handles have", held - before, 0);
 }
 
+/* A dictionary of many words, of which a handle has a word more: all handles that share it then have that dictionary in memory once. */
+static void share_what_is_prepared(void) {
+    enum { WORDS = 20000, HANDLES = 8 };
+    static char dic[WORDS * 8 + 8];
+    affedit_dictionary all[HANDLES + 1];
+    affedit_fault fault = {0, 0, 0};
+    size_t length = (size_t)sprintf(dic, "%d\n", WORDS), before = held;
+    for (int i = 0; i < WORDS; i++) length += (size_t)sprintf(dic + length, "w%05d\n", i);
+    for (int i = 0; i <= HANDLES; i++) all[i] = (affedit_dictionary)AFFEDIT_CLOSED_HANDLE;
+    NEED(affedit_open(BYTES("SET UTF-8\n"), (const uint8_t *)dic, length, &all[0], &fault), AFFEDIT_DONE);
+    size_t alone = held - before;
+    NEED(affedit_add(&all[0], BYTES("wurk")), AFFEDIT_DONE);
+    for (int i = 1; i <= HANDLES; i++) NEED(affedit_share(&all[0], &all[i]), AFFEDIT_DONE);
+    for (int i = 0; i <= HANDLES; i++) NEED(affedit_word(&all[i], BYTES("wurk")), AFFEDIT_KNOWN);
+    most("eight handles that share a word more", held - before, 3 * alone);
+    for (int i = 0; i <= HANDLES; i++) affedit_close(&all[i]);
+}
+
 /* A blank line adds nothing, and what the handle remembers stays. */
 static void keep_what_is_remembered(void) {
     affedit_dictionary dictionary = AFFEDIT_CLOSED_HANDLE;
@@ -117,6 +135,7 @@ static void go_deep(void) {
 
 static void *run(void *unused) {
     measure_memory();
+    share_what_is_prepared();
     keep_what_is_remembered();
     go_deep();
     return unused;

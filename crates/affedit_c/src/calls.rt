@@ -61,7 +61,7 @@ pub fn share(alloc: Global, dictionary: &mut Dictionary, other: &mut Dictionary)
         other.new.held.value result }
     ensures same { dictionary.new.held.value ≡ dictionary.old.held.value }
 {
-    let Some(kept) = dictionary.take(alloc) else {
+    let Some(mut kept) = dictionary.take(alloc) else {
         return Answer::Closed;
     };
     let answer = match kept.share(alloc) {

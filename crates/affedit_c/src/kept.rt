@@ -63,16 +63,30 @@ impl KeptDictionary {
         Ok(Box::new(alloc, kept)?)
     }
 
-    /// An equal value, over the same dictionary in memory.
-    pub fn share(&self, alloc: Global) -> Result<Box<KeptDictionary>, NoMemory>
-        ensures { IfOk result (λ kept. kept.value ≡ self.now) }
+    /// An equal value, over the same dictionary in memory. If there are personal words the dictionary
+    /// is prepared with them first, so that this is done once for both.
+    pub fn share(&mut self, alloc: Global) -> Result<Box<KeptDictionary>, NoMemory>
+        ensures shared { IfOk result (λ kept. kept.value ≡ self.old) }
+        ensures same { self.new ≡ self.old }
     {
+        self.prepare(alloc)?;
         let kept = KeptDictionary {
             base: Arc::try_clone(&self.base)?,
             own: self.own.copy(alloc)?,
             asker: shared(alloc, &self.asker)?,
         };
         Ok(Box::new(alloc, kept)?)
+    }
+
+    /// Prepares the dictionary with the personal words, if there are any and it is not.
+    fn prepare(&mut self, alloc: Global) -> Result<(), NoMemory>
+        ensures { self.new ≡ self.old }
+    {
+        if !self.own.is_empty() {
+            let asker = self.take_asker(alloc)?;
+            self.asker = Some(asker);
+        }
+        Ok(())
     }
 
     /// Whether the dictionary in force generates a word.
