@@ -56,10 +56,10 @@ text_package() {
     esac
 }
 
-# The running text of a package, without its markup.
+# The running text of a package or of a folder, without its markup: LibreOffice's help, manual pages and the Debian Reference.
 running_text() {
     find "$1" -path '*/help/*/text/*' -name '*.html' -print0 | sort -z | xargs -0 -r cat \
         | sed 's/<script[^>]*>.*<\/script>//g; s/<[^>]*>/ /g; s/&[A-Za-z0-9#]*;/ /g'
-    find "$1" -path '*/man[1-8]/*' -type f -name '*.gz' -print0 | sort -z | xargs -0 -r zcat \
+    find "$1" -type f \( -path '*/man[1-8]/*.gz' -o -path '*/debian-reference/*.txt.gz' \) -print0 | sort -z | xargs -0 -r zcat \
         | sed "/^[.']/d; s/\\\\f[A-Z]//g; s/\\\\f([A-Z]*//g; s/\\\\-/-/g"
 }

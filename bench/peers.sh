@@ -15,31 +15,12 @@ cd "$work"
 export LC_ALL=C.UTF-8
 named=" $* "
 
-# A program `peer AFF DIC WORDS` that prints how many of the words, one a line, a library refuses.
-build_peer() {
-    local name=$1 load=$2
-    cat > "$name.cc" << CODE
-#include <$name/$([ "$name" = hunspell ] && echo hunspell || echo dictionary).hxx>
-#include <fstream>
-#include <iostream>
-int main(int, char **names) {
-    $load
-    std::ifstream words(names[3]);
-    std::string word;
-    long refused = 0;
-    while (std::getline(words, word)) refused += !dictionary.spell(word);
-    std::cout << refused << " refused\n";
-}
-CODE
-    # shellcheck disable=SC2046
-    g++ -std=c++17 -O2 -o "$name" "$name.cc" $(pkg-config --cflags --libs "$name")
-}
-build_peer hunspell 'Hunspell dictionary(names[1], names[2]);'
-build_peer nuspell 'std::ifstream aff(names[1]), dic(names[2]);
-    nuspell::Dictionary dictionary;
-    dictionary.load_aff_dic(aff, dic);'
+# shellcheck source=bench/peers.bash
+. "$top/bench/peers.bash"
+build_hunspell
+build_nuspell
 
-# The same by the library for C: `library AFF DIC WORDS`, a call for each word, and `library text AFF DIC TEXT`, one for each line.
+# Such a program by the library for C: `library AFF DIC WORDS`, a call for each word, and `library text AFF DIC TEXT`, one for each line.
 cat > library.cc << 'CODE'
 #include <affedit.h>
 #include <fstream>
@@ -102,11 +83,6 @@ cells() {
         printf " %.2f s | %.2f μs |", load, (spent - load) * 1e6 / count
         if (long != "") printf " %.2f μs |", (long - load) * 1e6 / count
         printf " %.0f MB | %d |", memory / 1024, refused }'
-}
-
-# The instructions of a call.
-instructions() {
-    { valgrind --tool=callgrind --callgrind-out-file=/dev/null "$@" 2>&1 > /dev/null || true; } | sed -n 's/.*Collected : //p'
 }
 
 # The cells of one peer: millions of instructions of the load, and instructions of a word.
