@@ -72,7 +72,7 @@ wanted=$(sed '$d' marks | cut -d ' ' -f 4)
 wants 'the words' "$wanted" enchant-2 -l -d en_XX text
 wants 'the words of the folder of settings' "$wanted" enchant-2 -l -d en_YY text
 
-answers=" reorders 0 citys 1 extra '’0123456789 at 1000010110,1110010110,1000010110,0000000000"' bytes 1 qat 1 qat 0 Qat 0 read 0 dogs 1 qat 1 suggestions 0'
+answers=" reorders 0 citys 1 extra '’0123456789 at 1000010110,1110010110,1000010110"' bytes 1 qat 1 qat 0 Qat 0 read 0 dogs 1 qat 1 suggestions 0'
 wants 'a host' "en_XX:$answers
 en_ZZ: $work/named/en_ZZ.dic:3: the line is not UTF-8
 en_WW: $work/named/en_WW.aff:1: the file is in another encoding than UTF-8

@@ -19,7 +19,7 @@ int main(int count, char **tags) {
         ask(dict, "reorders");
         ask(dict, "citys");
         printf(" extra %s at", enchant_dict_get_extra_word_characters(dict));
-        for (size_t place = 0; place < 4; place++) {
+        for (size_t place = 0; place < 3; place++) {
             const char *sign = place ? "," : " ";
             printf("%s", sign);
             for (const uint32_t *c = (const uint32_t[]){'a', '\'', 0x2019, '-', '.', '7', '\n', 0xe9, 0x301, 0x110000, 0}; *c; c++)

@@ -94,8 +94,8 @@ links() {
     expect "$1: a program in C with the archive" 0 ./alone "$sample.aff" "$sample.dic" city citys <<< $'city: generated\ncitys: not generated'
     [[ $(readelf -d example) == *'[libaffedit.so.1]'* && $(readelf -d alone) != *libaffedit* ]] || wrong "$1: the wrong library is linked"
     expect "$1: the version of the library" 0 pkg-config --modversion affedit <<< "$version"
-    cc "${flags[@]}" "$top/tests/c/version.c" -o version
-    expect "$1: the version of the header" 0 ./version <<< "$version $version"
+    cc "${flags[@]}" "$top/tests/c/version.c" "${shared[@]}" -o version
+    expect "$1: the versions of the header and of the library" 0 env "LD_LIBRARY_PATH=$2" ./version <<< "$version $version $version"
     cc "${flags[@]}" "$examples/check_file.c" "$archive" -o example
     expect "$1: an example in C" 1 ./example "$sample.aff" "$sample.dic" "$sample.txt" <<< '2:31: citys'
     if has 'an example in C++' g++ c++; then
