@@ -18,7 +18,7 @@ use Rattle.std.proofs.lemmas.List.Sorted.{Contains-permutation, IsPermutation-sy
 use Rattle.spell_types.specs.lists.Laws.{contains-map}
 use Rattle.spell_types.specs.declared.breaks.Anchored.{Anchored}
 use Rattle.spell_types.specs.Breaks.{is_broken, IsBroken, whole, between, behind, before}
-use Rattle.spell_types.specs.lists.TextOrder.{AreInOrder}
+use Rattle.text_order.specs.TextOrder.{AreInOrder}
 use Rattle.break_points.specs.Patterns.{BreakPattern, anchored_of, BreakAlike}
 use Rattle.break_points.proofs.Texts.{made-of}
 use Rattle.break_points.proofs.Trees.{broken_tree, tree_broken}

@@ -14,7 +14,7 @@ use Rattle.spell_types.specs.lists.Laws.{contains-head, contains-tail, contains-
 use Rattle.spell_types.specs.lists.Laws.{contains-map}
 use Rattle.spell_types.specs.lists.Laws.{contains-none, filter-holds, filter-among}
 use Rattle.spell_types.specs.declared.breaks.Anchored.{Anchored}
-use Rattle.spell_types.specs.lists.TextOrder.{AreInOrder, beginning, having}
+use Rattle.text_order.specs.TextOrder.{AreInOrder, beginning, having}
 use Rattle.break_points.specs.declared.occurrences.Occurrence.{Occurrence}
 use Rattle.break_points.specs.Patterns.{BreakPattern, anchored_of}
 use Rattle.break_points.specs.Occurrences.{occurrence_of, IsOccurrence}

@@ -2,7 +2,7 @@
 use Rattle.std.specs.Prelude.{◌≡◌, ℕ, Bool, List}
 use Rattle.spell_types.specs.declared.breaks.Anchored.{Anchored}
 use Rattle.spell_types.specs.Breaks.{is_broken}
-use Rattle.spell_types.specs.lists.TextOrder.{Row}
+use Rattle.text_order.specs.TextOrder.{Row}
 
 -- a text, and whether it is anchored at the front and at the back
 abbrev pub BreakPattern : Type 0

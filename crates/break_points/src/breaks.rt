@@ -22,7 +22,7 @@ pub struct Breaks {
 impl Model for Breaks {
     ghost use Rattle.std.specs.Prelude.{List, map};
     ghost use Rattle.spell_types.specs.declared.breaks.Anchored.{Anchored};
-    ghost use Rattle.spell_types.specs.lists.TextOrder.{AreInOrder};
+    ghost use Rattle.text_order.specs.TextOrder.{AreInOrder};
     ghost use Rattle.break_points.specs.Patterns.{anchored_of};
 
     ghost Value = { List Anchored };

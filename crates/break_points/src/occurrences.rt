@@ -3,7 +3,7 @@
 ghost use Rattle.std.specs.Prelude.{◌≡◌, ◌++◌, ◌≤◌, ◌<◌, ◌+◌, ℕ, true, false, length, map, take};
 ghost use Rattle.std.specs.Prelude.{drop, Contains, OnOk, IfOk};
 ghost use Rattle.std.specs.List.{All};
-ghost use Rattle.spell_types.specs.lists.TextOrder.{AreInOrder};
+ghost use Rattle.text_order.specs.TextOrder.{AreInOrder};
 ghost use Rattle.break_points.specs.declared.occurrences.Occurrence.{Occurrence};
 ghost use Rattle.break_points.specs.Patterns.{anchored_of};
 ghost use Rattle.break_points.specs.Occurrences.{occurrence_of, IsOccurrence, AreOccurrences};
@@ -13,8 +13,8 @@ use crate::breaks::BreakPattern;
 use crate::table::Stretch;
 use crate::ways::Way;
 use spell_types::lists::NoMemory;
-use spell_types::lists::text_order::{ending, going_on};
 use std::alloc::Global;
+use text_order::{ending, going_on};
 
 /// The text of a pattern in a word.
 #[derive(Clone, Copy)]

@@ -18,7 +18,7 @@ use Rattle.std.proofs.lemmas.List.Sorted.{ranks_by, sorted_far}
 use Rattle.std.proofs.lemmas.Option.{get_or_from_slice_get, slice_get_within}
 use Rattle.std.proofs.lemmas.Slice.Eq.{bytes_eq-Decides}
 use Rattle.spell_types.specs.lists.Laws.{contains-filter, contains-none, filter-holds, filter-among}
-use Rattle.spell_types.specs.lists.TextOrder.{AreInOrder, beginning, having}
+use Rattle.text_order.specs.TextOrder.{AreInOrder, beginning, having}
 use Rattle.conversions.specs.Patterns.{ConversionPattern, pattern_cmp, ArePatternsSorted, FitsUpTo}
 use Rattle.conversions.specs.Patterns.{IsBestUpTo}
 use Rattle.conversions.specs.Patterns.{BestUpTo}

@@ -8,7 +8,7 @@ use Rattle.std.specs.Option.{option_map}
 use Rattle.std.specs.Ordering.{nat_cmp, ordering_then}
 use Rattle.std.specs.declared.cmp.Ordering.{Ordering}
 use Rattle.spell_types.specs.declared.conversions.Conversion.{Conversion}
-use Rattle.spell_types.specs.lists.TextOrder.{Row}
+use Rattle.text_order.specs.TextOrder.{Row}
 
 -- a pattern, and the place of its row
 abbrev pub ConversionPattern : Type 0

@@ -6,11 +6,11 @@ ghost use Rattle.std.specs.Option.{option_copied};
 ghost use Rattle.spell_types.specs.Conversions.{best_fit, converted};
 ghost use Rattle.conversions.specs.Patterns.{ArePatternsOf, ArePatternsSorted, BestUpTo, or_word};
 
-use spell_types::lists::text_order::{ending, going_on};
 use spell_types::lists::{Items, NoMemory};
 use spell_types::{Chars, Conversion};
 use std::alloc::Global;
 use std::marker::Model;
+use text_order::{ending, going_on};
 
 /// A pattern, and the place of its row in the table.
 type ConversionPattern = (Vec<char>, usize);

@@ -6,8 +6,8 @@ ghost use Rattle.edit_core.specs.Seen.{IsValidBoard};
 
 use crate::state::State;
 use mark_types::Judge;
-use mark_types::lists::SharedItems;
 use paragraph_text::Paragraphs;
+use shared_items::SharedItems;
 use std::marker::Model;
 use std::sync::Arc;
 

@@ -14,9 +14,10 @@ ghost use Rattle.paragraph_text.specs.declared.limits.TheConstants.{MOST_BYTES, 
 use crate::board::Board;
 use crate::state::State;
 use mark_types::Judge;
-use mark_types::lists::{NoMemory, SharedItems};
+use mark_types::lists::NoMemory;
 use mark_types::text_lines::Text;
 use paragraph_text::{MOST_BYTES, MOST_PARAGRAPHS, Paragraphs, openings_are_valid};
+use shared_items::SharedItems;
 use std::alloc::{AllocError, Global};
 use std::sync::Arc;
 

@@ -24,9 +24,10 @@ use crate::event::Event;
 use crate::refusal::Refusal;
 use crate::state::{Standing, State};
 use mark_types::Judge;
-use mark_types::lists::{Copied, NoMemory, SharedItems};
+use mark_types::lists::{Copied, NoMemory};
 use paragraph_marks::Checked;
 use paragraph_text::{Edit, apply_near, kept_beside};
+use shared_items::SharedItems;
 use std::alloc::Global;
 use std::sync::Arc;
 

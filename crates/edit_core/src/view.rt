@@ -15,9 +15,9 @@ ghost use Rattle.edit_core.specs.declared.state.Standing.TheVariants.{Waiting};
 
 use crate::board::Board;
 use crate::state::State;
-use mark_types::lists::SharedItems;
 use mark_types::text_lines::Text;
 use mark_types::{Judge, Marks, marks_are_local};
+use shared_items::SharedItems;
 use std::sync::Arc;
 
 /// What a board shows of one paragraph.

@@ -1,4 +1,4 @@
-//! The one list type of Affedit's values, its one answer for want of memory, and texts in order.
+//! The one list type of Affedit's values, and its one answer for want of memory.
 #![tactic(auto)]
 
 ghost use Rattle.std.specs.Prelude.{◌≡◌, ◌==◌, ◌^◌, ◌<◌, [], ◌∷◌, ◌++◌, List, length, IfOk, OnOk};
@@ -9,10 +9,6 @@ ghost use Rattle.std.specs.Hash.{items_Alike};
 ghost use Rattle.std.specs.Iterator.Runs.{EveryRun, ItemsMapTo};
 ghost use Rattle.std.specs.Slice.Iter.{iter_rest, iter_steps};
 
-mod shared_items;
-pub mod text_order;
-
-pub use shared_items::{ItemsWalk, SharedItems};
 use std::alloc::{AllocError, AllocFailed, Global};
 use std::default::MadeWith;
 use std::hash::{Hash, Hasher};

@@ -22,10 +22,11 @@ ghost use Rattle.paragraph_text.specs.declared.limits.TheConstants.{MOST_BYTES, 
 
 use crate::limits::{MOST_BYTES, MOST_PARAGRAPHS};
 use crate::list::{Para, Paragraphs};
+use shared_items::SharedItems;
 use std::alloc::{AllocError, Global};
 use std::sync::Arc;
 use text_lines::Text;
-use text_lines::lists::{Copied, NoMemory, SharedItems};
+use text_lines::lists::{Copied, NoMemory};
 
 /// What a writer asks for. A paragraph is named by its id, and where its text is meant by its rev
 /// too. Places are bytes of the text, from 0 on.

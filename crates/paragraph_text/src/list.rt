@@ -6,11 +6,12 @@ ghost use Rattle.std.specs.List.{insert, remove};
 ghost use Rattle.std.specs.Option.{option_copied};
 ghost use Rattle.paragraph_text.specs.Paragraphs.{HaveOwnIds, numbered_from};
 
+use shared_items::{ItemsWalk, SharedItems};
 use std::alloc::Global;
 use std::marker::Model;
 use std::sync::Arc;
 use text_lines::Text;
-use text_lines::lists::{Copied, ItemsWalk, NoMemory, SharedItems};
+use text_lines::lists::{Copied, NoMemory};
 
 /// A paragraph: its id, which no other has or had, the version of the text that last touched it,
 /// and its text, which versions of a list share.

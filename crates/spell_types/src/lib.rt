@@ -85,7 +85,8 @@ pub struct Affixes {
 pub fn alias_sets(aliases: &Option<Items<FlagSet>>) -> Option<&[FlagSet]>
     ensures { option_copied result ≡ aliases.now }
 {
-    aliases.as_ref().map(|sets| sets.as_slice())
+    let sets = aliases.as_ref()?;
+    Some(sets.as_slice())
 }
 
 /// A dictionary: what its two files say.

@@ -2,8 +2,8 @@
 use Rattle.std.proofs.Common.{◌≡◌, ◌∙◌, sym, ap, ◌+◌, ◌-◌, ◌<◌, ◌≤◌, ℕ, List, length, take, drop}
 use Rattle.std.proofs.Common.{take_all, length-drop, eqb-true, Result, Ok, Err, arith}
 use Rattle.std.specs.Result.{OnOk}
-use Rattle.spell_types.specs.lists.TextOrder.{beginning}
-use Rattle.spell_types.specs.lists.TextOrderLaws.{all-begin, begin-further}
+use Rattle.text_order.specs.TextOrder.{beginning}
+use Rattle.text_order.specs.TextOrderLaws.{all-begin, begin-further}
 use Rattle.std.proofs.lemmas.List.{nil_from_length}
 use Rattle.break_points.proofs.Texts.{Adds, adds, adds-kept, adds-sound, adds-whole, adds-all}
 use Rattle.break_points.proofs.Texts.{adds-last}

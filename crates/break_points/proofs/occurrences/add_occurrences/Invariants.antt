@@ -1,7 +1,7 @@
 -- The patterns that begin as the text does so far; and the texts are there that are shorter.
 use Rattle.std.proofs.Common.{◌≡◌, ◌<◌, map, take}
 use Rattle.std.specs.List.{All, Contains}
-use Rattle.spell_types.specs.lists.TextOrder.{beginning}
+use Rattle.text_order.specs.TextOrder.{beginning}
 use Rattle.break_points.specs.declared.occurrences.Occurrence.{Occurrence}
 use Rattle.break_points.specs.Patterns.{anchored_of}
 use Rattle.break_points.specs.Occurrences.{IsOccurrence}

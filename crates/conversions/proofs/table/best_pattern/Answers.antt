@@ -1,8 +1,8 @@
 -- One character more is looked at.
 use Rattle.std.proofs.Common.{◌∙◌, ◌≡◌, ◌+◌, ◌<◌, ◌≤◌, sym, subst, take, length, eqb-true, arith}
 use Rattle.std.specs.Option.{option_copied}
-use Rattle.spell_types.specs.lists.TextOrder.{beginning}
-use Rattle.spell_types.specs.lists.TextOrderLaws.{all-begin, begin-further}
+use Rattle.text_order.specs.TextOrder.{beginning}
+use Rattle.text_order.specs.TextOrderLaws.{all-begin, begin-further}
 use Rattle.std.proofs.lemmas.List.{nil_from_length}
 use Rattle.conversions.specs.Patterns.{BestUpTo}
 use Rattle.conversions.proofs.Patterns.{none_yet, none_begins, first_best}

@@ -1,7 +1,7 @@
 -- The patterns that begin as the text does so far, and the best of those that are no longer.
 use Rattle.std.proofs.Common.{◌≡◌, take}
 use Rattle.std.specs.Option.{option_copied}
-use Rattle.spell_types.specs.lists.TextOrder.{beginning}
+use Rattle.text_order.specs.TextOrder.{beginning}
 use Rattle.conversions.specs.Patterns.{BestUpTo}
 use Rattle.conversions.proofs.table.best_pattern.Given as goal
 

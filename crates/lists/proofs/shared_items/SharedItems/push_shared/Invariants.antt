@@ -1,7 +1,0 @@
--- So far the chunks before the loop's place stand behind the others.
-use Rattle.std.proofs.Common.{◌≡◌, ◌++◌, take}
-use Rattle.lists.specs.Chunks.{items_of}
-use Rattle.lists.proofs.shared_items.SharedItems.push_shared.Given as goal
-
-abbrev pub invariant-loop-counted : goal.invariant-loop-counted
-invariant-loop-counted g l = l.self ≡ l.initial.self ++ items_of (take l.counted-index l.chunks)
