@@ -20,7 +20,19 @@ dic 1|hello
 words edit a.aff a.dic
 workers 2";
 
+const ALONE: &str = "\
+aff SET UTF-8
+dic 1|hello
+words edit a.aff a.dic
+workers 0";
+
 const LINES: &[u8] = b"ins 1 hello\nins 2 wrold\nsettle\nshow\nquit\n";
+
+/// What these lines are replied to.
+const CHECKED: &[u8] = b"ok 1\nok 2\nok 2\ntext 2 dict 0\n2 0 5 wrold\n.\n";
+
+/// How often one lets others go first before which no worker should come.
+const FEW_TURNS: u32 = 10_000;
 
 /// How many bytes a read brings: the first two lines, before which nothing is waited for.
 const PIECE: usize = 24;
@@ -32,14 +44,16 @@ file script 1 ins 1 hello|1 ins 2 wrold|2 show
 words team a.aff a.dic script
 workers 2";
 
-/// Holds the first worker until a second one has come. Session 1 is held until session 2 has come, and
-/// that one until two workers have.
+/// Holds the first worker until a second one has come. Session 2 is held until two workers have, and
+/// session 1 until session 2 has come, and then for a while in which no worker should come.
 #[derive(Drop)]
 struct Turnstile {
     workers: AtomicU32,
     has_second: AtomicBool,
     /// Whether one went on though what it waited for had not come.
     is_late: AtomicBool,
+    /// Whether a worker came where none should.
+    is_early: AtomicBool,
 }
 
 impl Turnstile {
@@ -48,6 +62,7 @@ impl Turnstile {
             workers: AtomicU32::new(0),
             has_second: AtomicBool::new(false),
             is_late: AtomicBool::new(false),
+            is_early: AtomicBool::new(false),
         }
     }
 
@@ -72,6 +87,17 @@ impl Turnstile {
         }
         self.is_late.store(true, Ordering::SeqCst);
     }
+
+    /// Gives workers the time to come, and notes whether one has.
+    fn watch_for_workers(&self) {
+        for _ in 0..FEW_TURNS {
+            if self.workers.load(Ordering::SeqCst) > 0 {
+                self.is_early.store(true, Ordering::SeqCst);
+                return;
+            }
+            thread::yield_now();
+        }
+    }
 }
 
 impl Gate for Turnstile {
@@ -86,15 +112,18 @@ impl Gate for Turnstile {
             self.wait_for_workers();
         } else {
             self.wait_for_second();
+            self.watch_for_workers();
         }
     }
 }
 
-/// A source of which each read but the first waits for two workers.
+/// A source of which each read but the first waits for two workers, or for a while in which none
+/// should come.
 #[derive(Drop)]
 struct LateSource<'a> {
     source: MemSource,
     turnstile: &'a Turnstile,
+    has_workers: bool,
     has_begun: bool,
 }
 
@@ -104,28 +133,32 @@ impl Source for LateSource<'_> {
     ghost faults = { λ late. ⟦<MemSource as Source>⟧.faults late.source };
 
     fn read(&mut self, into: &mut [u8]) -> Result<usize, Failed> {
-        if self.has_begun {
-            self.turnstile.wait_for_workers();
+        match (self.has_begun, self.has_workers) {
+            (false, _) => self.has_begun = true,
+            (true, true) => self.turnstile.wait_for_workers(),
+            (true, false) => self.turnstile.watch_for_workers(),
         }
-        self.has_begun = true;
         self.source.read(into)
     }
 }
 
 /// What is written of a run beside two workers, each of which holds a paragraph before the next lines
-/// are read.
+/// are read, or beside none.
 fn edited<R: Threads + Wait + Sync>(
     rt: &R,
     alloc: Global,
+    has_workers: bool,
     turnstile: &Turnstile,
 ) -> Result<MemSink, AllocError> {
-    let words = words_of(alloc, EDITED)?;
-    let mut files = files_of(alloc, EDITED)?;
+    let case = if has_workers { EDITED } else { ALONE };
+    let words = words_of(alloc, case)?;
+    let mut files = files_of(alloc, case)?;
     let mut bytes = Vec::new(alloc);
     bytes.extend_from_slice(LINES)?;
     let mut input = LateSource {
         source: MemSource::new(bytes, PIECE, Vec::new(alloc)),
         turnstile,
+        has_workers,
         has_begun: false,
     };
     let mut out = MemSink::new(alloc, Vec::new(alloc), 0);
@@ -156,18 +189,28 @@ fn scripted<R: Threads + Wait + Sync>(
 #[test]
 fn workers_check_at_once(rt: HostRuntime) -> Result<(), Fail> {
     let turnstile = Turnstile::new();
-    let out = edited(&rt, rt.alloc(), &turnstile)?;
+    let out = edited(&rt, rt.alloc(), true, &turnstile)?;
     assert!(rt;
         !turnstile.is_late.load(Ordering::SeqCst),
         "no two workers came"
     );
-    let wanted = b"ok 1\nok 2\nok 2\ntext 2 dict 0\n2 0 5 wrold\n.\n".as_slice();
-    assert!(rt; out.written() == wanted, "it wrote {:?}", out.written());
+    assert!(rt; out.written() == CHECKED, "it wrote {:?}", out.written());
     Ok(())
 }
 
-/// A session passes the gate by its number before its first line, and workers check beside sessions:
-/// session 2 looks once two workers hold the paragraphs that session 1 inserted.
+/// Without workers the console's own `settle` checks all paragraphs, and no worker comes meanwhile.
+#[test]
+fn no_worker_checks_beside_a_console_alone(rt: HostRuntime) -> Result<(), Fail> {
+    let turnstile = Turnstile::new();
+    let out = edited(&rt, rt.alloc(), false, &turnstile)?;
+    assert!(rt; !turnstile.is_early.load(Ordering::SeqCst), "a worker came");
+    assert!(rt; out.written() == CHECKED, "it wrote {:?}", out.written());
+    Ok(())
+}
+
+/// A session passes the gate by its number before its first line, so that no worker comes while session
+/// 1, which inserts the paragraphs, is held there. Workers check beside sessions: session 2 looks once
+/// two workers hold these paragraphs.
 #[test]
 fn workers_check_beside_sessions(rt: HostRuntime) -> Result<(), Fail> {
     let turnstile = Turnstile::new();
@@ -175,6 +218,10 @@ fn workers_check_beside_sessions(rt: HostRuntime) -> Result<(), Fail> {
     assert!(rt;
         !turnstile.is_late.load(Ordering::SeqCst),
         "one has not come"
+    );
+    assert!(rt;
+        !turnstile.is_early.load(Ordering::SeqCst),
+        "a worker came before session 1 had begun"
     );
     let wanted = b"session 1\nok 1\nok 2\nsession 2\ntext 2 dict 0\n".as_slice();
     assert!(rt;
