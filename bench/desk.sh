@@ -9,19 +9,29 @@ program=$top/crates/desk_trials/out/desk_trials
 seconds=${1:-3}
 events=${2:-1000000}
 [ -x "$program" ] || { echo "run rt ci first: $program is not built" >&2; exit 2; }
+work=$(mktemp -d)
+trap 'rm -rf "$work"' EXIT
+cp "$top"/crates/desk_trials/data/small.{aff,dic} "$work"
+cd "$work"
+for ((line = 0; line < 20000; line++)); do echo 'one two three four five'; done > text
+
+# trial WRITERS READERS SECONDS EVENTS: no worker checks meanwhile.
+trial() {
+    "$program" small.aff small.dic text 0 "$@"
+}
 
 echo '| threads that publish | events in a second |'
 echo '|---|---|'
 for threads in 1 2 4; do
-    "$program" "$threads" 0 "$seconds" 1000000000 | awk -v n="$threads" '$1 == "published" { printf "| %d | %d |\n", n, $3 }'
+    trial "$threads" 0 "$seconds" 1000000000 | awk -v n="$threads" '$1 == "published" { printf "| %d | %d |\n", n, $3 }'
 done
 
 echo
 echo '| threads that look | looks in a second | the slowest of 1,000, in ns | beside one that publishes | the slowest of 1,000, in ns |'
 echo '|---|---|---|---|---|'
 for threads in 1 2 4; do
-    alone=$("$program" 0 "$threads" "$seconds" 1000000000 | awk '$1 == "looked" { print $3, "|", $4 }')
-    beside=$("$program" 1 "$threads" "$seconds" 1000000000 | awk '$1 == "looked" { print $3, "|", $4 }')
+    alone=$(trial 0 "$threads" "$seconds" 1000000000 | awk '$1 == "looked" { print $3, "|", $4 }')
+    beside=$(trial 1 "$threads" "$seconds" 1000000000 | awk '$1 == "looked" { print $3, "|", $4 }')
     echo "| $threads | $alone | $beside |"
 done
 
@@ -29,6 +39,6 @@ echo
 echo '| events | the most memory, in kB |'
 echo '|---|---|'
 for count in 1000 "$events"; do
-    kb=$({ /usr/bin/time -q -f '%M' "$program" 1 0 0 "$count" > /dev/null; } 2>&1)
+    kb=$({ /usr/bin/time -q -f '%M' "$program" small.aff small.dic text 0 1 0 0 "$count" > /dev/null; } 2>&1)
     echo "| $count | $kb |"
 done

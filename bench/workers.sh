@@ -36,13 +36,13 @@ awk '{ bytes += length($0) + 1; words += NF } END { printf "%d paragraphs, %d by
 hold=0
 # row WORKERS SESSIONS
 row() {
-    /usr/bin/time -q -o took -f '%U %S' "$program" en_US.aff en_US.dic text "$1" "$2" "$seconds" > figures
+    /usr/bin/time -q -o took -f '%U %S' "$program" en_US.aff en_US.dic text "$1" "$2" 0 "$seconds" 1000000000 > figures
     awk -v n="$1" -v sessions="$2" -v hold="$hold" -v took="$(awk '{ print $1 + $2 }' took)" '
         { first[$1] = $2; second[$1] = $3 }
         END {
             waiting = hold ? first["inside"] - first["finished"] * hold : 0
             printf "| %d | %s | %d | %d | %d | %d | %.0f %% | %.0f %% | %.1f s |\n", n, sessions ? "editing" : "none", second["claimed"],
-                second["finished"], first["dropped"], second["edited"], 100 * first["inside"] / second["inside"],
+                second["finished"], first["dropped"], second["published"], 100 * first["inside"] / second["inside"],
                 100 * (waiting > 0 ? waiting : 0) / second["inside"], took
         }' figures
 }

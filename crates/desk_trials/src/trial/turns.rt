@@ -1,12 +1,12 @@
-//! What a worker and a session do again and again, and how long they are at it.
+//! What a worker, a session and a reader do again and again, and how long they are at it.
 
 ghost use Rattle.std.specs.Prelude.{IfSome};
 ghost use Rattle.check_workers.specs.Knowing.{KnowsClaim};
 
-use super::seats::{Run, Tally};
+use super::seats::{Run, Seat, Tally};
 use board_share::edit_core::Refusal;
 use board_share::paragraph_text::Edit;
-use board_share::{Claim, Desk, Naming};
+use board_share::{Claim, Desk, Eye, Naming};
 use check_workers::{CheckEnd, Worker};
 use edit_session::Session;
 use mark_types::Judge;
@@ -16,6 +16,9 @@ use std::alloc::Global;
 use std::sync::Wait;
 use std::sync::atomic::Ordering;
 use std::time::{Clock, Instant};
+
+/// How many looks of a thread are timed, at most.
+const MOST_LOOKS: usize = 1_000_000;
 
 /// A worker over a desk, and a session over it.
 pub(super) type Own<'a, J, D, W> = Worker<'a, J, D, Desk<J, D, W>>;
@@ -102,7 +105,8 @@ fn finish_one<J: Judge + Drop, D: Naming, W: Wait + Drop, R: Wait + Clock>(
     Some(())
 }
 
-/// Replaces the first byte of a paragraph until all workers have ended, or until the time is over.
+/// Replaces the first byte of a paragraph until all workers have ended, or often enough, or until the
+/// time is over.
 pub(super) fn edit_all<J: Judge + Drop, D: Naming, W: Wait + Drop, R: Wait + Clock>(
     rt: &R,
     alloc: Global,
@@ -113,10 +117,7 @@ pub(super) fn edit_all<J: Judge + Drop, D: Naming, W: Wait + Drop, R: Wait + Clo
 ) -> Option<()> {
     let began = Instant::now(rt).ok()?;
     let mut rev = 0;
-    for _ in 0..u64::MAX {
-        if run.working.load(Ordering::SeqCst) == 0 || is_over(rt, began, run, tally)? {
-            break;
-        }
+    for _ in 0..run.work.events {
         let edit = Edit::Replace {
             id,
             rev,
@@ -125,10 +126,55 @@ pub(super) fn edit_all<J: Judge + Drop, D: Naming, W: Wait + Drop, R: Wait + Clo
             text: Text::from_str(alloc, "x").ok()?,
         };
         rev = session.edit(rt, alloc, edit).ok()?.text;
-        tally.edited = tally.edited.wrapping_add(1);
+        tally.published = tally.published.wrapping_add(1);
+        if is_over(rt, began, run, tally)? || has_no_worker_left(run) {
+            break;
+        }
     }
-    is_over(rt, began, run, tally)?;
     Some(())
+}
+
+/// Looks until all workers have ended, or often enough, or until the time is over. One of 16 looks is
+/// timed.
+pub(super) fn look_all<J: Judge + Drop, D: Naming, R: Clock>(
+    rt: &R,
+    run: &Run,
+    seat: &mut Seat<J, D>,
+) -> Option<()> {
+    let began = Instant::now(rt).ok()?;
+    let mut eye = seat.eyes.pop()?;
+    for turn in 0..run.work.events {
+        if turn % 16 == 0 {
+            look_timed(rt, &mut eye, &mut seat.looks)?;
+            if is_over(rt, began, run, &mut seat.tally)? || has_no_worker_left(run) {
+                break;
+            }
+        } else {
+            eye.look().ok()?;
+        }
+        seat.tally.looked = seat.tally.looked.wrapping_add(1);
+    }
+    Some(())
+}
+
+/// Looks, and notes how long that took.
+fn look_timed<J: Judge + Drop, D: Naming, R: Clock>(
+    rt: &R,
+    eye: &mut Eye<J, D>,
+    looks: &mut Vec<u64>,
+) -> Option<()> {
+    let began = Instant::now(rt).ok()?;
+    eye.look().ok()?;
+    let nanos = nanos_since(rt, began)?;
+    if looks.len() < MOST_LOOKS {
+        looks.push(nanos).ok()?;
+    }
+    Some(())
+}
+
+/// Whether there were workers, and all have ended.
+fn has_no_worker_left(run: &Run) -> bool {
+    run.work.workers > 0 && run.working.load(Ordering::SeqCst) == 0
 }
 
 /// Whether the time is over; how long it was so far is kept.

@@ -12,18 +12,22 @@ const MOST_BYTES: u64 = 16_777_216;
 
 /// What is asked for.
 #[derive(Clone, Copy)]
-pub(crate) struct WorkersWork {
+pub(crate) struct Work {
     pub(super) workers: u32,
     /// How many sessions edit meanwhile.
     pub(super) sessions: u32,
+    /// How many eyes look meanwhile.
+    pub(super) readers: u32,
     /// For how long at most, or 0 where only the work ends it.
     pub(super) seconds: u64,
+    /// How often each session edits at most, and each reader looks.
+    pub(super) events: u64,
 }
 
 /// What all threads share beside the desk.
 #[derive(Drop)]
 pub(super) struct Run {
-    pub(super) work: WorkersWork,
+    pub(super) work: Work,
     /// How many paragraphs the text has, and so how many checks are to be finished.
     pub(super) paragraphs: u64,
     pub(super) finished: AtomicU64,
@@ -32,7 +36,7 @@ pub(super) struct Run {
 }
 
 impl Run {
-    pub(super) fn new(work: WorkersWork, paragraphs: u64) -> Run {
+    pub(super) fn new(work: Work, paragraphs: u64) -> Run {
         Run {
             work,
             paragraphs,
@@ -49,7 +53,8 @@ pub(super) struct Tally {
     pub(super) finished: u64,
     /// Checks that were not wanted any more.
     pub(super) dropped: u64,
-    pub(super) edited: u64,
+    pub(super) published: u64,
+    pub(super) looked: u64,
     /// In how many nanoseconds it did all, and how many of them it was inside calls that take the
     /// lock.
     pub(super) nanos: u64,
@@ -58,9 +63,11 @@ pub(super) struct Tally {
 
 /// What a thread has: its eye, while no worker and no session has it, and what it did.
 #[derive(Drop)]
-pub(super) struct WorkerSeat<J: Judge + Drop, D: Naming> {
+pub(super) struct Seat<J: Judge + Drop, D: Naming> {
     pub(super) eyes: Vec<Eye<J, D>>,
     pub(super) tally: Tally,
+    /// How many nanoseconds some of its looks took.
+    pub(super) looks: Vec<u64>,
     pub(super) failed: bool,
 }
 

@@ -1,12 +1,12 @@
-//! Threads that check and threads that edit, over one desk.
+//! Threads that check, threads that edit, and threads that look, over one desk.
 
 ghost use Rattle.std.specs.Prelude.{◌≡◌, ◌<◌, ◌≤◌};
 ghost use Rattle.board_share.specs.edit_core.Seen.{IsOpening};
 ghost use Rattle.board_share.specs.Namings.{IsNamed};
 
-use super::rates::{WorkerRates, rates_of};
-use super::seats::{Run, Tally, WorkerSeat};
-use super::turns::{edit_all, work_all};
+use super::rates::{Rates, rates_of};
+use super::seats::{Run, Seat, Tally};
+use super::turns::{edit_all, look_all, work_all};
 use board_share::edit_core::Board;
 use board_share::{Blank, Desk, Eye, Naming};
 use check_workers::Worker;
@@ -31,7 +31,7 @@ pub(super) fn measured<
     run: &Run,
     eyes: u32,
     blank: Blank<J>,
-) -> Result<WorkerRates, NoMemory>
+) -> Result<Rates, NoMemory>
     requires eyes { (0 < eyes) × (eyes ≤ 64) }
     requires opens { IsOpening opening }
     requires named { IsNamed blank opening D.name D.parts D.book D.opening }
@@ -40,14 +40,14 @@ pub(super) fn measured<
     let (desk, eyes) = Desk::<J, D, &R>::start(rt, alloc, opening, eyes, blank)?;
     let mut seats = seats_of(alloc, eyes)?;
     act_at_once(rt, alloc, &desk, run, &mut seats);
-    Ok(rates_of(&seats, run.work))
+    Ok(rates_of(&mut seats))
 }
 
 /// A seat for each eye.
 fn seats_of<J: Judge + Drop, D: Naming>(
     alloc: Global,
     eyes: Vec<Eye<J, D>>,
-) -> Result<Vec<WorkerSeat<J, D>>, NoMemory> {
+) -> Result<Vec<Seat<J, D>>, NoMemory> {
     let mut seats = Vec::new(alloc);
     for eye in eyes {
         let mut eyes = Vec::new(alloc);
@@ -56,13 +56,15 @@ fn seats_of<J: Judge + Drop, D: Naming>(
             claimed: 0,
             finished: 0,
             dropped: 0,
-            edited: 0,
+            published: 0,
+            looked: 0,
             nanos: 0,
             inside: 0,
         };
-        let seat = WorkerSeat {
+        let seat = Seat {
             eyes,
             tally,
+            looks: Vec::new(alloc),
             failed: false,
         };
         seats.push(seat)?;
@@ -70,27 +72,41 @@ fn seats_of<J: Judge + Drop, D: Naming>(
     Ok(seats)
 }
 
-/// All threads at once, the workers first.
+/// All threads at once: the workers first, then the sessions, and last those that look.
 fn act_at_once<
     J: Judge + Drop + Send + Sync,
     D: Naming + Send + Sync,
     W: Wait + Drop + Send + Sync,
     R: Threads + Wait + Clock + Sync,
->(rt: &R, alloc: Global, desk: &Desk<J, D, W>, run: &Run, seats: &mut [WorkerSeat<J, D>]) {
+>(rt: &R, alloc: Global, desk: &Desk<J, D, W>, run: &Run, seats: &mut [Seat<J, D>]) {
     let threads = seats.len().max(1);
     for_each_mut(
         rt,
         seats,
         threads,
-        &|place: usize, seat: &mut WorkerSeat<J, D>| {
-            if place < run.work.workers as usize {
-                seat.failed = work(rt, alloc, desk, run, place, seat).is_none();
-                run.working.fetch_sub(1, Ordering::SeqCst);
-            } else {
-                seat.failed = edit(rt, alloc, desk, run, place, seat).is_none();
-            }
+        &|place: usize, seat: &mut Seat<J, D>| {
+            seat.failed = act(rt, alloc, desk, run, place, seat).is_none();
         },
     );
+}
+
+/// What one thread does.
+fn act<J: Judge + Drop, D: Naming, W: Wait + Drop, R: Wait + Clock>(
+    rt: &R,
+    alloc: Global,
+    desk: &Desk<J, D, W>,
+    run: &Run,
+    place: usize,
+    seat: &mut Seat<J, D>,
+) -> Option<()> {
+    let number = u32::try_from(place).ok()?;
+    match number.checked_sub(run.work.workers) {
+        None => work(rt, alloc, desk, run, number, seat),
+        Some(behind) if behind < run.work.sessions => {
+            edit(rt, alloc, desk, run, number, behind, seat)
+        }
+        Some(_) => look_all(rt, run, seat),
+    }
 }
 
 /// What the thread of a worker does.
@@ -99,12 +115,13 @@ fn work<J: Judge + Drop, D: Naming, W: Wait + Drop, R: Wait + Clock>(
     alloc: Global,
     desk: &Desk<J, D, W>,
     run: &Run,
-    place: usize,
-    seat: &mut WorkerSeat<J, D>,
+    number: u32,
+    seat: &mut Seat<J, D>,
 ) -> Option<()> {
-    let number = u32::try_from(place).ok()?;
     let mut worker = Worker::new(desk, seat.eyes.pop()?, number);
-    work_all(rt, alloc, &mut worker, run, &mut seat.tally)
+    let done = work_all(rt, alloc, &mut worker, run, &mut seat.tally);
+    run.working.fetch_sub(1, Ordering::SeqCst);
+    done
 }
 
 /// What the thread of a session does. It edits one of the last paragraphs, which no other session
@@ -114,12 +131,14 @@ fn edit<J: Judge + Drop, D: Naming, W: Wait + Drop, R: Wait + Clock>(
     alloc: Global,
     desk: &Desk<J, D, W>,
     run: &Run,
-    place: usize,
-    seat: &mut WorkerSeat<J, D>,
+    number: u32,
+    behind: u32,
+    seat: &mut Seat<J, D>,
 ) -> Option<()> {
-    let behind = u64::try_from(place.checked_sub(run.work.workers as usize)?).ok()?;
-    let id = run.paragraphs.checked_sub(1)?.checked_sub(behind)?;
-    let number = u32::try_from(place).ok()?;
+    let id = run
+        .paragraphs
+        .checked_sub(1)?
+        .checked_sub(u64::from(behind))?;
     let mut session = Session::new(desk, seat.eyes.pop()?, number);
     edit_all(rt, alloc, &mut session, run, id, &mut seat.tally)
 }

@@ -1,6 +1,6 @@
 //! What all threads did together, and how it is printed.
 
-use super::seats::{Tally, WorkerSeat, WorkersWork};
+use super::seats::{Seat, Tally, Work};
 use board_share::Naming;
 use mark_types::Judge;
 use std::io;
@@ -12,12 +12,15 @@ pub(super) struct Rate {
     pub(super) in_a_second: u64,
 }
 
-/// What the workers did together, and the sessions.
+/// What the workers did together, the sessions, and those that looked.
 #[derive(Clone, Copy)]
-pub(super) struct WorkerRates {
+pub(super) struct Rates {
     pub(super) claimed: Rate,
     pub(super) finished: Rate,
-    pub(super) edited: Rate,
+    pub(super) published: Rate,
+    pub(super) looked: Rate,
+    /// How many nanoseconds 999 of 1,000 looks took at most.
+    pub(super) slow_look: u64,
     pub(super) dropped: u64,
     /// How many nanoseconds the workers took, and how many of them they were inside `claim` and
     /// `finish`.
@@ -48,59 +51,72 @@ impl Rate {
     }
 }
 
-/// What all threads did. The workers have the first places.
-pub(super) fn rates_of<J: Judge + Drop, D: Naming>(
-    seats: &[WorkerSeat<J, D>],
-    work: WorkersWork,
-) -> WorkerRates {
-    let mut rates = WorkerRates {
+/// What all threads did.
+pub(super) fn rates_of<J: Judge + Drop, D: Naming>(seats: &mut [Seat<J, D>]) -> Rates {
+    let mut rates = Rates {
         claimed: Rate::NONE,
         finished: Rate::NONE,
-        edited: Rate::NONE,
+        published: Rate::NONE,
+        looked: Rate::NONE,
+        slow_look: 0,
         dropped: 0,
         nanos: 0,
         inside: 0,
         failed: false,
     };
-    for (place, seat) in seats.iter().enumerate() {
-        if place < work.workers as usize {
-            rates.nanos = rates.nanos.wrapping_add(seat.tally.nanos);
-        }
+    for seat in seats {
         rates = with(rates, seat.tally);
+        rates.slow_look = rates.slow_look.max(slow_of(&mut seat.looks));
         rates.failed = rates.failed || seat.failed;
     }
     rates
 }
 
+/// The time that 999 of 1,000 looks took at most.
+fn slow_of(looks: &mut Vec<u64>) -> u64 {
+    looks.sort_unstable();
+    let place = looks.len() - looks.len() / 1000;
+    match looks.get(place.saturating_sub(1)) {
+        None => 0,
+        Some(nanos) => *nanos,
+    }
+}
+
 /// What a thread did, beside what others did.
-fn with(rates: WorkerRates, tally: Tally) -> WorkerRates {
+fn with(rates: Rates, tally: Tally) -> Rates {
     let Tally {
         claimed,
         finished,
         dropped,
-        edited,
+        published,
+        looked,
         nanos,
         inside,
     } = tally;
-    WorkerRates {
+    let worked = if claimed > 0 { nanos } else { 0 };
+    Rates {
         claimed: rates.claimed.and(claimed, nanos),
         finished: rates.finished.and(finished, nanos),
-        edited: rates.edited.and(edited, nanos),
+        published: rates.published.and(published, nanos),
+        looked: rates.looked.and(looked, nanos),
         dropped: rates.dropped.wrapping_add(dropped),
+        nanos: rates.nanos.wrapping_add(worked),
         inside: rates.inside.wrapping_add(inside),
         ..rates
     }
 }
 
 /// Prints what was done; how fast, where a time was asked for.
-pub(super) fn print(rt: &impl Print, work: WorkersWork, rates: &WorkerRates) -> io::Result<()> {
+pub(super) fn print(rt: &impl Print, work: Work, rates: &Rates) -> io::Result<()> {
     if rates.failed {
         println!(rt; "a thread failed")?;
     }
-    let WorkerRates {
+    let Rates {
         claimed,
         finished,
-        edited,
+        published,
+        looked,
+        slow_look,
         dropped,
         nanos,
         inside,
@@ -108,10 +124,15 @@ pub(super) fn print(rt: &impl Print, work: WorkersWork, rates: &WorkerRates) -> 
     } = *rates;
     if work.seconds == 0 {
         println!(rt; "claimed {}\nfinished {}", claimed.count, finished.count)?;
+        println!(rt; "published {}\nlooked {}", published.count, looked.count)?;
     } else {
         println!(rt; "claimed {} {}", claimed.count, claimed.in_a_second)?;
         println!(rt; "finished {} {}", finished.count, finished.in_a_second)?;
-        println!(rt; "edited {} {}", edited.count, edited.in_a_second)?;
+        println!(rt; "published {} {}", published.count, published.in_a_second)?;
+        println!(rt;
+            "looked {} {} {slow_look}",
+            looked.count, looked.in_a_second
+        )?;
         println!(rt; "dropped {dropped}\ninside {inside} {nanos}")?;
     }
     Ok(())
