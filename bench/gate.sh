@@ -5,7 +5,8 @@
 #     bench/gate.sh WORD..               runs `rt ci WORD..`, as for some crates alone; `--anew NAME` proves these anew
 #     bench/gate.sh --read SAMPLES LOG   prints the same of an earlier run, and runs nothing; LOG may be left out
 # It looks at the provers of its own run each second, so up to a second of each process is missing. Other proofs of this machine are not counted, but
-# slow it down. It runs on the processors that it is given: `taskset -c 0,1 bench/gate.sh` on two. The looks stay in out/gate-samples, and what rt said
+# slow it down. It runs on the processors that it is given: `taskset -c 0,1 bench/gate.sh` on two. As many proofs run at once as tools/lanes says, or
+# RT_JOBS. The looks stay in out/gate-samples, and what rt said
 # in out/gate-log. The status is that of rt.
 set -euo pipefail
 top=$(cd "$(dirname "$(readlink -f "${BASH_SOURCE[0]}")")/.." && pwd)
@@ -96,6 +97,8 @@ fi
 [ -n "$(command -v rt)" ] || { echo 'bench/gate.sh: needs the command rt of the Rattle kit' >&2; exit 2; }
 [ $# != 0 ] || set -- --anew
 cd "$top"
+RT_JOBS=${RT_JOBS-$(tools/lanes)}
+export RT_JOBS
 mkdir -p out
 status=0
 run_gate out/gate-samples out/gate-log "$@" || status=$?
