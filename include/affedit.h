@@ -35,6 +35,8 @@
  * its answer. Beside the dictionary and personal words that takes 1.6 MB at most. A call takes less
  * than 64 kB of stack. Both figures are measured (tests/c/limits.c), and not proved.
  *
+ * The library is for Linux on x86-64. It runs on each processor of that kind.
+ *
  * What stays under the name libaffedit.so.1, so that a program that was compiled with an older header
  * of that name runs with a newer library:
  *
@@ -48,9 +50,9 @@
  *    What cannot come so gets another name, libaffedit.so.2: programs are compiled anew for it.
  *
  * AFFEDIT_VERSION is the version of the header that a program was compiled with. The archive is of
- * the version of the header beside it. No function tells the version of a shared library that a
- * program runs with. If that library is older and lacks a function, the dynamic linker ends the
- * program, at its start or at the call. All sizes are those of x86-64 (tests/c/layout.c).
+ * the version of the header beside it. affedit_version tells the version of the library that runs. If
+ * a shared library is older and lacks a function, the dynamic linker ends the program, at its start
+ * or at the call. All sizes are those of x86-64 (tests/c/layout.c).
  *
  * Which words are known follows from the dictionary. Where it says nothing else:
  *
@@ -173,6 +175,16 @@ typedef struct affedit_mark {
 /* The version of the library that runs, as AFFEDIT_VERSION_NUMBER is that of this header. A shared
  * library may be a later one than the header. */
 uint32_t affedit_version(void);
+
+/*
+ * The sentence that says to people, in English, what is wrong with a file: by `file` and `cause` of a
+ * fault. It is UTF-8, begins with a small letter, and has no full stop and no NUL at its end. As many
+ * bytes as `sentence` has room for are written to its front, and nothing behind them.
+ *
+ * Returns how many bytes the sentence has in all, be there room for them or not: at most 200 in this
+ * version. 0 is returned if no fault has these numbers.
+ */
+size_t affedit_cause(const affedit_fault *fault, uint8_t *sentence, size_t room);
 
 /*
  * Opens the dictionary that the bytes of an .aff file and of a .dic file are. The bytes may be

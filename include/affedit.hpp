@@ -33,12 +33,20 @@ private:
 class fault_error : public error {
 public:
     explicit fault_error(affedit_fault fault)
-        : error(AFFEDIT_FAULTY, "file " + std::to_string(fault.file) + ", line " + std::to_string(fault.line) + ": cause " + std::to_string(fault.cause)),
-          fault_(fault) {}
+        : error(AFFEDIT_FAULTY, "file " + std::to_string(fault.file) + ", line " + std::to_string(fault.line) + ": " + sentence(fault)), fault_(fault) {}
     affedit_fault fault() const noexcept { return fault_; }
 
 private:
     affedit_fault fault_;
+
+    /* What affedit_cause says of a fault. */
+    static std::string sentence(const affedit_fault &fault) {
+        std::uint8_t none = 0;
+        std::vector<std::uint8_t> bytes(affedit_cause(&fault, &none, 0));
+        if (bytes.empty()) return "an unknown cause";
+        affedit_cause(&fault, bytes.data(), bytes.size());
+        return std::string(bytes.begin(), bytes.end());
+    }
 };
 
 /* A dictionary with its personal words. It can be moved and not copied; one that was moved from is closed, and its calls throw AFFEDIT_CLOSED. */

@@ -39,13 +39,24 @@ if has 'the header in C++' c++; then
 fi
 cc -std=c99 -Wall -Wextra -Wpedantic -Werror -fsyntax-only -x c "$top/include/affedit.h"
 
+# ---- the processor: any x86-64, so no instruction is newer than SSE2. An older one takes `tzcnt` for `bsf`, which LLVM allows for.
+
+newer='v[a-z0-9]+|p(shufb|test|insr[bdq]|extr[bdq]|blend(vb|w)|abs[bwd]|alignr|sign[bwd]|mulhrsw|maddubsw|h(add|sub)s?[wd]|(min|max)(s[bd]|u[wd])|mul(ld|dq))'
+newer+='|p(mov[sz]x[a-z]+|cmp(eqq|gtq|[ei]str[im])|ackusdw|hminposuw)|blendv?p[sd]|dpp[sd]|round[ps][sd]|insertps|extractps|crc32[bwlq]?|popcnt|lzcnt|lddqu'
+newer+='|mov(ddup|shdup|sldup|ntdqa|be)|h(add|sub)p[sd]|addsubp[sd]|mpsadbw|cmpxchg16b|andn|bextr|bls[imrsk]+|bzhi|mulx|pdep|pext|rorx|s(ar|hl|hr)x'
+if has 'the instructions of the library' objdump; then
+    objdump -d --no-show-raw-insn "$library" | awk -F '\t' 'NF > 1 { split($2, part, " "); print part[1] }' | sort -u > got
+    grep -qx 'ret' got || { echo 'no instructions were found in the library'; failed=1; }
+    ! grep -xE "$newer" got || { echo 'the library has these instructions, which not every x86-64 has'; failed=1; }
+fi
+
 # ---- what stays under the name libaffedit.so.1: the layout of structs, constants and functions
 
 # has_layout FOLDER: whether the header of this folder has the layout that stands in tests/c/layout.c.
 has_layout() { cc -std=c11 -Wall -Wextra -Wpedantic -Werror "-I$1" "$top/tests/c/layout.c" "$library" -o layout && ./layout; }
 has_layout "$top/include" || { echo 'affedit.h has another layout than tests/c/layout.c'; failed=1; }
 # Each constant with its value, and each function, of the header and of the test.
-grep -oE '^    AFFEDIT_[A-Z0-9_]+ = [0-9]+|^(uint32_t|void) affedit_[a-z_]+' "$top/include/affedit.h" | sed 's/^ *//; s/.* affedit_/affedit_/' | sort > wanted
+grep -oE '^    AFFEDIT_[A-Z0-9_]+ = [0-9]+|^(uint32_t|size_t|void) affedit_[a-z_]+' "$top/include/affedit.h" | sed 's/^ *//; s/.* affedit_/affedit_/' | sort > wanted
 sed -nE 's/^CONSTANT\((AFFEDIT_[A-Z0-9_]+), ([0-9]+)\);/\1 = \2/p; s/^FUNCTION\((affedit_[a-z_]+),.*/\1/p' "$top/tests/c/layout.c" | sort > got
 diff wanted got || { echo 'tests/c/layout.c lacks a name of affedit.h, or has one more'; failed=1; }
 mkdir other
@@ -103,6 +114,22 @@ for name in affixes compounds alphabet; do
     runs "$name: memory" ./calls memory $name.aff few.dic $name.own few.words
 done
 
+# The sentence for each cause: by the header's name of the cause, that of tools/launcher/causes.
+cc -std=c11 -g -Wall -Wextra -Wpedantic -Werror -I"$top/include" "$top/tests/c/causes.c" "$library" -o causes
+python3 - "$top" > wanted << 'PYTHON'
+import re, sys
+rows = [line.rstrip('\n').split('\t') for line in open(f'{sys.argv[1]}/tools/launcher/causes') if '\t' in line]
+sentences = {(kind, cause): sentence for kind, cause, sentence in rows}
+header = open(f'{sys.argv[1]}/include/affedit.h').read()
+for file, kind in enumerate(('aff', 'dic', 'own'), 1):
+    print(f'{file} 0 the file has more than 16,777,216 bytes')
+    for name, number in re.findall(rf'AFFEDIT_{kind.upper()}_(?!FILE)([A-Z0-9_]+) = (\d+)', header):
+        cause = ''.join(part.capitalize() for part in name.split('_'))
+        print(f'{file} {number} {sentences.pop((kind, cause))}')
+sys.exit(f'without a number: {sentences}' if sentences else 0)
+PYTHON
+./causes > got || { echo "the sentences: status $?"; failed=1; }
+same 'the sentences for causes' wanted got
 cc -std=c11 -g -Wall -Wextra -Wpedantic -Werror -I"$top/include" "$top/tests/c/meaning.c" "$library" -o meaning
 runs 'what words and texts mean' ./meaning
 cc -std=c11 -D_GNU_SOURCE -O1 -g -Wall -Wextra -Werror -I"$top/include" "$top/tests/c/limits.c" "$library" \

@@ -36,7 +36,7 @@ shared=$("$top/tools/shared-library" one)
 "$top/tools/shared-library" two > /dev/null
 cmp one/libaffedit.so.1 two/libaffedit.so.1 || { echo 'the shared library has other bytes when it is made again'; failed=1; }
 exported() { nm -D --defined-only "$shared" | awk '{ print $2, $3 }' | LC_ALL=C sort; }
-expect 'the names that it exports' 0 exported < <(grep -oE '^(uint32_t|void) affedit_[a-z_]+' "$top/include/affedit.h" | sed 's/.* /T /' | LC_ALL=C sort)
+expect 'the names that it exports' 0 exported < <(grep -oE '^(uint32_t|size_t|void) affedit_[a-z_]+' "$top/include/affedit.h" | sed 's/.* /T /' | LC_ALL=C sort)
 readelf -d "$shared" > dynamic
 grep -q 'SONAME.*\[libaffedit\.so\.1\]' dynamic || { echo 'the shared library has another name'; failed=1; }
 [ "$(grep -o 'NEEDED.*' dynamic | grep -o '\[.*')" = '[libc.so.6]' ] || { echo "it needs: $(grep NEEDED dynamic)"; failed=1; }

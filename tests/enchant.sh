@@ -59,7 +59,7 @@ head -c 16777217 /dev/zero > named/en_UU.aff
 cp named/en_XX.dic named/en_UU.dic
 
 wants 'the provider' 'affedit (Affedit Provider)' bash -c 'enchant-lsmod-2 | grep affedit'
-wants 'the dictionaries' "$(printf '%s (affedit)\n' en_UU en_WW en_XX en_YY en_ZZ)" bash -c 'enchant-lsmod-2 -list-dicts | grep "^en_[U-Z][U-Z] "'
+wants 'the dictionaries' "$(printf '%s (affedit)\n' en_UU en_XX en_YY en_ZZ)" bash -c 'enchant-lsmod-2 -list-dicts | grep "^en_[U-Z][U-Z] "'
 
 # A text of the example and of each word that it knows, right and wrong, of which both cut the same words.
 cat "$top/examples/sample.txt" > text
@@ -72,7 +72,7 @@ wanted=$(sed '$d' marks | cut -d ' ' -f 4)
 wants 'the words' "$wanted" enchant-2 -l -d en_XX text
 wants 'the words of the folder of settings' "$wanted" enchant-2 -l -d en_YY text
 
-answers=" reorders 0 citys 1 extra '’0123456789 at 1000010110,1110010110,1000010110"' bytes 1 qat 1 qat 0 Qat 0 read 0 dogs 1 qat 1 suggestions 0'
+answers=" reorders 0 citys 1 extra '’0123456789 at 1000010110,1110010110,1000010110"' bytes 1 qat 1 qat 0 Qat 1 read 0 dogs 1 qat 1 suggestions 0'
 wants 'a host' "en_XX:$answers
 en_ZZ: $work/named/en_ZZ.dic:3: the line is not UTF-8
 en_WW: $work/named/en_WW.aff:1: the file is in another encoding than UTF-8

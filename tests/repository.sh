@@ -44,7 +44,7 @@ noticed() { awk '/^1\. / { inside = 1 } /^2\. / { exit } inside && /^[a-z]/ { su
 expect 'the crates in NOTICE' 0 noticed < <(parts)
 
 mkdir -p "$here"/{bench,tools,docs,tests} "$here"/crates/{low,lower,app,app_tests}/{src,specs} "$work/kit"
-cp "$top/tools/storeys" "$top/tools/names" "$here/tools"
+cp "$top"/tools/{lanes,names,storeys} "$here/tools"
 cp "$top/bench/gate.sh" "$here/bench"
 
 if has 'tools/storeys, tools/names, tools/documented' python3; then

@@ -5,7 +5,7 @@
 # The package of each command that a test or a bench may lack.
 declare -A package_of=(
     [/usr/bin/time]=time [c++]=g++ [cc]=gcc [dpkg-deb]=dpkg [dpkg-shlibdeps]=dpkg-dev [emacs]=emacs-nox [enchant-2]=enchant-2
-    [enchant-lsmod-2]=enchant-2 [hunspell]=hunspell [mandoc]=mandoc [nvim]=neovim [perl]=perl [pkg-config]=pkg-config [python3]=python3 [script]=bsdutils
+    [enchant-lsmod-2]=enchant-2 [hunspell]=hunspell [mandoc]=mandoc [nvim]=neovim [objdump]=binutils [perl]=perl [pkg-config]=pkg-config [python3]=python3 [script]=bsdutils
     [stty]=coreutils [unshare]=util-linux [valgrind]=valgrind
 )
 

@@ -1,8 +1,7 @@
 /*
  * A provider for Enchant 2 that asks Affedit's library. A dictionary TAG is a pair of files, TAG.aff and TAG.dic, in the first folder that has
  * both: the one that AFFEDIT_DICTIONARIES names, the folder `affedit` beside the user's settings of Enchant, and /usr/share/hunspell. It suggests
- * nothing. Words of the user's are Enchant's own matter, except those of a session, which are added here too: so their capitals are known, and
- * compounds that the dictionary makes of them.
+ * nothing, and lists only dictionaries in an encoding that it reads. Words of the user's, and those of a session, are Enchant's own matter.
  *
  * Nothing here is proved. What affedit.h asks of its callers holds where one thread at a time uses a dictionary, which Enchant asks too.
  */
@@ -60,32 +59,6 @@ static bool find(const char *tag, char **aff, char **dic) {
 
 /* ---- what is wrong with a file */
 
-static const char *const AFF_CAUSES[] = {
-    [AFFEDIT_AFF_NOT_UTF8] = "the line is not UTF-8",
-    [AFFEDIT_AFF_OTHER_ENCODING] = "the file is in another encoding than UTF-8",
-    [AFFEDIT_AFF_LEFT_OUT] = "the dictionary needs an option that is not built",
-    [AFFEDIT_AFF_MISSING_FIELD] = "the line lacks a field that its option needs",
-    [AFFEDIT_AFF_TWICE] = "it is said again, or is past the rows of its table",
-    [AFFEDIT_AFF_BAD_NUMBER] = "no number, too high a number, or no header of its class above",
-    [AFFEDIT_AFF_TOO_MANY] = "more rows or rules are announced than are allowed",
-    [AFFEDIT_AFF_TABLE_SHORT] = "the table announces more rows than it has",
-    [AFFEDIT_AFF_OTHER_FLAG] = "there is no such type of flags",
-    [AFFEDIT_AFF_BAD_CROSS] = "neither Y nor N",
-    [AFFEDIT_AFF_BAD_FLAG] = "no flag, or no list of flags, of the type that FLAG names",
-    [AFFEDIT_AFF_BAD_ALIAS] = "not the number of a row of AF",
-    [AFFEDIT_AFF_BAD_CONDITION] = "a bracket of the condition is not closed",
-    [AFFEDIT_AFF_BAD_PATTERN] = "the compound rule is not a list of flags with * or ?",
-};
-
-static const char *const DIC_CAUSES[] = {
-    [AFFEDIT_DIC_NOT_UTF8] = "the line is not UTF-8",
-    [AFFEDIT_DIC_BAD_COUNT] = "the first line does not begin with the number of entries",
-    [AFFEDIT_DIC_EMPTY_WORD] = "the entry has no word",
-    [AFFEDIT_DIC_BAD_FLAG] = "no list of flags of the type that FLAG names",
-    [AFFEDIT_DIC_BAD_ALIAS] = "not the number of a row of AF",
-    [AFFEDIT_DIC_TOO_MANY] = "there are more than 1,000,000 entries",
-};
-
 /* Takes a message, and frees it. */
 static void tell(EnchantProvider *provider, char *message) {
     enchant_provider_set_error(provider, message);
@@ -93,12 +66,17 @@ static void tell(EnchantProvider *provider, char *message) {
 }
 
 static void tell_fault(EnchantProvider *provider, const char *aff, const char *dic, affedit_fault fault) {
-    bool is_aff = fault.file == AFFEDIT_AFF_FILE;
-    const char *file = is_aff ? aff : dic;
-    if (fault.cause == 0)
-        tell(provider, g_strdup_printf("%s: the file has more than 16,777,216 bytes", file));
+    const char *file = fault.file == AFFEDIT_AFF_FILE ? aff : dic;
+    uint8_t none = 0;
+    size_t length = affedit_cause(&fault, &none, 0);
+    char *why = g_malloc0(length + 1);
+    affedit_cause(&fault, (uint8_t *)why, length);
+    /* A file with too many bytes has a fault at no line. */
+    if (fault.line == 0)
+        tell(provider, g_strdup_printf("%s: %s", file, why));
     else
-        tell(provider, g_strdup_printf("%s:%" G_GUINT64_FORMAT ": %s", file, fault.line, (is_aff ? AFF_CAUSES : DIC_CAUSES)[fault.cause]));
+        tell(provider, g_strdup_printf("%s:%" G_GUINT64_FORMAT ": %s", file, fault.line, why));
+    g_free(why);
 }
 
 /* The bytes of a file, which are the caller's, or NULL, which is told. */
@@ -135,18 +113,6 @@ static int check(EnchantDict *dict, const char *word, size_t length) {
     }
 }
 
-/* Whether a line of a personal list says just this word: it has no sign of such lists, blank or control character. */
-static bool is_plain(const char *word, size_t length) {
-    for (size_t i = 0; i < length; i++)
-        if ((unsigned char)word[i] <= ' ' || word[i] == 127 || strchr("*/\\", word[i])) return false;
-    return true;
-}
-
-/* Enchant keeps the words of a session too, and asks them first. So nothing is lost where one can't be added here. */
-static void add_to_session(EnchantDict *dict, const char *word, size_t length) {
-    if (is_plain(word, length)) affedit_add(&((kept_dictionary *)dict->user_data)->dictionary, (const uint8_t *)word, length);
-}
-
 /* An apostrophe stands in a word between two other characters of it. */
 static bool is_apostrophe(uint32_t c) { return c == '\'' || c == 0x2019; }
 
@@ -172,7 +138,7 @@ static const char *get_extra_word_characters(EnchantDict *dict) { return ((const
 static void keep_characters(kept_dictionary *kept) {
     GString *extra = g_string_new("'\xe2\x80\x99");
     bool has_dash = false;
-    uint32_t none;
+    uint32_t none = 0;
     affedit_word_characters(&kept->dictionary, &none, 0, &kept->count);
     kept->characters = g_new0(uint32_t, kept->count + 1);
     affedit_word_characters(&kept->dictionary, kept->characters, kept->count, &kept->count);
@@ -205,7 +171,6 @@ static EnchantDict *request_dict(EnchantProvider *provider, const char *tag) {
             kept->dictionary = dictionary;
             keep_characters(kept);
             dict->check = check;
-            dict->add_to_session = add_to_session;
             dict->get_extra_word_characters = get_extra_word_characters;
             dict->is_word_character = is_word_character;
             break;
@@ -235,10 +200,24 @@ static void dispose_dict(EnchantProvider *provider, EnchantDict *dict) {
 
 /* ---- the provider */
 
+/* Whether an .aff file is in an encoding that is read. A fault of another kind is told once the dictionary is asked for. */
+static bool has_known_encoding(const char *aff) {
+    affedit_dictionary dictionary = AFFEDIT_CLOSED_HANDLE;
+    affedit_fault fault = {0};
+    char *bytes;
+    gsize length;
+    if (!g_file_get_contents(aff, &bytes, &length, NULL)) return true;
+    uint32_t answer = affedit_open((uint8_t *)bytes, length, (const uint8_t *)"0\n", 2, &dictionary, &fault);
+    affedit_close(&dictionary);
+    g_free(bytes);
+    bool is_other = fault.cause == AFFEDIT_AFF_NOT_UTF8 || fault.cause == AFFEDIT_AFF_OTHER_ENCODING;
+    return answer != AFFEDIT_FAULTY || !is_other;
+}
+
 static int dictionary_exists(EnchantProvider *provider, const char *tag) {
     (void)provider;
     char *aff, *dic;
-    bool is_found = find(tag, &aff, &dic);
+    bool is_found = find(tag, &aff, &dic) && has_known_encoding(aff);
     g_free(aff);
     g_free(dic);
     return is_found;

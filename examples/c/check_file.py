@@ -32,6 +32,8 @@ class Mark(ctypes.Structure):
 def load(name):
     """The library, with the types of the functions that are called here."""
     library = ctypes.CDLL(name)
+    library.affedit_cause.argtypes = [POINTER(Fault), c_char_p, c_size_t]
+    library.affedit_cause.restype = c_size_t
     library.affedit_open.argtypes = [c_char_p, c_size_t, c_char_p, c_size_t, POINTER(Dictionary), POINTER(Fault)]
     library.affedit_open.restype = c_uint32
     library.affedit_marks.argtypes = [POINTER(Dictionary), c_char_p, c_size_t, POINTER(Mark), c_size_t, POINTER(c_size_t)]
@@ -55,7 +57,9 @@ def opened(library, aff, dic):
     dictionary, fault = Dictionary(), Fault()
     answer = library.affedit_open(aff, len(aff), dic, len(dic), byref(dictionary), byref(fault))
     if answer == FAULTY:
-        fail(f'file {fault.file}, line {fault.line}: cause {fault.cause}')
+        why = ctypes.create_string_buffer(200)
+        length = library.affedit_cause(byref(fault), why, len(why))
+        fail(f'file {fault.file}, line {fault.line}: {why.raw[:length].decode()}')
     if answer != DONE:
         fail(f'affedit_open: answer {answer}')
     return dictionary

@@ -47,7 +47,10 @@ static inline affedit_dictionary open_dictionary(const char *aff_name, const cha
     free(aff.bytes);
     free(dic.bytes);
     if (answer == AFFEDIT_FAULTY) {
-        fprintf(stderr, "%s:%llu: cause %u\n", fault.file == AFFEDIT_AFF_FILE ? aff_name : dic_name, (unsigned long long)fault.line, fault.cause);
+        uint8_t why[200] = {0};
+        size_t length = affedit_cause(&fault, why, sizeof why);
+        fprintf(stderr, "%s:%llu: %.*s\n", fault.file == AFFEDIT_AFF_FILE ? aff_name : dic_name, (unsigned long long)fault.line,
+                (int)(length < sizeof why ? length : sizeof why), (const char *)why);
         exit(2);
     }
     if (answer != AFFEDIT_DONE) fail(dic_name, "there is too little memory");

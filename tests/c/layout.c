@@ -73,6 +73,7 @@ CONSTANT(AFFEDIT_OWN_TOO_MANY, 3);
 #define FUNCTION(name, ...) _Static_assert(_Generic(&name, __VA_ARGS__: 1, default: 0), #name)
 
 FUNCTION(affedit_version, uint32_t (*)(void));
+FUNCTION(affedit_cause, size_t (*)(const affedit_fault *, uint8_t *, size_t));
 FUNCTION(affedit_open, uint32_t (*)(const uint8_t *, size_t, const uint8_t *, size_t, affedit_dictionary *, affedit_fault *));
 FUNCTION(affedit_close, void (*)(affedit_dictionary *));
 FUNCTION(affedit_share, uint32_t (*)(affedit_dictionary *, affedit_dictionary *));

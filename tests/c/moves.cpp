@@ -67,7 +67,7 @@ static void call_all() {
         WANT(false);
     } catch (const affedit::fault_error &error) {
         WANT(error.fault().file == AFFEDIT_DIC_FILE && error.fault().line == 3 && error.fault().cause == AFFEDIT_DIC_NOT_UTF8);
-        WANT(std::string(error.what()) == "file 2, line 3: cause 1");
+        WANT(std::string(error.what()) == "file 2, line 3: the line is not UTF-8");
     }
 }
 

@@ -65,12 +65,13 @@ prove() {
 }
 
 # build_library ROOM: proves `affedit_c` over the crates below, which `prove` has left in ROOM, and builds ROOM/libaffedit.a. The library has
-# in it what calls `malloc`, `realloc` and `free`, so that a C program links it alone.
+# in it what calls `malloc`, `realloc` and `free`, so that a C program links it alone. It is for every x86-64: no program is told where a processor lacks
+# what a library needs.
 build_library() {
     local room=$1 kit name uses words
     kit=$(cd "$(dirname "$(readlink -f "$(command -v rt)")")/.." && pwd)
     copy_crate "$room" affedit_c
-    words=(--crate-name affedit_c src/lib.rt --crate-type staticlib --extern "std=$kit/rlibs/std.rlib" -L "dependency=$kit/rlibs")
+    words=(--crate-name affedit_c src/lib.rt --crate-type staticlib --cpu x86-64 --extern "std=$kit/rlibs/std.rlib" -L "dependency=$kit/rlibs")
     read -ra uses < <(sed -n 's/#.*//; s/^affedit_c [^:]*://p' "$top/crates.txt")
     for name in "${uses[@]}"; do
         if [ -d "$room/crates/$name" ]; then

@@ -1,5 +1,5 @@
 -- What calls answer, each as a number.
-use Rattle.std.specs.Prelude.{◌≡◌, ℕ, ◌<◌, ◌≤◌, ◌^◌, true, false, List, [], ◌∷◌, ◌++◌, length}
+use Rattle.std.specs.Prelude.{◌≡◌, ℕ, ◌<◌, ◌≤◌, ◌^◌, true, false, List, [], ◌∷◌, ◌++◌, length, map}
 use Rattle.std.specs.Prelude.{Option, Some, None, Result, Ok, Err, IsUtf8, chars}
 use Rattle.mark_types.specs.declared.Mark.{Mark}
 use Rattle.mark_types.specs.spell_types.Yields.{yields}
@@ -9,7 +9,8 @@ use Rattle.personal_words.specs.Lists.{added}
 use Rattle.personal_words.specs.declared.faults.OwnLineWhy.TheVariants as line
 use Rattle.personal_words.specs.declared.items.OwnItem.{OwnItem}
 use Rattle.affedit_c.specs.Dictionaries.{HandleSeen, handle_lexicon}
-use Rattle.affedit_c.specs.Marks.{array_with, array_with_marks}
+use Rattle.affedit_c.specs.Fronts.{array_with}
+use Rattle.affedit_c.specs.Marks.{span_of_mark}
 use Rattle.affedit_c.specs.declared.answers.Answer.{Answer}
 use Rattle.affedit_c.specs.declared.answers.Answer.TheVariants.{Done, Known, Unknown, Faulty}
 use Rattle.affedit_c.specs.declared.answers.Answer.TheVariants.{Blank, EmptyWord, TooMany}
@@ -72,7 +73,8 @@ WordAnswers _ _ _ = ⊥
 
 -- the array begins with the marks of the text, as many as it has room for, and they are counted
 abbrev pub AreMarks : List Mark → List MarkSpan → List MarkSpan → ℕ → Type 0
-AreMarks marks old new count = (new ≡ array_with_marks marks old) × (count ≡ length marks)
+AreMarks marks old new count =
+    (new ≡ array_with (map span_of_mark marks) old) × (count ≡ length marks)
 
 unfoldable pub MarkAnswers : Option HandleSeen → List ℕ → List MarkSpan → List MarkSpan → ℕ → ℕ
     → Answer

@@ -7,11 +7,11 @@ ghost use Rattle.affedit_c.specs.Answers.{OpenAnswers, ShareAnswers, WordAnswers
 ghost use Rattle.affedit_c.specs.Answers.{CharacterAnswers, AddAnswers, ListAnswers};
 
 use crate::answers::Answer;
-use crate::characters::write_characters;
 use crate::faults::{Fault, Refusal};
+use crate::fronts::write_front;
 use crate::handle::Dictionary;
 use crate::kept::KeptDictionary;
-use crate::marking::{MarkSpan, write_marks};
+use crate::marking::MarkSpan;
 use crate::reading::read_lexicon;
 use personal_words::{OwnLineFault, OwnLineWhy};
 use std::alloc::Global;
@@ -146,7 +146,7 @@ fn mark_kept(
     let Ok(found) = kept.marks(alloc, text) else {
         return Answer::NoMemory;
     };
-    write_marks(&found, marks);
+    write_front(&found, marks);
     *count = found.len();
     Answer::Done
 }
@@ -167,7 +167,7 @@ pub fn list_characters(
         return Answer::Closed;
     };
     let listed = kept.word_characters();
-    write_characters(listed, characters);
+    write_front(listed, characters);
     *count = listed.len();
     *dictionary = Dictionary::of(kept);
     Answer::Done

@@ -3,17 +3,20 @@
 //! Each function is declared in `include/affedit.h`, with what it takes, returns and frees.
 #![tactic(auto)]
 
-ghost use Rattle.std.specs.Prelude.{◌≡◌, None};
+ghost use Rattle.std.specs.Prelude.{◌≡◌, length, None};
 ghost use Rattle.affedit_c.specs.Answers.{SaysAnswer, OpenAnswers, ShareAnswers, WordAnswers};
 ghost use Rattle.affedit_c.specs.Answers.{MarkAnswers, CharacterAnswers, AddAnswers, ListAnswers};
+ghost use Rattle.affedit_c.specs.Causes.{sentence_of};
 ghost use Rattle.affedit_c.specs.Faults.{dictionary_read, list_read};
+ghost use Rattle.affedit_c.specs.Fronts.{array_with};
 ghost use Rattle.affedit_c.specs.declared.TheConstants.{VERSION};
 
 mod answers;
 mod calls;
-mod characters;
+mod causes;
 mod crossing;
 mod faults;
+mod fronts;
 mod handle;
 mod held;
 mod kept;
@@ -21,7 +24,9 @@ mod marking;
 mod reading;
 mod remembering;
 
+use causes::sentence_of;
 use faults::Fault;
+use fronts::write_front;
 use handle::Dictionary;
 use marking::MarkSpan;
 use std::alloc::Global;
@@ -139,4 +144,17 @@ pub extern "C" fn affedit_list(
         dictionary.new.held.value fault.old fault.new) result }
 {
     calls::take_list(alloc, dictionary, list, fault).number()
+}
+
+/// Gives the sentence for a fault, as many bytes of it as there is room for. Returns how many it has
+/// in all, and 0 where no fault has these numbers.
+#[unsafe(no_mangle)]
+pub extern "C" fn affedit_cause(fault: &Fault, sentence: &mut [u8]) -> usize
+    ensures written { sentence.new
+        ≡ array_with (sentence_of fault.now.file fault.now.cause) sentence.old }
+    ensures count { result ≡ length (sentence_of fault.now.file fault.now.cause) }
+{
+    let found = sentence_of(fault.file, fault.cause);
+    write_front(found.as_bytes(), sentence);
+    found.len()
 }

@@ -1,4 +1,4 @@
--- Marks are put at the front of an array one by one.
+-- Items are put at the front of an array one by one.
 use Rattle.std.proofs.Common.{◌≡◌, ◌∙◌, sym, ap, ℕ, zero, suc, ◌<◌, ◌≤◌, List, [], ◌∷◌, ◌++◌}
 use Rattle.std.proofs.Common.{length, take, drop, map, set, get_or, arith}
 use Rattle.std.proofs.lemmas.List.{drop_all, take_all}
