@@ -97,7 +97,7 @@ SPOILERS = {
 LATE = {'a reply is missing', 'a dot is missing', 'the output ends early', 'replies are held back to the end', 'no worker works',
         'it does not end'}
 # Of these, those that are seen at once where what is missing would have been the end of the output.
-AT_ONCE_TOO = {'a reply is missing', 'a dot is missing'}
+AT_ONCE_TOO = {'a reply is missing', 'a dot is missing', 'the output ends early'}
 
 
 def main():
