@@ -6,7 +6,8 @@ loads stand between edits, where checks do, and at which boards commands look, i
 - A reply without an event is explained as early as it can be. That loses nothing: what its session does later may look at more boards then.
 - A paragraph that waits is checked as late as it can be: where a look shows its marks, where a `stop` is refused, or where a `settle` ends.
   Without workers only a `settle` that is under way checks it, if it waited at the board that this one looked at.
-- A `settle` looked as early as it can have: then the fewest paragraphs have to be checked where it ends.
+- A `settle` looked as early as it can have: then the fewest paragraphs have to be checked where it ends. Without workers it is a choice
+  when it looked, and which of the paragraphs that waited then it has checked though they were stopped and asked for since.
 - What is left are choices: which of the paragraphs that stood at its place a command named, and which event or check comes first. They
   are tried one after another, and none is tried again from a board and seats that were come to before.
 
@@ -112,7 +113,7 @@ class Search:
             elif call.kind == 'show' and (needs := walk.needs_of(state, call)):
                 later += [(walk.check, session, needs, way) for way in walk.ways_to_check(state, needs)]
             elif call.kind == 'settle' and is_now:
-                later += [(walk.settle, session, time) for time in walk.times_of_look(state, seat)]
+                later += [(walk.settle, session, *look) for look in walk.looks_of_settle(state, seat)]
             elif call.kind == 'Finished':
                 waiting = [[named] for named in seat.named if states[named] == WAITING]
                 later += [(walk.check, session, needs, way) for needs in waiting for way in walk.ways_to_check(state, needs)]

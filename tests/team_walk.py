@@ -159,11 +159,19 @@ class Walk:
                     ways.add(tuple((session, *bounds[session]) for session in sorted({*sessions})))
         return sorted(ways)
 
-    def times_of_look(self, state, seat):
-        """When a `settle` that ends here may have looked. With workers the first time does for all others."""
+    def looks_of_settle(self, state, seat):
+        """When a `settle` that ends here may have looked, and what it may have checked of the paragraphs that waited then, and were stopped
+        and asked for since: each choice. With workers the first time does for all others, and they may have checked what they like."""
+        if self.has_workers:
+            return [(seat.since, ())]
         latest = inf if seat.latest is None else seat.latest
-        times = {paragraph.opened for paragraph in state.paragraphs if paragraph.state == WAITING}
-        return [seat.since] + ([] if self.has_workers else [time for time in sorted(times) if seat.since < time <= latest])
+        waiting = [paragraph for paragraph in state.paragraphs if paragraph.state == WAITING]
+        times = {time for each in waiting for time in (each.opened, *(first for first, _ in each.before)) if seat.since < time <= latest}
+        choices = []
+        for time in sorted({seat.since, *times}):
+            again = [each.id for each in waiting if each.opened > time and any(first <= time <= last for first, last in each.before)]
+            choices += [(time, chosen) for count in range(len(again) + 1) for chosen in itertools.combinations(again, count)]
+        return choices
 
     # ---- what may come next; each makes the next state of one that it may change
 
@@ -180,9 +188,9 @@ class Walk:
             self.become(state, id, {'state': CHECKED})
         return self.gone_on(state, session)
 
-    def settle(self, state, session, time):
-        """A `settle` ends that looked at this time."""
-        for id in self.open_since(state, time):
+    def settle(self, state, session, time, again):
+        """A `settle` ends that looked at this time, and has checked these paragraphs beside those that have waited since."""
+        for id in (*self.open_since(state, time), *again):
             self.become(state, id, {'state': CHECKED})
         return self.gone_on(state, session)
 
