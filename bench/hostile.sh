@@ -28,7 +28,7 @@ import time
 work, program, is_small, only = sys.argv[1], sys.argv[2], 'small' in sys.argv[3:], [word for word in sys.argv[3:] if word != 'small']
 # Seconds of the processor that one load or one word may take, and `check` all words; so many times that may pass beside other work.
 LIMIT, BESIDE, SLOW = 60, 10, 0.010
-# How a key of a word is made of its characters: crates/affix_strip/src/hashed.rt.
+# How a key of a word is made of its characters: crates/entry_table/src/hashed.rt.
 FACTOR, BITS = 0x9E37_79B9_7F4A_7C15, 64
 
 

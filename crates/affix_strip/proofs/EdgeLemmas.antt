@@ -5,9 +5,9 @@ use Rattle.std.proofs.Common.{length, take}
 use Rattle.std.proofs.Common.{drop, slice_get, Some, arith}
 use Rattle.std.proofs.lemmas.Bool.{cases_lt}
 use Rattle.std.proofs.lemmas.Option.{same_Some, slice_get_within}
-use Rattle.affix_strip.specs.Hashes.{folded, hash_of}
-use Rattle.affix_strip.specs.declared.hashed.TheConstants.{START}
-use Rattle.affix_strip.proofs.EntryLemmas.{folded-append}
+use Rattle.entry_table.specs.Hashes.{folded, hash_of}
+use Rattle.entry_table.specs.declared.hashed.TheConstants.{START}
+use Rattle.entry_table.specs.HashLaws.{folded-append}
 
 -- ---- a list that is gone over
 -- it holds of one item more, and of those before still

@@ -21,7 +21,7 @@ use Rattle.spell_types.specs.lists.Laws.{any-at}
 use Rattle.affix_strip.specs.Parts.{put_on, stem_of, with_first, with_suffixes, with_all, Any}
 use Rattle.affix_strip.specs.Parts.{Outside, Passes, AtSome, From, FromAll, RuleFrom, Peels}
 use Rattle.affix_strip.specs.Peeling.{Peeled, ArePeeled, may_undo_at}
-use Rattle.affix_strip.specs.EntryTable.{AreEntriesOf}
+use Rattle.entry_table.specs.EntryTable.{AreEntriesOf}
 use Rattle.affix_strip.specs.Tables.{IsReady, may_be_outer, may_undo_outer}
 use Rattle.affix_strip.specs.declared.walk.IndexedLexicon.{IndexedLexicon}
 use Rattle.affix_strip.proofs.ShowLemmas.{some-same}
@@ -695,3 +695,7 @@ gives-bare lexicon text d (prefix, (first, second)) gives = record {
       ∙ sym (ap (λ n. put_on lexicon Prefix n (with_suffixes lexicon d)) prefix)
       ∙ sym (form-parts lexicon d gives.0) ∙ gives.1;
 }
+
+pub are-same : {entries : List Entry} {word places now : List ℕ} → now ≡ places
+    → AreEntriesOf entries word places → AreEntriesOf entries word now
+are-same {entries} {word} same are = subst (AreEntriesOf entries word) (sym same) are

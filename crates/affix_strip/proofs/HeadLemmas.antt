@@ -27,7 +27,7 @@ use Rattle.affix_strip.specs.declared.heads.Heads.{Heads}
 use Rattle.affix_strip.specs.declared.edges.Edge.{Edge}
 use Rattle.affix_strip.specs.declared.edges.Those.TheVariants.{All}
 use Rattle.affix_strip.specs.Edges.{IsEdge, IsSilent, NoneBegin}
-use Rattle.affix_strip.specs.Hashes.{hash_of}
+use Rattle.entry_table.specs.Hashes.{hash_of}
 use Rattle.affix_strip.specs.Heads.{cut_of, shortest_head, AreHeadsOf, IsHeaded, IsUnheaded}
 use Rattle.affix_strip.specs.Heads.{Unheaded}
 use Rattle.affix_strip.specs.Heads.{MayHeads, NoneHeads}

@@ -57,7 +57,6 @@ use Rattle.affix_strip.specs.Inside.{end_exchanged}
 use Rattle.affix_strip.specs.Inside.{ReachesEnds}
 use Rattle.affix_strip.proofs.InverseLemmas.{rule_on-side}
 use Rattle.affix_strip.proofs.TableLemmas.{on-rule}
-use Rattle.affix_strip.specs.Reaching.{ReachesAll}
 use Rattle.affix_strip.specs.Reaching.{piece_between}
 use Rattle.affix_strip.specs.Reaching.{is_reached}
 

@@ -5,12 +5,12 @@ use Rattle.std.proofs.Common.{take, length-append, arith}
 use Rattle.std.proofs.lemmas.Bool.{cases_lt}
 use Rattle.std.proofs.lemmas.List.{take_all, take-append-le}
 use Rattle.key_filter.specs.Filter.{may_have}
-use Rattle.affix_strip.specs.declared.hashed.TheConstants.{START}
+use Rattle.entry_table.specs.declared.hashed.TheConstants.{START}
 use Rattle.affix_strip.specs.declared.known_words.KnownWords.{KnownWords}
 use Rattle.affix_strip.specs.declared.known_words.TheConstants.{MOST_OF_HEAD}
-use Rattle.affix_strip.specs.Hashes.{folded, hash_of}
+use Rattle.entry_table.specs.Hashes.{folded, hash_of}
 use Rattle.affix_strip.specs.Inside.{IsKnown, KeepsKnown}
-use Rattle.affix_strip.proofs.EntryLemmas.{folded-append, folded-none}
+use Rattle.entry_table.specs.HashLaws.{folded-append, folded-none}
 
 pub keeps-known : (known : KnownWords) → KeepsKnown known known
 keeps-known known = record { words = λ key is. is; heads = λ key is. is }

@@ -2,7 +2,6 @@ pub mod ShowLemmas
 pub mod BarringLemmas
 pub mod DerivedLemmas
 pub mod EdgeLemmas
-pub mod EntryLemmas
 pub mod FoundLemmas
 pub mod HeadLemmas
 pub mod InnerFlagLemmas
@@ -15,7 +14,6 @@ pub mod ReachingLemmas
 pub mod MemberLemmas
 pub mod OrderLemmas
 pub mod PeelLemmas
-pub mod PlaceLemmas
 pub mod QuestionLemmas
 pub mod SameLemmas
 pub mod StepLemmas

@@ -11,7 +11,7 @@ use Rattle.affix_strip.specs.declared.edges.Edge.{Edge}
 use Rattle.affix_strip.specs.declared.known_words.KnownWords.{KnownWords}
 use Rattle.affix_strip.specs.declared.known_words.TheConstants.{MOST_OF_HEAD}
 use Rattle.affix_strip.specs.Edges.{adds, IsNotedChange, ReachesAdded, ReachesEndings}
-use Rattle.affix_strip.specs.Hashes.{hash_of}
+use Rattle.entry_table.specs.Hashes.{hash_of}
 use Rattle.affix_strip.specs.Inside.{IsKnown, end_exchanged, front_exchanged, ReachesWords, ReachesWordsIf}
 use Rattle.affix_strip.specs.Inside.{ReachesParts, ReachesBehind}
 use Rattle.affix_strip.specs.Reaching.{is_reached, KeepsReached, ReachesAll}

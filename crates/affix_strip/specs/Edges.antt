@@ -10,7 +10,7 @@ use Rattle.spell_types.specs.Flags.{has}
 use Rattle.affix_strip.specs.declared.edges.Edge.{Edge}
 use Rattle.affix_strip.specs.declared.edges.Those.{Those}
 use Rattle.affix_strip.specs.declared.edges.Those.TheVariants.{All, Carrying}
-use Rattle.affix_strip.specs.Hashes.{hash_of}
+use Rattle.entry_table.specs.Hashes.{hash_of}
 use Rattle.affix_strip.specs.Reaching.{KeepsReached, is_reached}
 
 -- whether a rule is one of those, whatever its side

@@ -13,7 +13,7 @@ use Rattle.affix_strip.specs.declared.heads.Heads.{Heads}
 use Rattle.affix_strip.specs.declared.edges.Those.TheVariants.{All}
 use Rattle.affix_strip.specs.Classes.{HasClasses}
 use Rattle.affix_strip.specs.Edges.{IsEdge, NoneBegin}
-use Rattle.affix_strip.specs.Hashes.{hash_of}
+use Rattle.entry_table.specs.Hashes.{hash_of}
 
 -- How many characters of a word a suffix takes off, and another one behind it, which strips off so
 -- many at most. What the second strips off of what the first added is nothing of the word.

@@ -25,7 +25,7 @@ use Rattle.affix_strip.specs.declared.inside.Inside.{Inside}
 use Rattle.affix_strip.specs.declared.known_words.KnownWords.{KnownWords}
 use Rattle.affix_strip.specs.declared.known_words.TheConstants.{MOST_OF_HEAD}
 use Rattle.affix_strip.specs.Edges.{IsNotedChange, IsEdge}
-use Rattle.affix_strip.specs.Hashes.{hash_of}
+use Rattle.entry_table.specs.Hashes.{hash_of}
 use Rattle.affix_strip.specs.Reaching.{KeepsReached, is_reached, piece_between}
 
 -- whether one of the steps is for parts with these flags

@@ -1,8 +1,6 @@
 pub mod Classes
 pub mod Edges
-pub mod EntryTable
 pub mod Found
-pub mod Hashes
 pub mod Heads
 pub mod Inside
 pub mod Lengths

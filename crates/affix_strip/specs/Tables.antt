@@ -11,12 +11,12 @@ use Rattle.spell_types.specs.declared.rules.Side.TheVariants.{Suffix}
 use Rattle.spell_types.specs.Derivations.{is_same_side}
 use Rattle.spell_types.specs.Flags.{has, has_flag_of}
 use Rattle.affix_tables.specs.Tables.{IsTableOf}
-use Rattle.affix_strip.specs.EntryTable.{HasEntries}
+use Rattle.entry_table.specs.EntryTable.{HasEntries}
 use Rattle.affix_strip.specs.Heads.{IsHeaded}
 use Rattle.affix_strip.specs.Inside.{IsInsideOfLexicon}
 use Rattle.affix_strip.specs.Lengths.{IsLongest}
 use Rattle.affix_strip.specs.Peeling.{may_undo_at}
-use Rattle.affix_strip.specs.declared.entry_table.EntryTable.{EntryTable}
+use Rattle.entry_table.specs.declared.table.EntryTable.{EntryTable}
 use Rattle.affix_strip.specs.declared.barring.Barring.{Barring}
 use Rattle.affix_strip.specs.declared.barring.Barring.TheVariants.{Nowhere, AtEntries, AtForms}
 use Rattle.affix_strip.specs.declared.walk.IndexedLexicon.{IndexedLexicon}

@@ -2,13 +2,12 @@
 //! the system may put the first one on its processor, also where another one is idle.
 
 ghost use Rattle.std.specs.Prelude.{◌≡◌, ◌^◌, ◌<◌, length, IfOk};
-ghost use Rattle.affix_strip.specs.EntryTable.{HasEntries, HasHalf};
+ghost use Rattle.entry_table.specs.EntryTable.{HasEntries, HasHalf};
 ghost use Rattle.affix_strip.specs.Tables.{AreTablesOf};
-ghost use Rattle.affix_strip.specs.declared.entry_table.EntryTable.{EntryTable};
+ghost use Rattle.entry_table.specs.declared.table.EntryTable.{EntryTable};
 
-use crate::entry_table::EntryTable;
-use crate::half::Half;
 use crate::walk::Tables;
+use entry_table::Half;
 use spell_types::Lexicon;
 use spell_types::lists::NoMemory;
 use std::alloc::Global;
@@ -19,11 +18,16 @@ pub(crate) fn tables_at_once<R: Threads + Sync>(
     rt: &R,
     alloc: Global,
     lexicon: &Lexicon,
-) -> (Result<EntryTable, NoMemory>, Result<Tables, NoMemory>)
+) -> (
+    Result<Half, NoMemory>,
+    Result<Half, NoMemory>,
+    Result<Tables, NoMemory>,
+)
     requires rules { length lexicon.now.affixes.rules < 2 ^ 32 }
     requires entries { length lexicon.now.entries < 2 ^ 32 }
-    ensures entries { IfOk result.0 (HasEntries lexicon.now.entries) }
-    ensures tables { IfOk result.1 (λ made. (by_word : EntryTable)
+    ensures even { IfOk result.0 (HasHalf 0 lexicon.now.entries) }
+    ensures odd { IfOk result.1 (HasHalf 1 lexicon.now.entries) }
+    ensures tables { IfOk result.2 (λ made. (by_word : EntryTable)
         → HasEntries lexicon.now.entries by_word → AreTablesOf lexicon.now made by_word) }
 {
     let (even, (odd, tables)) = join(
@@ -41,7 +45,7 @@ pub(crate) fn tables_at_once<R: Threads + Sync>(
                 → AreTablesOf lexicon.entry.now made by_word) }
         { odd_and_tables(rt, alloc, lexicon) },
     );
-    (EntryTable::of(even, odd), tables)
+    (even, odd, tables)
 }
 
 /// The half of the entries for odd hashes, and the other tables.

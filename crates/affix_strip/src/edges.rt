@@ -5,8 +5,8 @@ ghost use Rattle.spell_types.specs.Derivations.{is_same_side};
 ghost use Rattle.affix_strip.specs.Edges.{adds, is_wanted, IsNoted, KeepsNoted, IsEdge};
 ghost use Rattle.affix_strip.specs.Edges.{ReachesAdded, ReachesEndings, NoneBegin};
 
-use crate::hashed::{START, fold};
 use crate::reaching::reach;
+use entry_table::{START, fold};
 use key_filter::KeyFilter;
 use spell_types::lists::NoMemory;
 use spell_types::{Flag, Rule, Side, has};

@@ -10,8 +10,8 @@ ghost use Rattle.affix_strip.specs.Tables.{IsBarring};
 
 use crate::barring::Barring;
 use crate::edges::{Edge, Those};
-use crate::hashed::{START, fold};
 use crate::rule_flags::{carry_few, flags_of_classes};
+use entry_table::{START, fold};
 use key_filter::KeyFilter;
 use spell_types::lists::NoMemory;
 use spell_types::{

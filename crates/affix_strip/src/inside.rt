@@ -6,10 +6,10 @@ ghost use Rattle.spell_types.specs.declared.Lexicon.{Lexicon};
 ghost use Rattle.affix_strip.specs.Inside.{IsInsideOfLexicon, ReachesBehind, ReachesEnds, ReachesParts};
 
 use crate::edges::{Edge, Those};
-use crate::hashed::{START, fold};
 use crate::inner_flags::inner_flags;
 use crate::known_words::KnownWords;
 use crate::reaching::reach_all;
+use entry_table::{START, fold};
 use spell_types::lists::NoMemory;
 use spell_types::{Lexicon, Place, Side, sets_have_their_flags};
 use std::alloc::Global;

@@ -3,11 +3,11 @@
 ghost use Rattle.std.specs.Prelude.{◌≡◌, ◌+◌, ◌<◌, ◌≤◌, min, true, length, IfOk};
 ghost use Rattle.std.specs.Str.{chars};
 ghost use Rattle.key_filter.specs.Filter.{may_have};
-ghost use Rattle.affix_strip.specs.Hashes.{hash_of};
+ghost use Rattle.entry_table.specs.Hashes.{hash_of};
 ghost use Rattle.affix_strip.specs.Inside.{AreWordsKnown, IsKnown, KeepsKnown, ReachesWords, ReachesWordsIf};
 
 use crate::edges::Edge;
-use crate::hashed::{START, fold};
+use entry_table::{START, fold};
 use key_filter::KeyFilter;
 use spell_types::lists::NoMemory;
 use spell_types::{Entries, FlagSet};

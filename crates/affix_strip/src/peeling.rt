@@ -4,11 +4,11 @@ ghost use Rattle.std.specs.Prelude.{◌≡◌, ◌++◌, ◌≤◌, ℕ, List, t
 ghost use Rattle.spell_types.specs.declared.rules.Rule.{Rule};
 ghost use Rattle.affix_tables.specs.Groups.{AreGroups};
 ghost use Rattle.affix_tables.specs.Tables.{IsTableOf};
-ghost use Rattle.affix_strip.specs.Hashes.{IsHashed};
+ghost use Rattle.entry_table.specs.Hashes.{IsHashed};
 ghost use Rattle.affix_strip.specs.Peeling.{IsCutAtSide, IsOn, has_at, join, peeled_by, ArePeeled};
 
-use crate::hashed::Hashed;
 use affix_tables::{AffixTables, Groups, group_places, group_strip};
+use entry_table::Hashed;
 use spell_types::Side;
 use spell_types::lists::NoMemory;
 use std::alloc::Global;
@@ -30,7 +30,7 @@ pub(crate) struct Peeled<'a> {
 
 impl<'a> Model for Peeled<'a> {
     ghost use Rattle.std.specs.Prelude.{ℕ, List, ◌++◌};
-    ghost use Rattle.affix_strip.specs.Hashes.{IsHashed};
+    ghost use Rattle.entry_table.specs.Hashes.{IsHashed};
 
     ghost Value = { List ℕ × List ℕ };
 

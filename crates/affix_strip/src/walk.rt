@@ -8,9 +8,9 @@ ghost use Rattle.std.specs.List.{list_any};
 ghost use Rattle.spell_types.specs.declared.derivations.Derivation.{Derivation};
 ghost use Rattle.spell_types.specs.Derivations.{form_of};
 ghost use Rattle.spell_types.specs.Licences.{is_licensed, is_forbidden};
-ghost use Rattle.affix_strip.specs.EntryTable.{AreEntriesOf, HasEntries};
+ghost use Rattle.entry_table.specs.EntryTable.{AreEntriesOf, HasEntries};
 ghost use Rattle.affix_strip.specs.Found.{derivations_of};
-ghost use Rattle.affix_strip.specs.Hashes.{IsHashed};
+ghost use Rattle.entry_table.specs.Hashes.{IsHashed};
 ghost use Rattle.affix_strip.specs.Inside.{ReachesEnds};
 ghost use Rattle.affix_strip.specs.Parts.{stem_of, with_first, with_suffixes, Any, Outside, Passes};
 ghost use Rattle.affix_strip.specs.Parts.{AtSome, Shows, From, FromAll, RuleFrom, Peels};
@@ -19,9 +19,6 @@ ghost use Rattle.affix_strip.specs.Tables.{AreTablesOf, IsReady, may_be_outer, m
 
 use crate::at_once::tables_at_once;
 use crate::barring::{Barring, barring_of};
-use crate::entry_table::EntryTable;
-use crate::half::Places;
-use crate::hashed::Hashed;
 use crate::heads::Heads;
 use crate::inside::Inside;
 use crate::lengths::longest_of;
@@ -30,6 +27,7 @@ use crate::rule_flags::second_suffixes;
 use crate::visiting::{Forbidden, Question, Test, Visitor};
 use affix_classes::{matches_back, matches_front, undoing_leads_back};
 use affix_tables::AffixTables;
+use entry_table::{EntryTable, Hashed, Places};
 use spell_types::lists::NoMemory;
 use spell_types::{Derivation, Lexicon, Place, Rule, Side, licensed, sets_have_their_flags};
 use std::alloc::Global;
@@ -113,10 +111,11 @@ impl IndexedLexicon {
         ensures lexicon { IfOk result (λ made. made.lexicon ≡ lexicon) }
         ensures ready { IfOk result (λ made. IsReady made) }
     {
-        let (by_word, tables) = tables_at_once(rt, alloc, &lexicon);
+        let (even, odd, tables) = tables_at_once(rt, alloc, &lexicon);
+        let by_word = EntryTable::of(even?, odd?);
         Ok(IndexedLexicon {
             lexicon,
-            by_word: by_word?,
+            by_word,
             tables: tables?,
         })
     }

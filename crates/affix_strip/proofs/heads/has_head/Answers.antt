@@ -1,11 +1,11 @@
 -- No front is one of the heads.
 use Rattle.std.proofs.Common.{◌≡◌, ◌∙◌, ◌+◌, ◌-◌, ap, sym, take, drop, arith}
 use Rattle.key_filter.specs.Filter.{may_have}
-use Rattle.affix_strip.specs.declared.hashed.TheConstants.{START}
-use Rattle.affix_strip.specs.Hashes.{hash_of}
+use Rattle.entry_table.specs.declared.hashed.TheConstants.{START}
+use Rattle.entry_table.specs.Hashes.{hash_of}
 use Rattle.affix_strip.proofs.EdgeLemmas.{hash-more}
 use Rattle.affix_strip.proofs.HeadLemmas.{none-first, one-head-more}
-use Rattle.affix_strip.proofs.EntryLemmas.{folded-none}
+use Rattle.entry_table.specs.HashLaws.{folded-none}
 use Rattle.affix_strip.proofs.heads.has_head.Goals as goal
 
 pub loop-count-init : goal.loop-count-init

@@ -1,6 +1,6 @@
 -- So far no front with as many characters is one of the heads.
 use Rattle.std.proofs.Common.{◌≡◌, take}
-use Rattle.affix_strip.specs.Hashes.{hash_of}
+use Rattle.entry_table.specs.Hashes.{hash_of}
 use Rattle.affix_strip.specs.Heads.{NoneHeads}
 use Rattle.affix_strip.proofs.heads.has_head.Given as goal
 

@@ -1,11 +1,11 @@
 -- No front has the hash of what a rule adds.
 use Rattle.std.proofs.Common.{◌≡◌, ◌∙◌, ◌+◌, ◌-◌, ap, sym, take, drop, arith}
 use Rattle.key_filter.specs.Filter.{may_have}
-use Rattle.affix_strip.specs.declared.hashed.TheConstants.{START}
-use Rattle.affix_strip.specs.Hashes.{hash_of}
+use Rattle.entry_table.specs.declared.hashed.TheConstants.{START}
+use Rattle.entry_table.specs.Hashes.{hash_of}
 use Rattle.affix_strip.proofs.EdgeLemmas.{hash-more}
 use Rattle.affix_strip.proofs.HeadLemmas.{no-fronts, one-front-noted, fronts-silent}
-use Rattle.affix_strip.proofs.EntryLemmas.{folded-none}
+use Rattle.entry_table.specs.HashLaws.{folded-none}
 use Rattle.affix_strip.proofs.edges.Edge.may_begin.Goals as goal
 
 pub loop-count-init : goal.loop-count-init

@@ -1,6 +1,6 @@
 -- So far no front with as many characters has the hash of what a rule adds.
 use Rattle.std.proofs.Common.{◌≡◌, take}
-use Rattle.affix_strip.specs.Hashes.{hash_of}
+use Rattle.entry_table.specs.Hashes.{hash_of}
 use Rattle.affix_strip.proofs.HeadLemmas.{NoneFronts}
 use Rattle.affix_strip.proofs.edges.Edge.may_begin.Given as goal
 

@@ -1,10 +1,10 @@
 -- It is told of the place behind one character more.
 use Rattle.std.proofs.Common.{◌≡◌, ◌∙◌, ◌+◌, ◌-◌, ap, sym, take, drop, arith}
-use Rattle.affix_strip.specs.declared.hashed.TheConstants.{START}
+use Rattle.entry_table.specs.declared.hashed.TheConstants.{START}
 use Rattle.affix_strip.specs.Edges.{adds}
-use Rattle.affix_strip.specs.Hashes.{hash_of}
+use Rattle.entry_table.specs.Hashes.{hash_of}
 use Rattle.affix_strip.proofs.EdgeLemmas.{hash-more}
-use Rattle.affix_strip.proofs.EntryLemmas.{folded-none}
+use Rattle.entry_table.specs.HashLaws.{folded-none}
 use Rattle.affix_strip.proofs.ReachingLemmas.{added-none, added-more, added-all}
 use Rattle.affix_strip.proofs.edges.Edge.reach_added.Goals as goal
 

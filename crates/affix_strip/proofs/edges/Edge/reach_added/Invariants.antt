@@ -1,6 +1,6 @@
 -- So far it is told of the places behind as many characters.
 use Rattle.std.proofs.Common.{◌≡◌, take}
-use Rattle.affix_strip.specs.Hashes.{hash_of}
+use Rattle.entry_table.specs.Hashes.{hash_of}
 use Rattle.affix_strip.proofs.ReachingLemmas.{ReachesAddedTo}
 use Rattle.affix_strip.proofs.edges.Edge.reach_added.Given as goal
 

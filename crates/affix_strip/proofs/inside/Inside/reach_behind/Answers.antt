@@ -1,10 +1,10 @@
 -- It is told of the words behind one character more, or of all places.
 use Rattle.std.proofs.Common.{◌≡◌, ◌∙◌, ◌+◌, ◌-◌, ap, sym, take, drop, arith}
 use Rattle.spell_types.specs.lists.Laws.{take-rest}
-use Rattle.affix_strip.specs.declared.hashed.TheConstants.{START}
-use Rattle.affix_strip.specs.Hashes.{hash_of}
+use Rattle.entry_table.specs.declared.hashed.TheConstants.{START}
+use Rattle.entry_table.specs.Hashes.{hash_of}
 use Rattle.affix_strip.proofs.EdgeLemmas.{hash-more}
-use Rattle.affix_strip.proofs.EntryLemmas.{folded-none}
+use Rattle.entry_table.specs.HashLaws.{folded-none}
 use Rattle.affix_strip.proofs.ReachingLemmas.{behind-none, behind-more, behind-all, behind-each}
 use Rattle.affix_strip.proofs.inside.Inside.reach_behind.Goals as goal
 

@@ -1,6 +1,6 @@
 -- So far it is told of the words behind as many characters.
 use Rattle.std.proofs.Common.{◌≡◌, take}
-use Rattle.affix_strip.specs.Hashes.{hash_of}
+use Rattle.entry_table.specs.Hashes.{hash_of}
 use Rattle.affix_strip.proofs.ReachingLemmas.{ReachesBehindTo}
 use Rattle.affix_strip.proofs.inside.Inside.reach_behind.Given as goal
 

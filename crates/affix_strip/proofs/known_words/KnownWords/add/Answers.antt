@@ -2,9 +2,9 @@
 use Rattle.std.proofs.Common.{rules, ◌≡◌, sym, subst, [], chars, IsUtf8}
 use Rattle.std.specs.Str.Iter.{chars_rest}
 use Rattle.std.proofs.lemmas.Str.{IsUtf8-past_char, chars_past_char}
-use Rattle.affix_strip.specs.declared.hashed.TheConstants.{START}
+use Rattle.entry_table.specs.declared.hashed.TheConstants.{START}
 use Rattle.affix_strip.proofs.KnownLemmas.{IsAddedTo, added-first, added-one, added-all}
-use Rattle.affix_strip.proofs.TurnLemmas.{chars-empty}
+use Rattle.entry_table.specs.TextLaws.{chars-empty}
 use Rattle.affix_strip.proofs.known_words.KnownWords.add.Goals as goal
 
 pub loop-c-preserved : goal.loop-c-preserved

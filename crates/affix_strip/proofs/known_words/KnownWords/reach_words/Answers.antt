@@ -2,10 +2,10 @@
 use Rattle.std.proofs.Common.{◌≡◌, ◌∙◌, ◌+◌, ◌-◌, ap, sym, ℕ, take, drop, List, arith}
 use Rattle.spell_types.specs.lists.Laws.{take-rest}
 use Rattle.key_filter.specs.Filter.{may_have}
-use Rattle.affix_strip.specs.declared.hashed.TheConstants.{START}
-use Rattle.affix_strip.specs.Hashes.{folded, hash_of}
+use Rattle.entry_table.specs.declared.hashed.TheConstants.{START}
+use Rattle.entry_table.specs.Hashes.{folded, hash_of}
 use Rattle.affix_strip.proofs.EdgeLemmas.{hash-more}
-use Rattle.affix_strip.proofs.EntryLemmas.{folded-none}
+use Rattle.entry_table.specs.HashLaws.{folded-none}
 use Rattle.affix_strip.proofs.ReachingLemmas.{words-none, words-more, words-end, words-all}
 use Rattle.affix_strip.proofs.known_words.KnownWords.reach_words.Goals as goal
 

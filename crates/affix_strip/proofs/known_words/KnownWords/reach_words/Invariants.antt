@@ -1,6 +1,6 @@
 -- So far it is told of the words of which fewer characters are kept.
 use Rattle.std.proofs.Common.{◌≡◌, take}
-use Rattle.affix_strip.specs.Hashes.{hash_of}
+use Rattle.entry_table.specs.Hashes.{hash_of}
 use Rattle.affix_strip.proofs.ReachingLemmas.{ReachesWordsBelow}
 use Rattle.affix_strip.proofs.known_words.KnownWords.reach_words.Given as goal
 

@@ -1,9 +1,8 @@
 -- What the group leaves is no entry's word, or its entries are looked at.
 use Rattle.std.proofs.Common.{rules, refl, subst, []}
-use Rattle.affix_strip.specs.EntryTable.{AreEntriesOf}
+use Rattle.entry_table.specs.EntryTable.{AreEntriesOf}
 use Rattle.affix_strip.proofs.ShowLemmas.{shows-none, answer-same}
-use Rattle.affix_strip.proofs.PlaceLemmas.{are-same}
-use Rattle.affix_strip.proofs.FoundLemmas.{rules-peels, no-rules}
+use Rattle.affix_strip.proofs.FoundLemmas.{are-same, rules-peels, no-rules}
 use Rattle.affix_strip.proofs.walk.IndexedLexicon.visit_first_suffix_group.Goals as goal
 
 pub returns-then-not-may_have : goal.returns-then-not-may_have

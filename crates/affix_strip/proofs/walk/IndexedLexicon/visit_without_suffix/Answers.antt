@@ -1,9 +1,8 @@
 -- The word is no entry's, or the stem is the word.
 use Rattle.std.proofs.Common.{◌∙◌, ap, None, [], ◌∷◌, ◌++◌, subst, append-nil}
-use Rattle.affix_strip.specs.EntryTable.{AreEntriesOf}
+use Rattle.entry_table.specs.EntryTable.{AreEntriesOf}
 use Rattle.affix_strip.proofs.ShowLemmas.{shows-none, answer-same}
-use Rattle.affix_strip.proofs.PlaceLemmas.{are-same}
-use Rattle.affix_strip.proofs.FoundLemmas.{from-all, no-bare}
+use Rattle.affix_strip.proofs.FoundLemmas.{are-same, from-all, no-bare}
 use Rattle.affix_strip.proofs.walk.IndexedLexicon.visit_without_suffix.Goals as goal
 
 pub returns-then-not-may_have : goal.returns-then-not-may_have

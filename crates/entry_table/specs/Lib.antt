@@ -1,0 +1,4 @@
+pub mod EntryTable
+pub mod HashLaws
+pub mod Hashes
+pub mod TextLaws
