@@ -112,7 +112,15 @@ enum {
     AFFEDIT_NOT_UTF8 = 7,   /* the bytes are not UTF-8 */
     AFFEDIT_TOO_LONG = 8,   /* the text has 4,294,967,296 bytes or more */
     AFFEDIT_CLOSED = 9,     /* the handle is closed */
-    AFFEDIT_NO_MEMORY = 10  /* memory could not be had */
+    AFFEDIT_NO_MEMORY = 10, /* memory could not be had */
+    AFFEDIT_BAD_UNIT = 11   /* no unit of places has this number */
+};
+
+/* In what affedit_marks_in counts places. */
+enum {
+    AFFEDIT_BYTES = 0,     /* bytes of UTF-8 */
+    AFFEDIT_UTF16 = 1,     /* units of UTF-16: two for a character from U+10000 on, else one */
+    AFFEDIT_CHARACTERS = 2 /* characters, as Unicode numbers them */
 };
 
 /* Which file a fault is in. */
@@ -166,7 +174,7 @@ enum {
 };
 
 /* Where a word stands that the dictionary does not generate: its first byte and the byte past its
- * end, from 0. */
+ * end, from 0; or its first unit and the unit past its end, where the caller asks for other units. */
 typedef struct affedit_mark {
     uint32_t from;
     uint32_t to;
@@ -241,6 +249,24 @@ uint32_t affedit_word(affedit_dictionary *dictionary, const uint8_t *word, size_
  */
 uint32_t affedit_marks(affedit_dictionary *dictionary, const uint8_t *text, size_t length,
                        affedit_mark *marks, size_t room, size_t *count);
+
+/*
+ * The marks of a text from the one with the number `first` on, counted from 0, with places in `unit`:
+ * AFFEDIT_BYTES, AFFEDIT_UTF16 or AFFEDIT_CHARACTERS. As many as `marks` has room for are written to
+ * its front, and nothing behind them. So an array that is too small is filled again from a later
+ * mark on; each call cuts and checks the whole text.
+ *
+ *  - AFFEDIT_DONE: `count` is how many marks the text has in all, also those before `first`.
+ *  - AFFEDIT_BAD_UNIT: `unit` is none of the three.
+ *  - AFFEDIT_NOT_UTF8: the text is not UTF-8.
+ *  - AFFEDIT_TOO_LONG: the text has 4,294,967,296 bytes or more.
+ *  - AFFEDIT_CLOSED: the handle is closed.
+ *  - AFFEDIT_NO_MEMORY.
+ *
+ * Where it is not done `marks` and `count` stay as they were.
+ */
+uint32_t affedit_marks_in(affedit_dictionary *dictionary, const uint8_t *text, size_t length,
+                          uint32_t unit, size_t first, affedit_mark *marks, size_t room, size_t *count);
 
 /*
  * The characters of WORDCHARS, an option of the .aff file: those that stand in words beside letters

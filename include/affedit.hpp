@@ -82,13 +82,13 @@ public:
         return answer == AFFEDIT_KNOWN;
     }
 
-    /* The marks of a text, in their order. */
-    std::vector<affedit_mark> marks(std::string_view text) {
+    /* The marks of a text, in their order, with places in AFFEDIT_BYTES, AFFEDIT_UTF16 or AFFEDIT_CHARACTERS. */
+    std::vector<affedit_mark> marks(std::string_view text, std::uint32_t unit = AFFEDIT_BYTES) {
         std::vector<affedit_mark> found;
         std::size_t count = 64;
         do {
             found.resize(count);
-            need(affedit_marks(&handle_, bytes(text), text.size(), found.data(), found.size(), &count));
+            need(affedit_marks_in(&handle_, bytes(text), text.size(), unit, 0, found.data(), found.size(), &count));
         } while (count > found.size());
         found.resize(count);
         return found;
@@ -125,12 +125,13 @@ private:
         case AFFEDIT_NOT_UTF8: throw error(answer, "the bytes are not UTF-8");
         case AFFEDIT_TOO_LONG: throw error(answer, "the text is too long");
         case AFFEDIT_CLOSED: throw error(answer, "the dictionary is closed");
+        case AFFEDIT_BAD_UNIT: throw error(answer, "no unit of places has this number");
         default: throw std::bad_alloc();
         }
     }
 };
 
-/* The word of a text that a mark is of. */
+/* The word of a text that a mark is of, by places in bytes. */
 inline std::string_view word_at(std::string_view text, affedit_mark mark) { return text.substr(mark.from, mark.to - mark.from); }
 
 }

@@ -2,7 +2,7 @@
 # Whether a program in C is answered as it has to be by the library for C that tests/program finds: 102,000 words of three made languages, of which is known
 # which are generated; the marks of the same words, with a personal list, beside those of `check`; each cause of a fault; bytes of all kinds as words,
 # texts and files; handles; 8 threads with a handle each; and each allocation refused in turn. Then what affedit.h says of words, texts, memory and the
-# stack (tests/c/meaning.c, tests/c/limits.c), and of what stays from version to version (tests/c/layout.c). The program is built with the sanitizers of addresses and
+# stack (tests/c/meaning.c, tests/c/limits.c), marks with places in other units (tests/c/units.c), and of what stays from version to version (tests/c/layout.c). The program is built with the sanitizers of addresses and
 # of undefined behaviour, and run once more by valgrind, if they are installed. Prints what differs, and what was skipped; the status is 0 if nothing
 # differs.
 set -euo pipefail
@@ -130,6 +130,8 @@ sys.exit(f'without a number: {sentences}' if sentences else 0)
 PYTHON
 ./causes > got || { echo "the sentences: status $?"; failed=1; }
 same 'the sentences for causes' wanted got
+cc -std=c11 -g -Wall -Wextra -Wpedantic -Werror -I"$top/include" "$top/tests/c/units.c" "$library" -o units
+runs 'places in other units' ./units
 cc -std=c11 -g -Wall -Wextra -Wpedantic -Werror -I"$top/include" "$top/tests/c/meaning.c" "$library" -o meaning
 runs 'what words and texts mean' ./meaning
 cc -std=c11 -D_GNU_SOURCE -O1 -g -Wall -Wextra -Werror -I"$top/include" "$top/tests/c/limits.c" "$library" \

@@ -38,6 +38,11 @@ CONSTANT(AFFEDIT_NOT_UTF8, 7);
 CONSTANT(AFFEDIT_TOO_LONG, 8);
 CONSTANT(AFFEDIT_CLOSED, 9);
 CONSTANT(AFFEDIT_NO_MEMORY, 10);
+CONSTANT(AFFEDIT_BAD_UNIT, 11);
+
+CONSTANT(AFFEDIT_BYTES, 0);
+CONSTANT(AFFEDIT_UTF16, 1);
+CONSTANT(AFFEDIT_CHARACTERS, 2);
 
 CONSTANT(AFFEDIT_AFF_FILE, 1);
 CONSTANT(AFFEDIT_DIC_FILE, 2);
@@ -79,6 +84,8 @@ FUNCTION(affedit_close, void (*)(affedit_dictionary *));
 FUNCTION(affedit_share, uint32_t (*)(affedit_dictionary *, affedit_dictionary *));
 FUNCTION(affedit_word, uint32_t (*)(affedit_dictionary *, const uint8_t *, size_t));
 FUNCTION(affedit_marks, uint32_t (*)(affedit_dictionary *, const uint8_t *, size_t, affedit_mark *, size_t, size_t *));
+FUNCTION(affedit_marks_in,
+         uint32_t (*)(affedit_dictionary *, const uint8_t *, size_t, uint32_t, size_t, affedit_mark *, size_t, size_t *));
 FUNCTION(affedit_word_characters, uint32_t (*)(affedit_dictionary *, uint32_t *, size_t, size_t *));
 FUNCTION(affedit_add, uint32_t (*)(affedit_dictionary *, const uint8_t *, size_t));
 FUNCTION(affedit_list, uint32_t (*)(affedit_dictionary *, const uint8_t *, size_t, affedit_fault *));

@@ -1,6 +1,6 @@
 -- What calls answer, each as a number.
-use Rattle.std.specs.Prelude.{◌≡◌, ℕ, ◌<◌, ◌≤◌, ◌^◌, true, false, List, [], ◌∷◌, ◌++◌, length, map}
-use Rattle.std.specs.Prelude.{Option, Some, None, Result, Ok, Err, IsUtf8, chars}
+use Rattle.std.specs.Prelude.{◌≡◌, ℕ, ◌<◌, ◌≤◌, ◌^◌, true, false, List, [], ◌∷◌, ◌++◌, length, map, drop}
+use Rattle.std.specs.Prelude.{Option, Some, None, IsSome, Result, Ok, Err, IsUtf8, chars}
 use Rattle.mark_types.specs.declared.Mark.{Mark}
 use Rattle.mark_types.specs.spell_types.Yields.{yields}
 use Rattle.mark_types.specs.spell_types.declared.Affixes.{Affixes}
@@ -10,11 +10,12 @@ use Rattle.personal_words.specs.declared.faults.OwnLineWhy.TheVariants as line
 use Rattle.personal_words.specs.declared.items.OwnItem.{OwnItem}
 use Rattle.affedit_c.specs.Dictionaries.{HandleSeen, handle_lexicon}
 use Rattle.affedit_c.specs.Fronts.{array_with}
-use Rattle.affedit_c.specs.Marks.{span_of_mark}
+use Rattle.positions.specs.declared.Encoding.{Encoding}
+use Rattle.affedit_c.specs.Marks.{encoding_of, span_in, span_of_mark}
 use Rattle.affedit_c.specs.declared.answers.Answer.{Answer}
 use Rattle.affedit_c.specs.declared.answers.Answer.TheVariants.{Done, Known, Unknown, Faulty}
 use Rattle.affedit_c.specs.declared.answers.Answer.TheVariants.{Blank, EmptyWord, TooMany}
-use Rattle.affedit_c.specs.declared.answers.Answer.TheVariants.{NotUtf8, TooLong, Closed, NoMemory}
+use Rattle.affedit_c.specs.declared.answers.Answer.TheVariants.{NotUtf8, TooLong, Closed, NoMemory, BadUnit}
 use Rattle.affedit_c.specs.declared.faults.Fault.{Fault}
 use Rattle.affedit_c.specs.declared.faults.Refusal.{Refusal}
 use Rattle.affedit_c.specs.declared.faults.Refusal.TheVariants.{Refused}
@@ -33,6 +34,7 @@ answer_number NotUtf8 = 7
 answer_number TooLong = 8
 answer_number Closed = 9
 answer_number NoMemory = 10
+answer_number BadUnit = 11
 
 -- the number is that of an answer that is right
 abbrev pub SaysAnswer : (Answer → Type 0) → ℕ → Type 0
@@ -89,6 +91,37 @@ MarkAnswers (Some seen) text old new before then TooLong =
 MarkAnswers (Some seen) text old new before then NoMemory = (new ≡ old) × (then ≡ before)
 MarkAnswers None text old new before then Closed = (new ≡ old) × (then ≡ before)
 MarkAnswers _ _ _ _ _ _ _ = ⊥
+
+-- ---- the marks of a text are asked from one on, with places in these units: what the array has
+-- before and then, and the count
+
+-- the array begins with the marks of the text from this one on, as many as it has room for, and all
+-- are counted
+abbrev pub AreMarksIn : Encoding → List ℕ → ℕ → List Mark → List MarkSpan → List MarkSpan → ℕ
+    → Type 0
+AreMarksIn encoding text first marks old new count =
+    (new ≡ array_with (map (span_in encoding text) (drop first marks)) old)
+    × (count ≡ length marks)
+
+unfoldable pub MarkInAnswers : Option HandleSeen → List ℕ → ℕ → ℕ → List MarkSpan → List MarkSpan
+    → ℕ → ℕ
+    → Answer
+    → Type 0
+MarkInAnswers (Some seen) text unit first old new before then Done =
+    IsUtf8 text × (length text < 2 ^ 32) × ((encoding : Encoding)
+    × (encoding_of unit ≡ Some encoding) × AreMarksIn encoding (chars text) first
+    (marks_in (handle_lexicon seen) (chars text)) old new then)
+MarkInAnswers (Some seen) text unit first old new before then BadUnit =
+    (encoding_of unit ≡ None) × (new ≡ old) × (then ≡ before)
+MarkInAnswers (Some seen) text unit first old new before then NotUtf8 =
+    ¬ (IsUtf8 text) × (length text < 2 ^ 32) × (IsSome (encoding_of unit)) × (new ≡ old)
+    × (then ≡ before)
+MarkInAnswers (Some seen) text unit first old new before then TooLong =
+    (2 ^ 32 ≤ length text) × (IsSome (encoding_of unit)) × (new ≡ old) × (then ≡ before)
+MarkInAnswers (Some seen) text unit first old new before then NoMemory =
+    (new ≡ old) × (then ≡ before)
+MarkInAnswers None text unit first old new before then Closed = (new ≡ old) × (then ≡ before)
+MarkInAnswers _ _ _ _ _ _ _ _ _ = ⊥
 
 -- ---- the characters of WORDCHARS are asked: what the array has before and then, and the count
 

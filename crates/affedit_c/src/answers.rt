@@ -28,6 +28,8 @@ pub enum Answer {
     Closed,
     /// Memory for the answer could not be had.
     NoMemory,
+    /// No unit of places has this number.
+    BadUnit,
 }
 
 impl Answer {
@@ -48,6 +50,7 @@ impl Answer {
             Answer::TooLong => 8,
             Answer::Closed => 9,
             Answer::NoMemory => 10,
+            Answer::BadUnit => 11,
         }
     }
 }

@@ -1,19 +1,22 @@
 //! What each call does, before its answer is made a number.
 
-ghost use Rattle.std.specs.Prelude.{◌≡◌, ◌<◌, ◌^◌, length, Option, Some, None, Ok, IfOk, IfErr};
+ghost use Rattle.std.specs.Prelude.{◌≡◌, ◌<◌, ◌^◌, ℕ, length, Option, Some, None, Ok, IfOk, IfErr};
 ghost use Rattle.mark_types.specs.lists.Answers.{GivesDue};
+ghost use Rattle.affedit_c.specs.Marks.{encoding_of};
 ghost use Rattle.affedit_c.specs.Faults.{MayComeOfCalls, dictionary_read, list_read};
 ghost use Rattle.affedit_c.specs.Answers.{OpenAnswers, ShareAnswers, WordAnswers, MarkAnswers};
+ghost use Rattle.affedit_c.specs.Answers.{MarkInAnswers};
 ghost use Rattle.affedit_c.specs.Answers.{CharacterAnswers, AddAnswers, ListAnswers};
 
 use crate::answers::Answer;
 use crate::faults::{Fault, Refusal};
-use crate::fronts::write_front;
+use crate::fronts::{AsTheyAre, write_front};
 use crate::handle::Dictionary;
 use crate::kept::KeptDictionary;
-use crate::marking::MarkSpan;
+use crate::marking::{MarkSpan, encoding_of};
 use crate::reading::read_lexicon;
 use personal_words::{OwnLineFault, OwnLineWhy};
+use positions::{Encoding, OffsetWalk};
 use std::alloc::Global;
 
 /// How many bytes a text may have.
@@ -146,8 +149,67 @@ fn mark_kept(
     let Ok(found) = kept.marks(alloc, text) else {
         return Answer::NoMemory;
     };
-    write_front(&found, marks);
+    write_front(&found, &mut AsTheyAre, marks);
     *count = found.len();
+    Answer::Done
+}
+
+/// Gives the marks of a text from one on, with places in units of a kind.
+#[tactic(auto, unfolding(crate::specs::Answers::MarkInAnswers))]
+pub fn mark_in(
+    alloc: Global,
+    dictionary: &mut Dictionary,
+    text: &[u8],
+    unit: u32,
+    first: usize,
+    marks: &mut [MarkSpan],
+    count: &mut usize,
+) -> Answer
+    ensures answer { MarkInAnswers dictionary.old.held.value text.now unit first marks.old marks.new
+        count.old count.new result }
+    ensures same { dictionary.new.held.value ≡ dictionary.old.held.value }
+{
+    let Some(mut kept) = dictionary.take(alloc) else {
+        return Answer::Closed;
+    };
+    let answer = match encoding_of(unit) {
+        Some(encoding) => mark_kept_in(alloc, &mut kept, text, encoding, first, marks, count),
+        None => Answer::BadUnit,
+    };
+    *dictionary = Dictionary::of(kept);
+    answer
+}
+
+#[tactic(auto, unfolding(crate::specs::Answers::MarkInAnswers))]
+fn mark_kept_in(
+    alloc: Global,
+    kept: &mut KeptDictionary,
+    text: &[u8],
+    encoding: Encoding,
+    first: usize,
+    marks: &mut [MarkSpan],
+    count: &mut usize,
+) -> Answer
+    ensures answer { (unit : ℕ) → encoding_of unit ≡ Some encoding → MarkInAnswers (Some kept.old)
+        text.now unit first marks.old marks.new count.old count.new result }
+    ensures same { kept.new ≡ kept.old }
+{
+    if text.len() > MOST_TEXT {
+        return Answer::TooLong;
+    }
+    let Ok(text) = str::from_utf8(text) else {
+        return Answer::NotUtf8;
+    };
+    let Ok(found) = kept.marks(alloc, text) else {
+        return Answer::NoMemory;
+    };
+    let all = found.len();
+    write_front(
+        &found[first.min(all)..],
+        &mut OffsetWalk::new(encoding, text),
+        marks,
+    );
+    *count = all;
     Answer::Done
 }
 
@@ -167,7 +229,7 @@ pub fn list_characters(
         return Answer::Closed;
     };
     let listed = kept.word_characters();
-    write_front(listed, characters);
+    write_front(listed, &mut AsTheyAre, characters);
     *count = listed.len();
     *dictionary = Dictionary::of(kept);
     Answer::Done

@@ -3,40 +3,45 @@
 ghost use Rattle.std.specs.Prelude.{◌≡◌, map};
 ghost use Rattle.affedit_c.specs.Fronts.{array_with};
 
-/// What C is told as a value of another type.
-pub trait ToC<C> {
-    /// The value that it is told as.
-    ghost told: { Self → C };
+/// Tells C of items, each as a value of another type.
+pub trait Telling<T, C> {
+    /// The value that an item is told as.
+    ghost told: { Self → T → C };
 
-    /// The value that it is told as.
-    fn to_c(&self) -> C
-        ensures { result ≡ told self.now };
+    /// The value that an item is told as.
+    fn tell(&mut self, item: &T) -> C
+        ensures told { result ≡ told self.old item.now }
+        ensures same { self.new ≡ self.old };
 }
 
-/// A character is told by its number in Unicode.
-impl ToC<u32> for char {
-    ghost told = { λ character. character };
+/// Tells of items as they are: characters by their numbers in Unicode, bytes, and marks by their
+/// bytes.
+#[derive(Drop)]
+pub struct AsTheyAre;
 
-    fn to_c(&self) -> u32 {
-        *self as u32
+impl Telling<char, u32> for AsTheyAre {
+    ghost told = { λ telling character. character };
+
+    fn tell(&mut self, item: &char) -> u32 {
+        *item as u32
     }
 }
 
-impl ToC<u8> for u8 {
-    ghost told = { λ byte. byte };
+impl Telling<u8, u8> for AsTheyAre {
+    ghost told = { λ telling byte. byte };
 
-    fn to_c(&self) -> u8 {
-        *self
+    fn tell(&mut self, item: &u8) -> u8 {
+        *item
     }
 }
 
 /// Puts items at the front of an array, as many as it has room for.
-pub fn write_front<T: ToC<C>, C: Copy>(items: &[T], array: &mut [C])
-    ensures { array.new ≡ array_with (map T.told items.now) array.old }
+pub fn write_front<T, C: Copy, W: Telling<T, C>>(items: &[T], telling: &mut W, array: &mut [C])
+    ensures { array.new ≡ array_with (map (W.told telling.old) items.now) array.old }
 {
     let mut place = 0;
     while place < items.len() && place < array.len() {
-        array[place] = items[place].to_c();
+        array[place] = telling.tell(&items[place]);
         place += 1;
     }
 }

@@ -5,7 +5,8 @@
 
 ghost use Rattle.std.specs.Prelude.{◌≡◌, length, None};
 ghost use Rattle.affedit_c.specs.Answers.{SaysAnswer, OpenAnswers, ShareAnswers, WordAnswers};
-ghost use Rattle.affedit_c.specs.Answers.{MarkAnswers, CharacterAnswers, AddAnswers, ListAnswers};
+ghost use Rattle.affedit_c.specs.Answers.{MarkAnswers, MarkInAnswers, CharacterAnswers};
+ghost use Rattle.affedit_c.specs.Answers.{AddAnswers, ListAnswers};
 ghost use Rattle.affedit_c.specs.Causes.{sentence_of};
 ghost use Rattle.affedit_c.specs.Faults.{dictionary_read, list_read};
 ghost use Rattle.affedit_c.specs.Fronts.{array_with};
@@ -26,7 +27,7 @@ mod remembering;
 
 use causes::sentence_of;
 use faults::Fault;
-use fronts::write_front;
+use fronts::{AsTheyAre, write_front};
 use handle::Dictionary;
 use marking::MarkSpan;
 use std::alloc::Global;
@@ -106,6 +107,26 @@ pub extern "C" fn affedit_marks(
     calls::mark(alloc, dictionary, text, marks, count).number()
 }
 
+/// Gives the marks of a text from the one with a number on, with places in units of a kind: bytes (0),
+/// units of UTF-16 (1) or characters (2). It gives as many as there is room for, and how many there
+/// are in all.
+#[unsafe(no_mangle)]
+pub extern "C" fn affedit_marks_in(
+    alloc: Global,
+    dictionary: &mut Dictionary,
+    text: &[u8],
+    unit: u32,
+    first: usize,
+    marks: &mut [MarkSpan],
+    count: &mut usize,
+) -> u32
+    ensures answer { SaysAnswer (MarkInAnswers dictionary.old.held.value text.now unit first marks.old
+        marks.new count.old count.new) result }
+    ensures same { dictionary.new.held.value ≡ dictionary.old.held.value }
+{
+    calls::mark_in(alloc, dictionary, text, unit, first, marks, count).number()
+}
+
 /// Gives the characters of WORDCHARS of the dictionary, as many as there is room for, and how many
 /// there are in all.
 #[unsafe(no_mangle)]
@@ -155,6 +176,6 @@ pub extern "C" fn affedit_cause(fault: &Fault, sentence: &mut [u8]) -> usize
     ensures count { result ≡ length (sentence_of fault.now.file fault.now.cause) }
 {
     let found = sentence_of(fault.file, fault.cause);
-    write_front(found.as_bytes(), sentence);
+    write_front(found.as_bytes(), &mut AsTheyAre, sentence);
     found.len()
 }

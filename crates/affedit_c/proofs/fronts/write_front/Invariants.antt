@@ -7,7 +7,8 @@ abbrev pub invariant-loop-place : goal.invariant-loop-place
 invariant-loop-place g l = record {
   left : l.place ≤ length l.items;
   room : l.place ≤ length l.fn.array;
-  array : l.array ≡ begun l.place (map g.T.ToC.told l.items) l.fn.array;
+  telling : l.telling ≡ l.fn.telling;
+  array : l.array ≡ begun l.place (map (g.W.Telling.told l.fn.telling) l.items) l.fn.array;
 }
 
 abbrev pub decreases-loop-place : goal.decreases-loop-place
