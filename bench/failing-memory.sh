@@ -134,7 +134,7 @@ AFF
 printf '1\nwork/S\n' > "$work/refused/a.dic"
 printf 'works' > "$work/refused/text"
 
-# Two dialogues that are rows of tests in crates/whole_runs too, with the files that they name.
+# Two dialogues that are rows of tests in crates/affedit too, with the files that they name.
 cat > "$work/edits/a.aff" <<'AFF'
 SET UTF-8
 TRY esianrtolc

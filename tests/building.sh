@@ -221,6 +221,10 @@ rm -r "$here/crates/low/specs"
 expect 'sources as they were' 0 '' dist --check
 echo more >> "$here/crates/other/src/lib.rt"
 expect 'a change of another crate' 0 '' dist --sources
+mkdir "$here/crates/low/src/tests"
+echo more | tee "$here/crates/low/src/tests.rt" > "$here/crates/low/src/tests/more.rt"
+expect 'tests beside a crate' 0 '' dist --sources
+rm -r "$here/crates/low/src/tests" "$here/crates/low/src/tests.rt"
 # What the gate has left in crates/affedit/out is what is compared.
 PATH=$with_kit "$here/affedit" word > /dev/null 2>&1 || true
 mkdir -p "$here/crates/affedit/out"

@@ -26,11 +26,11 @@ crates_of() {
 }
 
 # digest_of_sources: the sha256 of what `sha256sum` prints for crates.txt and each file in src/, specs/ and proofs/ of the crates of
-# `kept_builds` and those below, sorted by the bytes of their names.
+# `kept_builds` and those below, but for src/tests.rt and src/tests/, sorted by the bytes of their names.
 digest_of_sources() (
     cd "$top" || exit
     mapfile -t folders < <(crates_of "${kept_builds[@]}" | sed 's|.*|crates/&/src\ncrates/&/specs\ncrates/&/proofs|')
-    { echo crates.txt; find "${folders[@]}" -type f 2> /dev/null || true; } | LC_ALL=C sort | tr '\n' '\0' | xargs -0 sha256sum |
+    { echo crates.txt; find "${folders[@]}" -type f ! -path '*/src/tests.rt' ! -path '*/src/tests/*' 2> /dev/null || true; } | LC_ALL=C sort | tr '\n' '\0' | xargs -0 sha256sum |
         sha256sum | cut -d ' ' -f 1
 )
 

@@ -2,6 +2,9 @@
 //! unknown.
 #![tactic(auto)]
 
+#[cfg(test)]
+mod tests;
+
 use command_line::{put_wanting, run};
 use outside::{FreeGate, RealFiles, StdSink, StdSource};
 use std::env::{self, Env};

@@ -1,6 +1,6 @@
 //! A run in which an allocation fails.
 
-use crate::runner::{files_of, words_of};
+use crate::tests::runner::{files_of, words_of};
 use command_line::run;
 use outside::{Failed, FreeGate, Sink};
 use outside_doubles::{MemFiles, SureSource};

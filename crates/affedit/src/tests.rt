@@ -1,13 +1,14 @@
-//! The tests: the rows of each topic, and beside them what no row can say.
+//! Tests of whole runs over objects in memory: the rows of each topic, and beside them what no row can say.
 
 mod at_once;
 mod early_ends;
 mod made_inputs;
 mod memory;
+mod rows;
+mod runner;
 mod team;
 
-use crate::rows;
-use crate::runner::run_rows;
+use runner::run_rows;
 use std::test::Fail;
 
 /// Which parts make up a compound.

@@ -1,7 +1,7 @@
 //! Dialogues that end early: an input that is cut, and reads and puts that fail, at each place.
 
-use crate::rows::early_ends::ROWS;
-use crate::runner::{input_of, seen_of};
+use crate::tests::rows::early_ends::ROWS;
+use crate::tests::runner::{input_of, seen_of};
 use std::alloc::{AllocError, Global};
 use std::process::Abort;
 use std::sync::Wait;

@@ -1,6 +1,6 @@
 //! Runs over inputs that no row writes down, and the check that has no input.
 
-use crate::runner::{files_of, seen_of, words_of};
+use crate::tests::runner::{files_of, seen_of, words_of};
 use command_line::run_check;
 use outside_doubles::MemSink;
 use std::alloc::{AllocError, Global};

@@ -1,6 +1,6 @@
 //! Workers that check at once, beside a console and beside sessions.
 
-use crate::runner::{files_of, words_of};
+use crate::tests::runner::{files_of, words_of};
 use command_line::run;
 use outside::{Failed, Gate, Source};
 use outside_doubles::{MemSink, MemSource, SureSource};

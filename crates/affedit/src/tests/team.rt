@@ -1,6 +1,6 @@
 //! Sessions that are there at once.
 
-use crate::runner::{files_of, words_of};
+use crate::tests::runner::{files_of, words_of};
 use command_line::run;
 use outside::Gate;
 use outside_doubles::{MemSink, SureSource};
