@@ -71,6 +71,15 @@ launch() { PATH=$with_kit "$here/affedit" "$@"; }
 alone() { PATH=$without_kit "$here/affedit" "$@"; }
 no_build() { AFFEDIT_NO_BUILD=1 launch "$@"; }
 dist() { PATH=$with_kit "$here/tools/dist" "$@"; }
+# copied: what stands in a copy of the crate `low` to build of, and in its module of tests.
+copied() (
+    local top=$here
+    # shellcheck source=tools/launcher/proving.bash
+    . "$here/tools/launcher/proving.bash"
+    rm -rf "$work/copied"
+    copy_crate "$work/copied" low
+    (cd "$work/copied/crates/low/src" && find . -type f | LC_ALL=C sort | tr '\n' ' ' && cat tests.rt)
+)
 builds() { [ "$(wc -l < "$COUNT")" = "$1" ] || { echo "$2: $(wc -l < "$COUNT") builds, wanted $1"; failed=1; }; }
 source_is() { echo "$1" > "$here/crates/affedit/src/main.rt"; }
 
@@ -224,6 +233,7 @@ expect 'a change of another crate' 0 '' dist --sources
 mkdir "$here/crates/low/src/tests"
 echo more | tee "$here/crates/low/src/tests.rt" > "$here/crates/low/src/tests/more.rt"
 expect 'tests beside a crate' 0 '' dist --sources
+expect 'a copy without tests' 0 './lib.rt ./tests.rt //! Left out.' copied
 rm -r "$here/crates/low/src/tests" "$here/crates/low/src/tests.rt"
 # What the gate has left in crates/affedit/out is what is compared.
 PATH=$with_kit "$here/affedit" word > /dev/null 2>&1 || true

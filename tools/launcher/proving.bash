@@ -8,13 +8,16 @@ make_room() {
     trap 'rm -rf "$room"' EXIT
 }
 
-# copy_crate ROOM CRATE: copies what a crate is built from, and what its program is run on.
+# copy_crate ROOM CRATE: copies what a crate is built from, and what its program is run on. Tests are left out, since nothing is built of them and
+# they take longer to prove than the program: their module is empty.
 copy_crate() {
     local part
     mkdir -p "$1/crates/$2"
     for part in src specs proofs data stdin stdout args status; do
         [ ! -e "$top/crates/$2/$part" ] || cp -R "$top/crates/$2/$part" "$1/crates/$2/"
     done
+    rm -rf "$1/crates/$2/src/tests"
+    [ ! -e "$1/crates/$2/src/tests.rt" ] || echo '//! Left out.' > "$1/crates/$2/src/tests.rt"
 }
 
 # copy_crates ROOM CRATE..: makes a repository of these crates alone. The edits that a check must refuse are left out: they try contracts,
